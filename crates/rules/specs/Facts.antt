@@ -1,0 +1,150 @@
+-- The paper's small facts, p1 to p11, and its printout: what the definitions compute beside what the paper says.
+use mathlib.Core.Bool.{Bool, true, false}
+use mathlib.Core.List.{List, [], _∷_, _++_, map}
+use mathlib.Core.Path.{_≡_, refl}
+use Prim.Native.Nat.{ℕ}
+use lib.ListN.{length, take, drop, replicate}
+use Rattle.rules.specs.Calls.{begin-rule, begun, leg-rule, LegRule, stretch, supports-of, weights-of, moved, save-rule, restore-rule, recover-rule, join-rule, Written}
+use Rattle.rules.specs.Join.{partners, partnered, rising?}
+use Rattle.rules.specs.Legs.{Stop, ended, spent, full, leg}
+use Rattle.rules.specs.Letters.{value, letter?, letter}
+use Rattle.rules.specs.Lists.{run, keep, each, joined, some?, all?, member?, sum, put}
+use Rattle.rules.specs.Motif.{number, spell}
+use Rattle.rules.specs.Occurrence.{front, stands, reach, starts, occurrences}
+use Rattle.rules.specs.Recovery.{whole-list, page}
+use Rattle.rules.specs.Refusals.{_else_, first, first-bad, check1, check2, check3, check4, check5, check6, check7, check8, check9, check10, check11, check11-place, check12, passes?, check13, check14, check15, check6-head, check8-range, check16, check17, new-checks, restore-checks, search-checks, save-checks, recover-checks, join-checks}
+use Rattle.rules.specs.Saved.{low-first, read-low, size-record, component-record, place-record, component-records, records, bytes, record-at, field, record-count, component-count, read-component, read-place, read-template, read-search, sized?, blank?, size-record?, component-record?, place-record?, component-records?, place-rule?, laid-out?}
+use Rattle.rules.specs.Sequences.{split, sequences}
+use Rattle.rules.specs.Support.{marks, support, firsts, weight, rows-from, occurrence-rows, parts, frequent}
+use Rattle.rules.specs.Template.{component, none, components, size, trimmed, cut}
+use Rattle.rules.specs.Text as text
+use Rattle.rules.specs.Told.{Told, gives, refuses, Counts, LegTold}
+use Rattle.rules.specs.Walk.{place, first-place, ended-place, exact, children, later, under, onward, from, up, next, start, motif, listed, spelled, candidate}
+use Rattle.rules.specs.declared.Place.{Place}
+use Rattle.rules.specs.declared.Search.{Search}
+use Rattle.rules.specs.declared.Template.{Template}
+
+-- a fact, as numbers: what is computed, and what the paper says
+pub record Fact : Type 0 where
+  pub computed : List ℕ
+  pub paper : List ℕ
+
+abbrev pub is : List ℕ → List ℕ → Fact
+is a b = record { computed = a; paper = b }
+
+-- E: ACGTA, CAGGT, AT
+letters : List ℕ
+letters = 65 ∷ 67 ∷ 71 ∷ 84 ∷ 65 ∷ 67 ∷ 65 ∷ 71 ∷ 71 ∷ 84 ∷ 65 ∷ 84 ∷ []
+
+lengths : List ℕ
+lengths = 5 ∷ 5 ∷ 2 ∷ []
+
+-- N[0,1]N
+pair : Template
+pair = record { count = 2; c1 = component 1 0 0; c2 = component 1 0 1; c3 = none; c4 = none; c5 = none; c6 = none }
+
+-- the motifs AA, AG and AT under it, in E or in AAA
+AA : List ℕ
+AA = 0 ∷ 0 ∷ []
+
+AG : List ℕ
+AG = 0 ∷ 2 ∷ []
+
+CG : List ℕ
+CG = 1 ∷ 2 ∷ []
+
+GT : List ℕ
+GT = 2 ∷ 3 ∷ []
+
+AT : List ℕ
+AT = 0 ∷ 3 ∷ []
+
+in-E : List ℕ → ℕ
+in-E w = support (cut (components pair) w) (sequences letters lengths)
+
+-- what a call tells, as numbers: what it gives, or its refusal's number and place
+search-told : Told Search → List ℕ
+search-told (gives s) = s .place .letters ∷ s .place .number ∷ []
+search-told (refuses n p) = n ∷ p ∷ []
+
+counts-told : Told Counts → List ℕ
+counts-told (gives c) = c .rows ∷ c .length ∷ []
+counts-told (refuses n p) = n ∷ p ∷ []
+
+number-told : Told ℕ → List ℕ
+number-told (gives n) = n ∷ []
+number-told (refuses n p) = n ∷ p ∷ []
+
+-- a search over E at a place
+at : ℕ → Place → Search
+at quorum p = record { template = pair; quorum = quorum; set = record { sequences = 3; letters = 12 }; place = p }
+
+-- a leg over E with room for 9: its steps, then its rows
+run-leg : ℕ → Search → LegRule
+run-leg budget s = leg-rule letters lengths s budget (replicate 9 0) (replicate 9 0) (replicate 9 0)
+
+whole : ℕ → List ℕ
+whole quorum = let l = run-leg 99 (at quorum first-place) in l .told .steps ∷ take (l .told .rows) (l .motifs)
+
+-- E, quorum 2, after 4 steps, as it is saved
+saved : List ℕ
+saved = let l = run-leg 4 (at 2 first-place) in (save-rule letters lengths (l .told .search) (replicate 64 9)) .out
+
+-- the same, quorum 3, at the place CA
+moved-to-CA : List ℕ
+moved-to-CA = bytes (at 3 (place 2 4))
+
+-- the input of the paper's printing program, and what it prints
+input : List ℕ
+input =
+    78 ∷ 91 ∷ 48 ∷ 44 ∷ 49 ∷ 93 ∷ 78 ∷ 10 ∷ 50 ∷ 10 ∷ 65 ∷ 67 ∷ 71 ∷ 84 ∷ 65 ∷ 10 ∷ 67 ∷ 65 ∷ 71 ∷ 71 ∷ 84 ∷ 10 ∷ 65 ∷ 84 ∷ 10 ∷ []
+
+printout : List ℕ
+printout =
+    65 ∷ 91 ∷ 48 ∷ 44 ∷ 49 ∷ 93 ∷ 71 ∷ 32 ∷ 50 ∷ 32 ∷ 50 ∷ 10
+    ∷ 67 ∷ 91 ∷ 48 ∷ 44 ∷ 49 ∷ 93 ∷ 71 ∷ 32 ∷ 50 ∷ 32 ∷ 50 ∷ 10
+    ∷ 71 ∷ 91 ∷ 48 ∷ 44 ∷ 49 ∷ 93 ∷ 84 ∷ 32 ∷ 50 ∷ 32 ∷ 51 ∷ 10
+    ∷ 101 ∷ 110 ∷ 100 ∷ 32 ∷ 50 ∷ 48 ∷ 32 ∷ 51 ∷ 10
+    ∷ []
+
+-- THE TABLE
+facts : List Fact
+facts =
+    -- p1: AG is 2, CG 6, GT 11
+    is (number 4 AG ∷ number 4 CG ∷ number 4 GT ∷ []) (2 ∷ 6 ∷ 11 ∷ [])
+    -- p2: in E the support of AG is 2, of AT 1
+    ∷ is (in-E AG ∷ in-E AT ∷ []) (2 ∷ 1 ∷ [])
+    -- p3: E, quorum 2: 20 steps, then AG, CG, GT
+    ∷ is (whole 2) (20 ∷ 2 ∷ 6 ∷ 11 ∷ [])
+    -- p4: E, quorum 3: 12 steps, nothing
+    ∷ is (whole 3) (12 ∷ [])
+    -- p5: AG in E: rows 1 1 3, 2 2 3, 2 2 4; three of three written, and the rest of the buffer stays
+    ∷ is (counts-told ((recover-rule letters lengths pair 2 0 (replicate 11 9)) .told)) (3 ∷ 3 ∷ [])
+    ∷ is ((recover-rule letters lengths pair 2 0 (replicate 11 9)) .out) (1 ∷ 1 ∷ 3 ∷ 2 ∷ 2 ∷ 3 ∷ 2 ∷ 2 ∷ 4 ∷ 9 ∷ 9 ∷ [])
+    -- p6: AAA: AA has occurrences (1,2), (1,3), (2,3) and 2 starts
+    ∷ is (joined (occurrences (cut (components pair) AA) (0 ∷ 0 ∷ 0 ∷ []))) (1 ∷ 2 ∷ 1 ∷ 3 ∷ 2 ∷ 3 ∷ [])
+    ∷ is (weight (cut (components pair) AA) ((0 ∷ 0 ∷ 0 ∷ []) ∷ []) ∷ []) (2 ∷ [])
+    -- p7: the join of 1 4 with 3 5, head 1: range 0,1 gives 1 4; range 0,0 gives 4
+    ∷ is ((join-rule (1 ∷ 4 ∷ []) (3 ∷ 5 ∷ []) 1 0 1 (9 ∷ 9 ∷ [])) .out) (1 ∷ 4 ∷ [])
+    ∷ is ((join-rule (1 ∷ 4 ∷ []) (3 ∷ 5 ∷ []) 1 0 0 (9 ∷ 9 ∷ [])) .out) (4 ∷ 9 ∷ [])
+    -- p8: after infrequent AT comes C; after TT the search has ended
+    ∷ is (let p = next (exact pair 2 (sequences letters lengths)) (place 2 3) in p .letters ∷ p .number ∷ []) (1 ∷ 1 ∷ [])
+    ∷ is (let p = next (exact pair 2 (sequences letters lengths)) (place 2 15) in p .letters ∷ p .number ∷ []) (0 ∷ 0 ∷ [])
+    -- p9: E, quorum 2, after 4 steps: the save is 64 bytes; its size record; its place record
+    ∷ is (length saved ∷ []) (64 ∷ [])
+    ∷ is (take 16 saved) (0x01 ∷ 0x04 ∷ 0x02 ∷ 0x00 ∷ 0x03 ∷ 0x00 ∷ 0x02 ∷ 0x00 ∷ 0x0C ∷ 0x00 ∷ 0x00 ∷ 0x00 ∷ 0x00 ∷ 0x00 ∷ 0x00 ∷ 0x00 ∷ [])
+    ∷ is (drop 48 saved) (0x03 ∷ 0x02 ∷ 0x00 ∷ 0x00 ∷ 0x00 ∷ 0x00 ∷ 0x00 ∷ 0x00 ∷ 0x03 ∷ 0x00 ∷ 0x00 ∷ 0x00 ∷ 0x00 ∷ 0x00 ∷ 0x00 ∷ 0x00 ∷ [])
+    ∷ is (search-told (restore-rule letters lengths saved)) (2 ∷ 3 ∷ [])
+    -- p10: its first 63 bytes: refusal 10
+    ∷ is (search-told (restore-rule letters lengths (take 63 saved))) (10 ∷ 0 ∷ [])
+    -- an ended search restores as ended
+    ∷ is (search-told (restore-rule letters lengths (bytes (at 2 ended-place)))) (0 ∷ 0 ∷ [])
+    -- p11: quorum 3 with place CA: refusal 13
+    ∷ is (search-told (restore-rule letters lengths moved-to-CA)) (13 ∷ 0 ∷ [])
+    -- the printing program on E
+    ∷ is (text.print-rule input) printout
+    ∷ []
+
+the-facts : map (λ f. f .computed) facts ≡ map (λ f. f .paper) facts
+unfolding facts letters lengths pair AA AG CG GT AT in-E search-told counts-told number-told at run-leg whole saved moved-to-CA input printout run keep each joined some? all? member? sum put value letter? letter split sequences components size trimmed cut number spell front stands reach starts occurrences marks support firsts weight rows-from occurrence-rows parts frequent exact children later under onward from up next start motif listed spelled candidate leg low-first read-low size-record component-record place-record component-records records bytes record-at field record-count component-count read-component read-place read-template read-search sized? blank? size-record? component-record? place-record? component-records? place-rule? laid-out? partners partnered rising? whole-list page _else_ first first-bad check1 check2 check3 check4 check5 check6 check7 check8 check9 check10 check11 check11-place check12 passes? check13 check14 check15 check6-head check8-range check16 check17 new-checks restore-checks search-checks save-checks recover-checks join-checks begun begin-rule stretch supports-of weights-of leg-rule save-rule restore-rule recover-rule join-rule text.pieces text.parse-number text.run? text.parse-component text.parse-first text.parse-rest text.parse-components text.template-of text.but-last text.last text.lines text.unended text.text-checks text.parse-template text.parse-quorum text.parse-letters text.parse-lengths text.digits-of text.decimal text.shape-rest text.shape text.print-row text.print-end text.print-refused text.print-search text.print-rule
+the-facts = refl

@@ -1,0 +1,55 @@
+-- Occurrences of a motif, given as its parts, in one sequence. An occurrence is one start position for each part.
+use mathlib.Core.Bool.{Bool, true, false}
+use mathlib.Core.List.{List, [], _∷_, map}
+use mathlib.Core.Path.{_≡_}
+use Prim.Native.Nat.{ℕ, zero, suc, _+_, _-_, _≤_, _<_}
+use lib.Dec.{eqb}
+use lib.ListN.{length, drop, getD}
+use Rattle.rules.specs.Lists.{run, if, each}
+use Rattle.rules.specs.Template.{Part, part}
+
+-- the letters w are the first of s
+unfoldable pub front : List ℕ → List ℕ → Bool
+front [] s = true
+front (x ∷ w) [] = false
+front (x ∷ w) (y ∷ s) = if (eqb x y) (front w s) false
+
+-- the letters w stand in s at a position. Positions count from 1, so nothing stands at 0
+unfoldable pub stands : List ℕ → List ℕ → ℕ → Bool
+stands w s zero = false
+stands w s (suc o) = front w (drop o s)
+
+-- where the next part may start if one of n letters starts at p: after its letters and a gap of low to high positions
+unfoldable pub reach : ℕ → ℕ → ℕ → ℕ → List ℕ
+reach n low high p = run (p + n + low) (high + 1 - low)
+
+-- THE LIST. The occurrences of the parts whose first start is p: all later starts under it, rising
+unfoldable pub starts : List Part → List ℕ → ℕ → List (List ℕ)
+starts [] s p = []
+starts (c ∷ []) s p = if (stands (c .word) s p) ((p ∷ []) ∷ []) []
+starts (c ∷ d ∷ ds) s p =
+    if (stands (c .word) s p)
+    (map (λ t. p ∷ t) (each (starts (d ∷ ds) s) (reach (length (c .word)) (d .low) (d .high) p)))
+    []
+
+-- all occurrences in s, by first start, then by second, and so on
+unfoldable pub occurrences : List Part → List ℕ → List (List ℕ)
+occurrences cs s = each (starts cs s) (run 1 (length s))
+
+-- THE SENTENCE. The letters w stand in s at position p: it has room for them, and each is the one there
+pub record Stands (w s : List ℕ) (p : ℕ) : Type 0 where
+  pub counted : 1 ≤ p
+  pub room : p + length w ≤ length s + 1
+  pub same : (i : ℕ) → i < length w → getD s (p - 1 + i) 0 ≡ getD w i 0
+
+-- the gap between a part of n letters that starts at p and the next at q lies in the range
+pub record Gap (n low high p q : ℕ) : Type 0 where
+  pub least : p + n + low ≤ q
+  pub most : q ≤ p + n + high
+
+-- an occurrence: one start for each part, such that its letters stand there and each next start keeps its range
+pub record Occurs (cs : List Part) (s ps : List ℕ) : Type 0 where
+  pub one-each : length ps ≡ length cs
+  pub standing : (i : ℕ) → i < length cs → Stands ((getD cs i (part 0 0 [])) .word) s (getD ps i 0)
+  pub gaps : (i : ℕ) → suc i < length cs
+      → Gap (length ((getD cs i (part 0 0 [])) .word)) ((getD cs (suc i) (part 0 0 [])) .low) ((getD cs (suc i) (part 0 0 [])) .high) (getD ps i 0) (getD ps (suc i) 0)

@@ -1,0 +1,124 @@
+-- A saved search: records of 16 bytes, low byte first. How a search is written, how bytes are read back, and when bytes
+-- are well formed, field by field.
+use mathlib.Core.Bool.{Bool, true, false, _&&_}
+use mathlib.Core.List.{List, [], _∷_, _++_}
+use Prim.Native.Nat.{ℕ, zero, suc, _+_, _-_, _*_, _/_, _%_, _^_}
+use lib.Dec.{eqb, leb, ltb}
+use lib.ListN.{length, take, drop, getD, replicate}
+use Rattle.rules.specs.Limits.{Letter-BASES, Record-BYTES, Record-SIZE, Record-COMPONENT, Record-PLACE, Record-EXTRA}
+use Rattle.rules.specs.Lists.{if, all?, joined}
+use Rattle.rules.specs.Template.{component, none, components, kept, size}
+use Rattle.rules.specs.Walk.{place}
+use Rattle.rules.specs.declared.Component.{Component}
+use Rattle.rules.specs.declared.Place.{Place}
+use Rattle.rules.specs.declared.Search.{Search}
+use Rattle.rules.specs.declared.Template.{Template}
+
+-- the n low bytes of x, the lowest first, and the number that n bytes are
+unfoldable pub low-first : ℕ → ℕ → List ℕ
+low-first zero x = []
+low-first (suc n) x = x % 256 ∷ low-first n (x / 256)
+
+unfoldable pub read-low : ℕ → List ℕ → ℕ
+read-low zero bs = 0
+read-low (suc n) bs = getD bs 0 0 + 256 * read-low n (drop 1 bs)
+
+-- WRITING. Bytes that the paper does not name are 0
+unfoldable pub size-record : Search → List ℕ
+size-record s =
+    Record-SIZE ∷ (s .template .count + Record-EXTRA) ∷ low-first 2 (s .quorum) ++ low-first 2 (s .set .sequences)
+    ++ low-first 2 (size (s .template)) ++ low-first 4 (s .set .letters) ++ replicate 4 0
+
+unfoldable pub component-record : ℕ → Component → List ℕ
+component-record i c = Record-COMPONENT ∷ i ∷ c .length ∷ 0 ∷ low-first 2 (c .low) ++ low-first 2 (c .high) ++ replicate 8 0
+
+unfoldable pub place-record : Place → List ℕ
+place-record p = Record-PLACE ∷ p .letters ∷ replicate 6 0 ++ low-first 8 (p .number)
+
+-- a record for each component, numbered from i
+unfoldable pub component-records : ℕ → List Component → List (List ℕ)
+component-records i [] = []
+component-records i (c ∷ cs) = component-record i c ∷ component-records (suc i) cs
+
+unfoldable pub records : Search → List (List ℕ)
+records s = size-record s ∷ component-records 1 (components (s .template)) ++ (place-record (s .place) ∷ [])
+
+-- a search as it is saved
+unfoldable pub bytes : Search → List ℕ
+bytes s = joined (records s)
+
+-- READING. Record i of some bytes, from 0, and the number in n bytes of a record, from byte k on
+unfoldable pub record-at : List ℕ → ℕ → List ℕ
+record-at bs i = take Record-BYTES (drop (Record-BYTES * i) bs)
+
+unfoldable pub field : List ℕ → ℕ → ℕ → ℕ
+field r k n = read-low n (drop k r)
+
+-- how many records the bytes say there are, and so how many components
+unfoldable pub record-count : List ℕ → ℕ
+record-count bs = getD bs 1 0
+
+unfoldable pub component-count : List ℕ → ℕ
+component-count bs = record-count bs - Record-EXTRA
+
+unfoldable pub read-component : List ℕ → Component
+read-component r = component (field r 2 1) (field r 4 2) (field r 6 2)
+
+unfoldable pub read-place : List ℕ → Place
+read-place r = place (field r 1 1) (field r 8 8)
+
+unfoldable pub read-template : List ℕ → Template
+read-template bs =
+    let n = component-count bs in
+    record {
+      count = n;
+      c1 = kept n 1 (read-component (record-at bs 1));
+      c2 = kept n 2 (read-component (record-at bs 2));
+      c3 = kept n 3 (read-component (record-at bs 3));
+      c4 = kept n 4 (read-component (record-at bs 4));
+      c5 = kept n 5 (read-component (record-at bs 5));
+      c6 = kept n 6 (read-component (record-at bs 6));
+    }
+
+-- the search that bytes hold, whatever they are
+unfoldable pub read-search : List ℕ → Search
+read-search bs =
+    record {
+      template = read-template bs;
+      quorum = field (record-at bs 0) 2 2;
+      set = record { sequences = field (record-at bs 0) 4 2; letters = field (record-at bs 0) 8 4 };
+      place = read-place (record-at bs (suc (component-count bs)));
+    }
+
+-- WELL FORMED. The length is that of the records counted, of which there are at least two
+unfoldable pub sized? : List ℕ → Bool
+sized? bs = leb Record-BYTES (length bs) && leb Record-EXTRA (record-count bs) && eqb (length bs) (Record-BYTES * record-count bs)
+
+-- n bytes of a record, from byte k on, are 0
+unfoldable pub blank? : List ℕ → ℕ → ℕ → Bool
+blank? r k n = all? (λ b. eqb b 0) (take n (drop k r))
+
+-- each record by its kind, a component's number, and the bytes that the paper does not name
+unfoldable pub size-record? : List ℕ → Bool
+size-record? r = eqb (field r 0 1) Record-SIZE && blank? r 12 4
+
+unfoldable pub component-record? : ℕ → List ℕ → Bool
+component-record? i r = eqb (field r 0 1) Record-COMPONENT && eqb (field r 1 1) i && blank? r 3 1 && blank? r 8 8
+
+unfoldable pub place-record? : List ℕ → Bool
+place-record? r = eqb (field r 0 1) Record-PLACE && blank? r 2 6
+
+-- the n component records from record i on
+unfoldable pub component-records? : List ℕ → ℕ → ℕ → Bool
+component-records? bs i zero = true
+component-records? bs i (suc n) = component-record? i (record-at bs i) && component-records? bs (suc i) n
+
+-- the place rule: a place is 0 to K, and the number lies below 4 to the power of the place
+unfoldable pub place-rule? : Template → Place → Bool
+place-rule? t p = leb (p .letters) (size t) && ltb (p .number) (Letter-BASES ^ p .letters)
+
+-- every record keeps its layout, K is the sum of the lengths, and the place keeps its rule
+unfoldable pub laid-out? : List ℕ → Bool
+laid-out? bs =
+    size-record? (record-at bs 0) && component-records? bs 1 (component-count bs) && place-record? (record-at bs (suc (component-count bs)))
+    && eqb (field (record-at bs 0) 6 2) (size (read-template bs)) && place-rule? (read-template bs) (read-place (record-at bs (suc (component-count bs))))

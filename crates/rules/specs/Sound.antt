@@ -1,0 +1,37 @@
+-- What holds of sequences and of a template once the checks have passed. Inner functions ask for these in their `requires`;
+-- proofs/Sound.antt shows that they follow from the checks.
+use mathlib.Core.Bool.{true}
+use mathlib.Core.List.{List}
+use mathlib.Core.Path.{_≡_}
+use Prim.Native.Nat.{ℕ, _≤_, _<_}
+use lib.ListN.{length, getD}
+use Rattle.rules.specs.Letters.{letter?}
+use Rattle.rules.specs.Limits.{Template-COMPONENTS, Template-LENGTH, Template-LETTERS, Template-GAP, SequenceSet-SEQUENCES, SequenceSet-LETTERS}
+use Rattle.rules.specs.Lists.{sum}
+use Rattle.rules.specs.Template.{slots, none, size}
+use Rattle.rules.specs.declared.Component.{Component}
+use Rattle.rules.specs.declared.Template.{Template}
+
+-- 1 to 4 pass
+pub record SoundSet (letters lengths : List ℕ) : Type 0 where
+  pub some : 1 ≤ length lengths
+  pub few : length lengths ≤ SequenceSet-SEQUENCES
+  pub short : length letters ≤ SequenceSet-LETTERS
+  pub adds : sum lengths ≡ length letters
+  pub spelt : (i : ℕ) → i < length letters → letter? (getD letters i 0) ≡ true
+
+-- a component that 6 and 8 pass
+pub record SoundComponent (c : Component) : Type 0 where
+  pub some : 1 ≤ c .length
+  pub short : c .length ≤ Template-LENGTH
+  pub ordered : c .low ≤ c .high
+  pub near : c .high ≤ Template-GAP
+
+-- 5 to 8 pass
+pub record SoundTemplate (t : Template) : Type 0 where
+  pub some : 1 ≤ t .count
+  pub few : t .count ≤ Template-COMPONENTS
+  pub deep : size t ≤ Template-LETTERS
+  pub each : (i : ℕ) → i < t .count → SoundComponent (getD (slots t) i none)
+  pub low : t .c1 .low ≡ 0
+  pub high : t .c1 .high ≡ 0

@@ -1,0 +1,113 @@
+-- What each answer tells, in the paper's numbers: the number and place of each refusal, and the values of each case.
+use mathlib.Core.List.{List}
+use Prim.Native.Nat.{ℕ}
+use Rattle.rules.specs.Legs.{Stop, ended, spent, full}
+use Rattle.rules.specs.declared.Begun.{Begun}
+use Rattle.rules.specs.declared.Begun.the-variants as begun
+use Rattle.rules.specs.declared.Checked.{Checked}
+use Rattle.rules.specs.declared.Checked.the-variants as checked
+use Rattle.rules.specs.declared.Joined.{Joined}
+use Rattle.rules.specs.declared.Joined.the-variants as joined
+use Rattle.rules.specs.declared.Leg.{Leg}
+use Rattle.rules.specs.declared.LegAnswer.{LegAnswer}
+use Rattle.rules.specs.declared.LegAnswer.the-variants as answer
+use Rattle.rules.specs.declared.Recovered.{Recovered}
+use Rattle.rules.specs.declared.Recovered.the-variants as recovered
+use Rattle.rules.specs.declared.Refusal.{Refusal}
+use Rattle.rules.specs.declared.Refusal.the-variants.{SequenceCount, LetterCount, LengthSum, NotALetter, ComponentCount, ComponentLength, MotifLength, GapRange, Quorum, SavedSize, SavedLayout, OtherSet, NotACandidate, MotifNumber, FirstRow, JoinList, Room, TextLine}
+use Rattle.rules.specs.declared.Saved.{Saved}
+use Rattle.rules.specs.declared.Saved.the-variants as saved
+use Rattle.rules.specs.declared.Search.{Search}
+
+-- the number of a refusal
+abbrev pub number : Refusal → ℕ
+number SequenceCount = 1
+number LetterCount = 2
+number LengthSum = 3
+number (NotALetter o) = 4
+number ComponentCount = 5
+number (ComponentLength i) = 6
+number MotifLength = 7
+number (GapRange i) = 8
+number Quorum = 9
+number SavedSize = 10
+number SavedLayout = 11
+number OtherSet = 12
+number NotACandidate = 13
+number MotifNumber = 14
+number FirstRow = 15
+number JoinList = 16
+number Room = 17
+number (TextLine n) = 18
+
+-- the place that it tells: the offset of the byte, the number of the component, the number of the line, and else 0
+abbrev pub place : Refusal → ℕ
+place SequenceCount = 0
+place LetterCount = 0
+place LengthSum = 0
+place (NotALetter o) = o .0
+place ComponentCount = 0
+place (ComponentLength i) = i
+place MotifLength = 0
+place (GapRange i) = i
+place Quorum = 0
+place SavedSize = 0
+place SavedLayout = 0
+place OtherSet = 0
+place NotACandidate = 0
+place MotifNumber = 0
+place FirstRow = 0
+place JoinList = 0
+place Room = 0
+place (TextLine n) = n
+
+-- what a check finds: nothing, or a refusal's number and place
+pub data Verdict : Type 0 where
+  fine : Verdict
+  refused : ℕ → ℕ → Verdict
+
+-- what a call tells: what it gives, or a refusal's number and place
+pub data Told (A : Type 0) : Type 0 where
+  gives : A → Told A
+  refuses : ℕ → ℕ → Told A
+
+-- what a recovery gives: the rows written, and the length of the whole list
+pub record Counts : Type 0 where
+  pub rows : ℕ
+  pub length : ℕ
+
+-- what a leg tells. Its counts are 0 and its search is the one given where it refuses
+pub record LegTold : Type 0 where
+  pub answer : Told Stop
+  pub steps : ℕ
+  pub rows : ℕ
+  pub search : Search
+
+abbrev pub toldChecked : Checked → Verdict
+toldChecked checked.Fine = fine
+toldChecked (checked.Refused r) = refused (number r) (place r)
+
+abbrev pub toldBegun : Begun → Told Search
+toldBegun (begun.Search s) = gives s
+toldBegun (begun.Refused r) = refuses (number r) (place r)
+
+abbrev pub toldAnswer : LegAnswer → Told Stop
+toldAnswer answer.Ended = gives ended
+toldAnswer answer.Spent = gives spent
+toldAnswer answer.Full = gives full
+toldAnswer (answer.Refused r) = refuses (number r) (place r)
+
+abbrev pub toldLeg : Leg → LegTold
+toldLeg l = record { answer = toldAnswer (l .answer); steps = l .steps; rows = l .rows; search = l .search }
+
+abbrev pub toldSaved : Saved → Told ℕ
+toldSaved (saved.Bytes n) = gives n
+toldSaved (saved.Refused r) = refuses (number r) (place r)
+
+abbrev pub toldRecovered : Recovered → Told Counts
+toldRecovered (recovered.Rows n l) = gives (record { rows = n; length = l })
+toldRecovered (recovered.Refused r) = refuses (number r) (place r)
+
+abbrev pub toldJoined : Joined → Told ℕ
+toldJoined (joined.Kept n) = gives n
+toldJoined (joined.Refused r) = refuses (number r) (place r)

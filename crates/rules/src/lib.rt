@@ -1,0 +1,261 @@
+// The paper's types, with their limits and constructors. An inner crate: what it defines stands in specs/, and the laws
+// about that in proofs/.
+ghost use mathlib.Core.Path.{_≡_};
+ghost use Rattle.rules.specs.Limits.{Letter-BASES, Letter-MARK, Template-COMPONENTS, Template-LENGTH, Template-LETTERS, Template-GAP, SequenceSet-SEQUENCES, SequenceSet-LETTERS, Record-BYTES, Record-SIZE, Record-COMPONENT, Record-PLACE, Record-EXTRA, Text-BYTES, Text-GAP-DIGITS, Text-QUORUM-DIGITS};
+ghost use Rattle.rules.specs.Template.{slots, component, none};
+ghost use Rattle.rules.specs.Walk.{place, first-place, ended-place};
+
+// The three countings, each a type of its own, so that none can be taken for another.
+// A sequence's number in the set, from 1.
+pub struct SequenceNumber(pub usize);
+// A position in a sequence, from 1 and afresh in each.
+pub struct Position(pub usize);
+// An offset in the whole buffer of letters, from 0.
+pub struct Offset(pub usize);
+
+// The letters A, C, G, T: how many there are, and the mark that every other byte has for a value.
+pub struct Letter {}
+
+impl Letter {
+    pub const BASES: u64 = 4;
+
+    pub const MARK: u8 = 4;
+}
+
+// A component of a template: its length, and the gap range before it.
+pub struct Component {
+    pub length: u16,
+    pub low: u16,
+    pub high: u16,
+}
+
+impl Component {
+    pub fn new(length: u16, low: u16, high: u16) -> Component
+        ensures { λ r. ⌜ r ≡ component length low high ⌝ }
+    {
+        Component { length, low, high }
+    }
+
+    // What stands in a slot past the last component.
+    pub fn none() -> Component
+        ensures { λ r. ⌜ r ≡ none ⌝ }
+    {
+        Component {
+            length: 0,
+            low: 0,
+            high: 0,
+        }
+    }
+}
+
+// A template: how many components there are, and a slot for each that there may be.
+pub struct Template {
+    pub count: u16,
+    pub c1: Component,
+    pub c2: Component,
+    pub c3: Component,
+    pub c4: Component,
+    pub c5: Component,
+    pub c6: Component,
+}
+
+impl Template {
+    // The most components, letters of one, letters in all, and letters of a gap.
+    pub const COMPONENTS: u16 = 6;
+
+    pub const LENGTH: u16 = 12;
+
+    pub const LETTERS: u32 = 32;
+
+    pub const GAP: u16 = 255;
+
+    // The slots in order, for loops.
+    pub fn components(self) -> [Component; 6]
+        ensures { λ r. ⌜ r ≡ slots self ⌝ }
+    {
+        let c1 = self.c1;
+        let c2 = self.c2;
+        let c3 = self.c3;
+        let c4 = self.c4;
+        let c5 = self.c5;
+        let c6 = self.c6;
+        [c1, c2, c3, c4, c5, c6]
+    }
+}
+
+// The size of the set of sequences that a search is over.
+pub struct SequenceSet {
+    pub sequences: u32,
+    pub letters: u32,
+}
+
+impl SequenceSet {
+    // The most sequences, and the most letters of them all.
+    pub const SEQUENCES: usize = 1024;
+
+    pub const LETTERS: usize = 65536;
+
+    pub fn new(sequences: u32, letters: u32) -> SequenceSet
+        ensures { λ r. ⌜ (r .sequences ≡ sequences) × (r .letters ≡ letters) ⌝ }
+    {
+        SequenceSet { sequences, letters }
+    }
+}
+
+// Where a search stands: the letters of its next candidate and its number. An ended search stands at 0, 0.
+pub struct Place {
+    pub letters: u8,
+    pub number: u64,
+}
+
+impl Place {
+    pub fn new(letters: u8, number: u64) -> Place
+        ensures { λ r. ⌜ r ≡ place letters number ⌝ }
+    {
+        Place { letters, number }
+    }
+
+    // The first candidate, A.
+    pub fn first() -> Place
+        ensures { λ r. ⌜ r ≡ first-place ⌝ }
+    {
+        Place {
+            letters: 1,
+            number: 0,
+        }
+    }
+
+    pub fn ended() -> Place
+        ensures { λ r. ⌜ r ≡ ended-place ⌝ }
+    {
+        Place {
+            letters: 0,
+            number: 0,
+        }
+    }
+}
+
+// A search: what it is over, and where it stands.
+pub struct Search {
+    pub template: Template,
+    pub quorum: u64,
+    pub set: SequenceSet,
+    pub place: Place,
+}
+
+// A record of a saved search.
+pub struct Record {
+    pub bytes: [u8; 16],
+}
+
+impl Record {
+    // A record's bytes; the kinds of record, which its first byte tells; the records besides the components'.
+    pub const BYTES: usize = 16;
+
+    pub const SIZE: u8 = 1;
+
+    pub const COMPONENT: u8 = 2;
+
+    pub const PLACE: u8 = 3;
+
+    pub const EXTRA: u8 = 2;
+}
+
+// The printing program's input: its most bytes, and the most digits of a number in a gap range and of the quorum.
+pub struct Text {}
+
+impl Text {
+    pub const BYTES: usize = 60000;
+
+    pub const GAP_DIGITS: usize = 3;
+
+    pub const QUORUM_DIGITS: usize = 5;
+}
+
+// Why a call refuses, one name for each number from 1 to 18, with the place where one is told.
+pub enum Refusal {
+    SequenceCount,
+    LetterCount,
+    LengthSum,
+    NotALetter(Offset),
+    ComponentCount,
+    ComponentLength(u8),
+    MotifLength,
+    GapRange(u8),
+    Quorum,
+    SavedSize,
+    SavedLayout,
+    OtherSet,
+    NotACandidate,
+    MotifNumber,
+    FirstRow,
+    JoinList,
+    Room,
+    TextLine(usize),
+}
+
+// What a check finds.
+pub enum Checked {
+    Fine,
+    Refused(Refusal),
+}
+
+// What a new search or a restore answers.
+pub enum Begun {
+    Search(Search),
+    Refused(Refusal),
+}
+
+// Why a leg stopped.
+pub enum LegAnswer {
+    Ended,
+    Spent,
+    Full,
+    Refused(Refusal),
+}
+
+// What a leg answers: why it stopped, its steps, its rows, and the search at its new place.
+pub struct Leg {
+    pub answer: LegAnswer,
+    pub steps: u64,
+    pub rows: usize,
+    pub search: Search,
+}
+
+// What a save answers: its length in bytes.
+pub enum Saved {
+    Bytes(usize),
+    Refused(Refusal),
+}
+
+// What a recovery answers: the rows written, and the length of the whole list.
+pub enum Recovered {
+    Rows { written: usize, length: u64 },
+    Refused(Refusal),
+}
+
+// What a join answers: how many positions it kept.
+pub enum Joined {
+    Kept(usize),
+    Refused(Refusal),
+}
+
+// Each limit in the code is the definition of the same name.
+pub fn limits()
+    ensures { λ r. do ⌜ (← ⟦Letter::BASES⟧ .entry) ≡ Letter-BASES ⌝ }
+    ensures { λ r. do ⌜ (← ⟦Letter::MARK⟧ .entry) ≡ Letter-MARK ⌝ }
+    ensures { λ r. do ⌜ (← ⟦Template::COMPONENTS⟧ .entry) ≡ Template-COMPONENTS ⌝ }
+    ensures { λ r. do ⌜ (← ⟦Template::LENGTH⟧ .entry) ≡ Template-LENGTH ⌝ }
+    ensures { λ r. do ⌜ (← ⟦Template::LETTERS⟧ .entry) ≡ Template-LETTERS ⌝ }
+    ensures { λ r. do ⌜ (← ⟦Template::GAP⟧ .entry) ≡ Template-GAP ⌝ }
+    ensures { λ r. do ⌜ (← ⟦SequenceSet::SEQUENCES⟧ .entry) ≡ SequenceSet-SEQUENCES ⌝ }
+    ensures { λ r. do ⌜ (← ⟦SequenceSet::LETTERS⟧ .entry) ≡ SequenceSet-LETTERS ⌝ }
+    ensures { λ r. do ⌜ (← ⟦Record::BYTES⟧ .entry) ≡ Record-BYTES ⌝ }
+    ensures { λ r. do ⌜ (← ⟦Record::SIZE⟧ .entry) ≡ Record-SIZE ⌝ }
+    ensures { λ r. do ⌜ (← ⟦Record::COMPONENT⟧ .entry) ≡ Record-COMPONENT ⌝ }
+    ensures { λ r. do ⌜ (← ⟦Record::PLACE⟧ .entry) ≡ Record-PLACE ⌝ }
+    ensures { λ r. do ⌜ (← ⟦Record::EXTRA⟧ .entry) ≡ Record-EXTRA ⌝ }
+    ensures { λ r. do ⌜ (← ⟦Text::BYTES⟧ .entry) ≡ Text-BYTES ⌝ }
+    ensures { λ r. do ⌜ (← ⟦Text::GAP_DIGITS⟧ .entry) ≡ Text-GAP-DIGITS ⌝ }
+    ensures { λ r. do ⌜ (← ⟦Text::QUORUM_DIGITS⟧ .entry) ≡ Text-QUORUM-DIGITS ⌝ }
+{}
