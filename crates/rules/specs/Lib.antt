@@ -5,6 +5,7 @@ pub mod Sequences
 pub mod Template
 pub mod Motif
 pub mod Occurrence
+pub mod Order
 pub mod Support
 pub mod Walk
 pub mod Legs

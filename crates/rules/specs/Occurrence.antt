@@ -5,7 +5,7 @@ use mathlib.Core.Path.{_≡_}
 use Prim.Native.Nat.{ℕ, zero, suc, _+_, _-_, _≤_, _<_}
 use lib.Dec.{eqb}
 use lib.ListN.{length, drop, getD}
-use Rattle.rules.specs.Lists.{run, if, each}
+use Rattle.rules.specs.Lists.{run, if, each, sum}
 use Rattle.rules.specs.Template.{Part, part}
 
 -- the letters w are the first of s
@@ -35,6 +35,12 @@ starts (c ∷ d ∷ ds) s p =
 -- all occurrences in s, by first start, then by second, and so on
 unfoldable pub occurrences : List Part → List ℕ → List (List ℕ)
 occurrences cs s = each (starts cs s) (run 1 (length s))
+
+-- the number of those whose first start is p, without making them: how many ways the later parts can follow
+unfoldable pub ways : List Part → List ℕ → ℕ → ℕ
+ways [] s p = 0
+ways (c ∷ []) s p = if (stands (c .word) s p) 1 0
+ways (c ∷ d ∷ ds) s p = if (stands (c .word) s p) (sum (map (ways (d ∷ ds) s) (reach (length (c .word)) (d .low) (d .high) p))) 0
 
 -- THE SENTENCE. The letters w stand in s at position p: it has room for them, and each is the one there
 pub record Stands (w s : List ℕ) (p : ℕ) : Type 0 where
