@@ -16,5 +16,6 @@ pub mod Recovery
 pub mod Refusals
 pub mod Sound
 pub mod Calls
+pub mod Relay
 pub mod Text
 pub mod Facts

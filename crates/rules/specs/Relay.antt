@@ -1,0 +1,104 @@
+-- A search run in legs, each with a budget and tables of its own, saved and restored over the same sequences between legs;
+-- and what the user asks that it comes to.
+use mathlib.Core.Bool.{Bool, true, false}
+use mathlib.Core.List.{List, [], _∷_, _++_, map}
+use Prim.Native.Nat.{ℕ, _+_, _*_, _^_}
+use lib.Dec.{eqb, leb}
+use lib.ListN.{length, take}
+use Rattle.rules.specs.Calls.{LegRule, leg-rule, save-rule, restore-rule}
+use Rattle.rules.specs.Legs.{Stop, ended, spent, full}
+use Rattle.rules.specs.Limits.{Letter-BASES}
+use Rattle.rules.specs.Lists.{run, if, keep}
+use Rattle.rules.specs.Support.{support, weight, parts, frequent}
+use Rattle.rules.specs.Template.{size}
+use Rattle.rules.specs.Told.{Told, gives, refuses}
+use Rattle.rules.specs.Walk.{exact, goods}
+use Rattle.rules.specs.declared.Search.{Search}
+use Rattle.rules.specs.declared.Template.{Template}
+
+-- THE LIST: the motifs whose support reaches the quorum, in letter order, with their supports and weighted supports
+unfoldable pub frequent-motifs : Template → ℕ → List (List ℕ) → List ℕ
+frequent-motifs t quorum ss = keep (λ m. leb quorum (support (parts t (size t) m) ss)) (run 0 (Letter-BASES ^ size t))
+
+unfoldable pub their-supports : Template → ℕ → List (List ℕ) → List ℕ
+their-supports t quorum ss = map (λ m. support (parts t (size t) m) ss) (frequent-motifs t quorum ss)
+
+unfoldable pub their-weights : Template → ℕ → List (List ℕ) → List ℕ
+their-weights t quorum ss = map (λ m. weight (parts t (size t) m) ss) (frequent-motifs t quorum ss)
+
+-- THE COUNT: 4 times the number of frequent prefixes of 0 to K - 1 letters
+unfoldable pub whole-steps : Template → ℕ → List (List ℕ) → ℕ
+whole-steps t quorum ss = Letter-BASES * goods (exact t quorum ss) (size t)
+
+-- what a leg is lent: its budget, its three tables, and a buffer for the save after it
+pub record Lent : Type 0 where
+  pub budget : ℕ
+  pub motifs : List ℕ
+  pub supports : List ℕ
+  pub weights : List ℕ
+  pub buffer : List ℕ
+
+-- what legs come to: the last answer, the steps added up, and the rows of all laid end to end
+pub record Relayed : Type 0 where
+  pub answer : Told Stop
+  pub steps : ℕ
+  pub motifs : List ℕ
+  pub supports : List ℕ
+  pub weights : List ℕ
+
+-- no leg left
+abbrev pub stand : Search → Relayed
+stand s = record { answer = gives (if (eqb (s .place .letters) 0) ended spent); steps = 0; motifs = []; supports = []; weights = [] }
+
+-- a leg alone: its rows are the first of its tables
+abbrev pub alone : LegRule → Relayed
+alone l =
+    record {
+      answer = l .told .answer;
+      steps = l .told .steps;
+      motifs = take (l .told .rows) (l .motifs);
+      supports = take (l .told .rows) (l .supports);
+      weights = take (l .told .rows) (l .weights);
+    }
+
+-- one after another
+abbrev pub followed : Relayed → Relayed → Relayed
+followed a b =
+    record {
+      answer = b .answer;
+      steps = a .steps + b .steps;
+      motifs = a .motifs ++ b .motifs;
+      supports = a .supports ++ b .supports;
+      weights = a .weights ++ b .weights;
+    }
+
+-- what a call that was refused comes to
+abbrev pub refused-with : ℕ → ℕ → Relayed
+refused-with n p = record { answer = refuses n p; steps = 0; motifs = []; supports = []; weights = [] }
+
+-- goes on with what a restore gives
+abbrev pub go-on : Told Search → (Search → Relayed) → Relayed
+go-on (gives s) f = f s
+go-on (refuses n p) f = refused-with n p
+
+-- restores what a save wrote to the front of a buffer
+abbrev pub restored : List ℕ → List ℕ → Told ℕ → List ℕ → Told Search
+restored letters lengths (gives n) out = restore-rule letters lengths (take n out)
+restored letters lengths (refuses n p) out = refuses n p
+
+-- after a leg: nothing where it ended or refused, and else what is left
+abbrev pub after : Told Stop → Relayed → Relayed → Relayed
+after (gives ended) l more = l
+after (gives spent) l more = followed l more
+after (gives full) l more = followed l more
+after (refuses n p) l more = l
+
+module _ (letters lengths : List ℕ) where
+  -- LEGS, until one ends: each saves the search it leaves and the next restores it
+  unfoldable pub relay : List Lent → Search → Relayed
+  relay [] s = stand s
+  relay (g ∷ gs) s =
+      let l = leg-rule letters lengths s (g .budget) (g .motifs) (g .supports) (g .weights) in
+      let w = save-rule letters lengths (l .told .search) (g .buffer) in
+      let more = go-on (restored letters lengths (w .told) (w .out)) (relay gs) in
+      after (l .told .answer) (alone l) more

@@ -1,0 +1,62 @@
+//! "Numbers a caller may get back."
+
+/// "A refused new search or restore gives no search, only number and place."
+#[derive(Clone, Copy, Debug, PartialEq, Eq)]
+pub struct Refusal {
+    /// The number in the paper's table, 1 to 18.
+    pub number: u8,
+    /// The place told: an offset, a component's number, a line number, or 0.
+    pub place: u64,
+}
+
+impl Refusal {
+    /// "number of sequences"
+    pub const NUMBER_OF_SEQUENCES: u8 = 1;
+    /// "letter buffer above 65,536 bytes"
+    pub const LETTER_BUFFER: u8 = 2;
+    /// "lengths do not add up to the buffer"
+    pub const LENGTHS: u8 = 3;
+    /// "byte that is no letter"
+    pub const NO_LETTER: u8 = 4;
+    /// "number of components"
+    pub const NUMBER_OF_COMPONENTS: u8 = 5;
+    /// "component length"; in a join "a head outside 1 to 12"
+    pub const COMPONENT_LENGTH: u8 = 6;
+    /// "K above 32"
+    pub const LETTERS_IN_ALL: u8 = 7;
+    /// "gap range"
+    pub const GAP_RANGE: u8 = 8;
+    /// "quorum"
+    pub const QUORUM: u8 = 9;
+    /// "saved bytes fewer than 16, record count below 2, or length not 16
+    /// times the count"
+    pub const SAVED_LENGTH: u8 = 10;
+    /// "a record breaks its layout, K is not the sum of lengths, or the place
+    /// breaks its rule"
+    pub const RECORD: u8 = 11;
+    /// "sequence or letter count differs from the lent ones"
+    pub const COUNTS_DIFFER: u8 = 12;
+    /// "place is neither a candidate of this search nor the ended place"
+    pub const NO_CANDIDATE: u8 = 13;
+    /// "motif number not below 4^K"
+    pub const MOTIF_NUMBER: u8 = 14;
+    /// "first row above the list's length"
+    pub const FIRST_ROW: u8 = 15;
+    /// "join list not strictly rising, or a position outside 1 to 65,536"
+    pub const JOIN_LIST: u8 = 16;
+    /// "save buffer shorter than the save, or join table shorter than the
+    /// first list"
+    pub const BUFFER: u8 = 17;
+    /// "text line (program only)"
+    pub const TEXT_LINE: u8 = 18;
+
+    /// "A refusal for which no place is named tells 0."
+    pub fn plain(number: u8) -> Refusal {
+        Refusal { number, place: 0 }
+    }
+
+    /// A refusal with the place told.
+    pub fn at(number: u8, place: u64) -> Refusal {
+        Refusal { number, place }
+    }
+}

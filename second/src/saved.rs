@@ -1,0 +1,187 @@
+//! "A saved search": "Records of 16 bytes, no header, low byte first, k + 2
+//! records."
+
+use crate::place::Place;
+use crate::refusal::Refusal;
+use crate::search::Search;
+use crate::sequences::SequenceSet;
+use crate::template::{Component, Template};
+
+/// One record.
+struct Record([u8; Record::BYTES]);
+
+impl Record {
+    /// "Records of 16 bytes"
+    const BYTES: usize = 16;
+    /// "k + 2 records": the size and place records beside the components.
+    const BESIDE_COMPONENTS: usize = 2;
+    /// Byte 0 of the size record.
+    const SIZE: u8 = 1;
+    /// Byte 0 of a component record.
+    const COMPONENT: u8 = 2;
+    /// Byte 0 of the place record.
+    const PLACE: u8 = 3;
+
+    /// A record of this kind; "unnamed bytes are 0".
+    fn new(kind: u8) -> Record {
+        let mut bytes = [0; Record::BYTES];
+        bytes[0] = kind;
+        Record(bytes)
+    }
+
+    /// Writes a number "low byte first" into the bytes from `first` to `last`.
+    fn put(&mut self, first: usize, last: usize, number: u64) {
+        let mut left = number;
+        for byte in &mut self.0[first..=last] {
+            *byte = (left % 256) as u8;
+            left /= 256;
+        }
+    }
+
+    /// Reads the bytes from `first` to `last` as a number, "low byte first".
+    fn number(&self, first: usize, last: usize) -> u64 {
+        self.0[first..=last]
+            .iter()
+            .rev()
+            .fold(0, |number, byte| number * 256 + u64::from(*byte))
+    }
+}
+
+/// "size | 0: 1; 1: number of records; 2-3 quorum; 4-5 number of sequences;
+/// 6-7 K; 8-11 letters in all"
+fn size_record(search: &Search) -> Record {
+    let mut record = Record::new(Record::SIZE);
+    let records = search.template.components.len() + Record::BESIDE_COMPONENTS;
+    record.put(1, 1, records as u64);
+    record.put(2, 3, search.quorum);
+    record.put(4, 5, u64::from(search.sequences));
+    record.put(6, 7, search.template.letters_in_all());
+    record.put(8, 11, u64::from(search.letters));
+    record
+}
+
+/// "component, one each | 0: 2; 1: its number from 1; 2: length; 4-5 l;
+/// 6-7 u"
+fn component_record(number: u64, component: &Component) -> Record {
+    let mut record = Record::new(Record::COMPONENT);
+    record.put(1, 1, number);
+    record.put(2, 2, u64::from(component.length));
+    record.put(4, 5, u64::from(component.low));
+    record.put(6, 7, u64::from(component.high));
+    record
+}
+
+/// "place | 0: 3; 1: letters of the next candidate; 8-15 its number"
+fn place_record(place: &Place) -> Record {
+    let mut record = Record::new(Record::PLACE);
+    record.put(1, 1, u64::from(place.letters));
+    record.put(8, 15, place.number);
+    record
+}
+
+/// All records of a search, one after another.
+fn records(search: &Search) -> Vec<u8> {
+    let mut bytes = Vec::new();
+    bytes.extend(size_record(search).0);
+    for (number, component) in (1..).zip(&search.template.components) {
+        bytes.extend(component_record(number, component).0);
+    }
+    bytes.extend(place_record(&search.place).0);
+    bytes
+}
+
+/// "A save answers its length in bytes." "A leg or a save checks the search
+/// value it is given by restore's order without 10, and a save checks 17
+/// last." "Past the last thing that a save, recovery or join writes, its
+/// buffer stays."
+pub fn save(
+    letters: &[u8],
+    lengths: &[u32],
+    search: &Search,
+    out: &mut [u8],
+) -> Result<usize, Refusal> {
+    let set = SequenceSet::lent(letters, lengths)?;
+    search.check(&set)?;
+    let bytes = records(search);
+    match out.get_mut(..bytes.len()) {
+        Some(written) => {
+            written.copy_from_slice(&bytes);
+            Ok(bytes.len())
+        }
+        None => Err(Refusal::plain(Refusal::BUFFER)),
+    }
+}
+
+/// "Restore: 1 to 4, 10, 5, 11, 6, 7, 8, 12, 9, 13."
+pub fn restore(letters: &[u8], lengths: &[u32], bytes: &[u8]) -> Result<Search, Refusal> {
+    let set = SequenceSet::lent(letters, lengths)?;
+    let records = cut_into_records(bytes)?;
+    let search = read_records(&records)?;
+    search.check(&set)?;
+    Ok(search)
+}
+
+/// Refusal 10: "saved bytes fewer than 16, record count below 2, or length
+/// not 16 times the count".
+fn cut_into_records(bytes: &[u8]) -> Result<Vec<Record>, Refusal> {
+    let count = match bytes.get(1) {
+        Some(count) if bytes.len() >= Record::BYTES => *count as usize,
+        _ => return Err(Refusal::plain(Refusal::SAVED_LENGTH)),
+    };
+    if count < Record::BESIDE_COMPONENTS || bytes.len() != Record::BYTES * count {
+        return Err(Refusal::plain(Refusal::SAVED_LENGTH));
+    }
+    let mut records = Vec::new();
+    for chunk in bytes.chunks_exact(Record::BYTES) {
+        let mut record = Record([0; Record::BYTES]);
+        record.0.copy_from_slice(chunk);
+        records.push(record);
+    }
+    Ok(records)
+}
+
+/// Reads what the records say, then refuses 5 ("number of components", the
+/// record count less 2) before 11: "a record breaks its layout, K is not the
+/// sum of lengths". A record keeps its layout if what was read from it,
+/// written again, gives the same bytes: kind, number and "unnamed bytes are
+/// 0" as well. The size record holds K, so that this compares K with the sum
+/// of lengths too. The place's rule is checked with the search value.
+fn read_records(records: &[Record]) -> Result<Search, Refusal> {
+    let (size, components, place) = match records {
+        [size, components @ .., place] => (size, components, place),
+        _ => return Err(Refusal::plain(Refusal::SAVED_LENGTH)),
+    };
+    let search = Search {
+        template: Template {
+            components: components.iter().map(read_component).collect(),
+        },
+        quorum: size.number(2, 3),
+        sequences: size.number(4, 5) as u32,
+        letters: size.number(8, 11) as u32,
+        place: Place {
+            letters: place.number(1, 1) as u8,
+            number: place.number(8, 15),
+        },
+    };
+    search.template.check_number_of_components()?;
+
+    let mut keep_layout = size.0 == size_record(&search).0;
+    for ((number, record), component) in (1..).zip(components).zip(&search.template.components) {
+        keep_layout &= record.0 == component_record(number, component).0;
+    }
+    keep_layout &= place.0 == place_record(&search.place).0;
+    if keep_layout {
+        Ok(search)
+    } else {
+        Err(Refusal::plain(Refusal::RECORD))
+    }
+}
+
+/// "2: length; 4-5 l; 6-7 u"
+fn read_component(record: &Record) -> Component {
+    Component {
+        length: record.number(2, 2) as u8,
+        low: record.number(4, 5) as u16,
+        high: record.number(6, 7) as u16,
+    }
+}
