@@ -6,3 +6,4 @@ pub mod Legs
 pub mod Candidates
 pub mod Plain
 pub mod Relay
+pub mod Passing
