@@ -1,5 +1,9 @@
 pub mod Lists
 pub mod Members
+pub mod Stands
+pub mod Occurs
+pub mod OccurrenceOrder
+pub mod Ways
 pub mod Step
 pub mod Whole
 pub mod Legs
@@ -7,3 +11,8 @@ pub mod Candidates
 pub mod Plain
 pub mod Relay
 pub mod Passing
+pub mod Verdicts
+pub mod EachCheck
+pub mod Sound
+pub mod Places
+pub mod Relayed

@@ -1,0 +1,146 @@
+-- What each check says, by its number: a check is fine exactly if its sentence holds of the numbers. Each is a test that
+-- refuses, or a search for the first bad one of a list.
+use mathlib.Core.Path.{_≡_, refl}
+use mathlib.Core.Logic.{_↔_, Iff·rfl, Iff·trans}
+use mathlib.Core.Bool.{Bool, true, false, _&&_, not}
+use mathlib.Core.List.{List}
+use Prim.Native.Nat.{ℕ, zero, suc, _+_, _^_, _≤_, _<_}
+use native.Mathlib.Omega.{arith}
+use lib.Dec.{ltb, eqb}
+use lib.ListN.{length, getD}
+use borrow.Author.Tests.{ltb-false, le-ltb, leb-false, lt-leb, eqb-true, eq-eqb, ne-eqb}
+use Rattle.rules.specs.Join.{rising?}
+use Rattle.rules.specs.Letters.{letter?}
+use Rattle.rules.specs.Limits.{Letter-BASES, Template-COMPONENTS, Template-LENGTH, Template-LETTERS, Template-GAP, SequenceSet-SEQUENCES, SequenceSet-LETTERS}
+use Rattle.rules.specs.Lists.{sum}
+use Rattle.rules.specs.Recovery.{whole-list}
+use Rattle.rules.specs.Refusals.{refuse-if, bad-byte, bad-length, bad-range, bad-gap, check1, check2, check3, check4, check5, check6, check7, check8, check9, check10, check11, check11-place, check12, passes?, check13, check14, check15, check6-head, check8-range, check16, check17}
+use Rattle.rules.specs.Saved.{sized?, laid-out?, place-rule?}
+use Rattle.rules.specs.Sequences.{sequences}
+use Rattle.rules.specs.Template.{slots, none, components, size}
+use Rattle.rules.specs.Told.{fine}
+use Rattle.rules.specs.declared.Component.{Component}
+use Rattle.rules.specs.declared.Search.{Search}
+use Rattle.rules.specs.declared.Template.{Template}
+use Rattle.rules.proofs.Verdicts.{neither, both, not-false, inside, refuse-if-fine, refuse-at-fine, none-bad, all-good, none-bad-in, all-good-in}
+
+not-less : (a b : ℕ) → (ltb a b ≡ false) ↔ (b ≤ a)
+not-less a b = (ltb-false a b, le-ltb a b)
+
+same : (a b : ℕ) → (eqb a b ≡ true) ↔ (a ≡ b)
+same a b = (eqb-true a b, eq-eqb a b)
+
+-- two tests, of which each says something
+two : {P Q : Type 0} (a b : Bool) → (a ≡ true) ↔ P → (b ≡ true) ↔ Q → (a && b ≡ true) ↔ (P × Q)
+two a b p q = (λ e. let h = both a b .0 e in (p .0 (h .0), q .0 (h .1)), λ h. both a b .1 (p .1 (h .0), q .1 (h .1)))
+
+-- a check whose test says nothing against P
+says : {P : Type 0} (b : Bool) (n : ℕ) → (b ≡ false) ↔ P → (refuse-if b n ≡ fine) ↔ P
+says b n = Iff·trans (refuse-if-fine b n)
+
+-- a check that wants a test to pass
+wants : {P : Type 0} (b : Bool) (n : ℕ) → (b ≡ true) ↔ P → (refuse-if (not b) n ≡ fine) ↔ P
+wants b n p = says (not b) n (Iff·trans (not-false b) p)
+
+range : (low high : ℕ) → (bad-range low high ≡ false) ↔ ((low ≤ high) × (high ≤ Template-GAP))
+range low high = (
+  λ e. let h = neither (ltb high low) (ltb Template-GAP high) .0 e in (ltb-false high low (h .0), ltb-false Template-GAP high (h .1)),
+  λ h. neither (ltb high low) (ltb Template-GAP high) .1 (le-ltb high low (h .0), le-ltb Template-GAP high (h .1)),
+)
+
+pub check1-fine : (lengths : List ℕ) → (check1 lengths ≡ fine) ↔ ((1 ≤ length lengths) × (length lengths ≤ SequenceSet-SEQUENCES))
+unfolding check1
+check1-fine lengths = says _ 1 (inside 1 SequenceSet-SEQUENCES (length lengths))
+
+pub check2-fine : (letters : List ℕ) → (check2 letters ≡ fine) ↔ (length letters ≤ SequenceSet-LETTERS)
+unfolding check2
+check2-fine letters = says _ 2 (not-less SequenceSet-LETTERS (length letters))
+
+pub check3-fine : (letters lengths : List ℕ) → (check3 letters lengths ≡ fine) ↔ (sum lengths ≡ length letters)
+unfolding check3
+check3-fine letters lengths = wants _ 3 (same (sum lengths) (length letters))
+
+pub check4-fine : (letters : List ℕ) → (check4 letters ≡ fine) ↔ ((i : ℕ) → i < length letters → letter? (getD letters i 0) ≡ true)
+unfolding check4
+check4-fine letters = (λ e i h. not-false _ .0 (none-bad 4 bad-byte 0 0 letters e i h), λ f. all-good 4 bad-byte 0 0 letters (λ i h. not-false _ .1 (f i h)))
+
+module _ (t : Template) where
+  pub check5-fine : (check5 t ≡ fine) ↔ ((1 ≤ t .count) × (t .count ≤ Template-COMPONENTS))
+  unfolding check5
+  check5-fine = says _ 5 (inside 1 Template-COMPONENTS (t .count))
+
+  pub check7-fine : (check7 t ≡ fine) ↔ (size t ≤ Template-LETTERS)
+  unfolding check7
+  check7-fine = says _ 7 (not-less Template-LETTERS (size t))
+
+  module _ (few : t .count ≤ Template-COMPONENTS) where
+    pub check6-fine : (check6 t ≡ fine) ↔ ((i : ℕ) → i < t .count → (1 ≤ getD (slots t) i none .length) × (getD (slots t) i none .length ≤ Template-LENGTH))
+    unfolding check6 components
+    check6-fine = (
+      λ e i h. inside 1 Template-LENGTH _ .0 (none-bad-in 6 bad-length none 1 (t .count) (slots t) few e i h),
+      λ f. all-good-in 6 bad-length none 1 (t .count) (slots t) few (λ i h. inside 1 Template-LENGTH _ .1 (f i h)),
+    )
+
+    -- of a first component's range
+    first-gap : (i : ℕ) (c : Component) → (eqb (i + 1) 1 && not (eqb (c .low) 0 && eqb (c .high) 0) ≡ false) ↔ (i ≡ 0 → (c .low ≡ 0) × (c .high ≡ 0))
+    first-gap zero c = let z = Iff·trans (not-false _) (two _ _ (same (c .low) 0) (same (c .high) 0)) in (λ e q. z .0 e, λ f. z .1 (f refl))
+    first-gap (suc i) c = (λ e q. absurd (omega arith), λ f. rw (ne-eqb (suc i + 1) 1 (omega arith)))
+
+    pub check8-fine : (check8 t ≡ fine)
+        ↔ ((i : ℕ) → i < t .count → (getD (slots t) i none .low ≤ getD (slots t) i none .high) × (getD (slots t) i none .high ≤ Template-GAP)
+        × (i ≡ 0 → (getD (slots t) i none .low ≡ 0) × (getD (slots t) i none .high ≡ 0)))
+    unfolding check8 components
+    check8-fine = (
+      λ e i h. let b = neither _ _ .0 (none-bad-in 8 bad-gap none 1 (t .count) (slots t) few e i h) in let r = range _ _ .0 (b .0) in
+          (r .0, r .1, first-gap i (getD (slots t) i none) .0 (b .1)),
+      λ f. all-good-in 8 bad-gap none 1 (t .count) (slots t) few (λ i h. let r = f i h in
+          neither _ _ .1 (range _ _ .1 (r .0, r .1), first-gap i (getD (slots t) i none) .1 (r .2))),
+    )
+
+pub check9-fine : (lengths : List ℕ) (q : ℕ) → (check9 lengths q ≡ fine) ↔ ((1 ≤ q) × (q ≤ length lengths))
+unfolding check9
+check9-fine lengths q = says _ 9 (inside 1 (length lengths) q)
+
+pub check10-fine : (bs : List ℕ) → (check10 bs ≡ fine) ↔ (sized? bs ≡ true)
+unfolding check10
+check10-fine bs = wants _ 10 Iff·rfl
+
+pub check11-fine : (bs : List ℕ) → (check11 bs ≡ fine) ↔ (laid-out? bs ≡ true)
+unfolding check11
+check11-fine bs = wants _ 11 Iff·rfl
+
+pub check11-place-fine : (s : Search) → (check11-place s ≡ fine) ↔ (place-rule? (s .template) (s .place) ≡ true)
+unfolding check11-place
+check11-place-fine s = wants _ 11 Iff·rfl
+
+pub check12-fine : (letters lengths : List ℕ) (s : Search) → (check12 letters lengths s ≡ fine) ↔ ((s .set .sequences ≡ length lengths) × (s .set .letters ≡ length letters))
+unfolding check12
+check12-fine letters lengths s = wants _ 12 (two _ _ (same (s .set .sequences) (length lengths)) (same (s .set .letters) (length letters)))
+
+pub check13-fine : (letters lengths : List ℕ) (s : Search) → (check13 letters lengths s ≡ fine) ↔ (passes? letters lengths s ≡ true)
+unfolding check13
+check13-fine letters lengths s = wants _ 13 Iff·rfl
+
+pub check14-fine : (t : Template) (m : ℕ) → (check14 t m ≡ fine) ↔ (m < Letter-BASES ^ size t)
+unfolding check14
+check14-fine t m = says _ 14 (leb-false _ m, lt-leb _ m)
+
+pub check15-fine : (letters lengths : List ℕ) (t : Template) (m f : ℕ) → (check15 letters lengths t m f ≡ fine) ↔ (f ≤ length (whole-list t (sequences letters lengths) m))
+unfolding check15
+check15-fine letters lengths t m f = says _ 15 (not-less _ f)
+
+pub check6-head-fine : (head : ℕ) → (check6-head head ≡ fine) ↔ ((1 ≤ head) × (head ≤ Template-LENGTH))
+unfolding check6-head
+check6-head-fine head = Iff·trans (refuse-at-fine _ 6 1) (inside 1 Template-LENGTH head)
+
+pub check8-range-fine : (low high : ℕ) → (check8-range low high ≡ fine) ↔ ((low ≤ high) × (high ≤ Template-GAP))
+unfolding check8-range
+check8-range-fine low high = Iff·trans (refuse-at-fine _ 8 1) (range low high)
+
+pub check16-fine : (xs ys : List ℕ) → (check16 xs ys ≡ fine) ↔ ((rising? 0 xs ≡ true) × (rising? 0 ys ≡ true))
+unfolding check16
+check16-fine xs ys = wants _ 16 (both (rising? 0 xs) (rising? 0 ys))
+
+pub check17-fine : (needed : ℕ) (out : List ℕ) → (check17 needed out ≡ fine) ↔ (needed ≤ length out)
+unfolding check17
+check17-fine needed out = says _ 17 (not-less (length out) needed)

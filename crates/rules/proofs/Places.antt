@@ -1,0 +1,74 @@
+-- The place of a search that the checks accept is one that the uninterrupted search passes through; and at each such place
+-- the same search is accepted.
+use mathlib.Core.Path.{_≡_, refl, sym, ap, _∙_}
+use mathlib.Core.Logic.{_⊎_, inl, inr}
+use mathlib.Core.Bool.{Bool, true, false, _&&_, _||_}
+use mathlib.Core.List.{List}
+use Prim.Native.Nat.{ℕ, zero, suc, _+_, _^_, _≤_, _<_}
+use native.Mathlib.Omega.{arith}
+use lib.Dec.{eqb, leb, ltb}
+use lib.ListN.{length}
+use borrow.Author.Tests.{eqb-true, leb-true, ltb-true, le-leb, lt-ltb}
+use Rattle.rules.specs.Calls.{moved}
+use Rattle.rules.specs.Refusals.{passes?}
+use Rattle.rules.specs.Saved.{place-rule?}
+use Rattle.rules.specs.Sequences.{sequences}
+use Rattle.rules.specs.Template.{size}
+use Rattle.rules.specs.Walk.{Walk, place, ended-place, exact, candidate}
+use Rattle.rules.specs.declared.Place.{Place}
+use Rattle.rules.specs.declared.Search.{Search}
+use Rattle.rules.specs.declared.Template.{Template}
+use Rattle.rules.proofs.Candidates.{Candidate}
+use Rattle.rules.proofs.Passing.{Passing}
+use Rattle.rules.proofs.Sound.{SoundSearch}
+use Rattle.rules.proofs.Verdicts.{both}
+
+or-true : (b : Bool) → b || true ≡ true
+or-true true = refl
+or-true false = refl
+
+or-cases : (a b : Bool) → a || b ≡ true → (a ≡ true) ⊎ (b ≡ true)
+or-cases true b e = inl refl
+or-cases false b e = inr e
+
+same-place : (p q : Place) → p .letters ≡ q .letters → p .number ≡ q .number → p ≡ q
+same-place p q a b = λ i. record { letters = a i; number = b i }
+
+-- the walk of a search over some sequences
+abbrev pub walk-of : List ℕ → List ℕ → Search → Walk
+walk-of letters lengths s = exact (s .template) (s .quorum) (sequences letters lengths)
+
+-- the place rule holds wherever the search passes
+passing-rule : (t : Template) (quorum : ℕ) (ss : List (List ℕ)) (p : Place) → Passing (exact t quorum ss) p → place-rule? t p ≡ true
+unfolding place-rule? exact
+passing-rule t quorum ss p (inl e) = rw (e, le-leb 0 (size t) (omega arith))
+passing-rule t quorum ss p (inr c) = rw (le-leb (p .letters) (size t) (c .most)) (lt-ltb (p .number) _ (c .below))
+
+module _ (letters lengths : List ℕ) (s : Search) where
+  passing-passes : (p : Place) → Passing (walk-of letters lengths s) p → passes? letters lengths (moved s p) ≡ true
+  unfolding passes?
+  passing-passes p (inl e) = rw e
+  passing-passes p (inr c) = rw (c .is) (or-true (eqb (p .letters) 0 && eqb (p .number) 0))
+
+  -- an accepted search stands where the uninterrupted one passes
+  pub sound-passing : SoundSearch letters lengths s → Passing (walk-of letters lengths s) (s .place)
+  unfolding passes? place-rule? exact
+  sound-passing o = go (or-cases _ _ (o .passes))
+    where
+      go : (eqb (s .place .letters) 0 && eqb (s .place .number) 0 ≡ true) ⊎ (candidate (walk-of letters lengths s) (s .place .letters) (s .place .number) ≡ true) → Passing (walk-of letters lengths s) (s .place)
+      go (inl e) = let h = both _ _ .0 e in inl (same-place (s .place) ended-place (eqb-true _ 0 (h .0)) (eqb-true _ 0 (h .1)))
+      go (inr e) = let h = both _ _ .0 (o .place) in inr (record { most = leb-true _ _ (h .0); below = ltb-true _ _ (h .1); is = e })
+
+  -- and wherever that passes the search is accepted
+  pub moved-sound : SoundSearch letters lengths s → (p : Place) → Passing (walk-of letters lengths s) p → SoundSearch letters lengths (moved s p)
+  moved-sound o p c =
+      record {
+        set = o .set;
+        template = o .template;
+        place = passing-rule (s .template) (s .quorum) (sequences letters lengths) p c;
+        count = o .count;
+        total = o .total;
+        some = o .some;
+        most = o .most;
+        passes = passing-passes p c;
+      }
