@@ -2,18 +2,17 @@
 use mathlib.Core.Path.{_≡_, refl, sym, ap, _∙_, subst}
 use mathlib.Core.Logic.{_⊎_, inl, inr}
 use mathlib.Core.Bool.{Bool, true, false, _&&_, false≢true}
-use mathlib.Core.List.{List, [], _∷_, _++_, List·Memᴰ, List·Memᴰ·head, List·Memᴰ·tail, List·Memᴰ·not-nil, List·Memᴰ·eq-of-singleton, List·Memᴰ·cases-cons, Memᴰ·append-left, Memᴰ·append-right, List·Memᴰ·append-cases, head-eq-of-cons-eq, tail-eq-of-cons-eq, nil≢cons}
-use Prim.Native.Nat.{ℕ, zero, suc, _+_, _-_, _*_, _/_, _%_, _^_, _≤_, _<_}
+use mathlib.Core.List.{List, [], _∷_, _++_, List·Memᴰ, List·Memᴰ·head, List·Memᴰ·tail, List·Memᴰ·not-nil, List·Memᴰ·eq-of-singleton, List·Memᴰ·cases-cons, Memᴰ·append-right, head-eq-of-cons-eq, tail-eq-of-cons-eq, nil≢cons}
+use Prim.Native.Nat.{ℕ, zero, suc, _+_, _*_, _/_, _^_, _≤_, _<_}
 use native.Mathlib.Nat.{div-add-mod', mod-lt, pow-zero, pow-suc, mul-le-mul-right, div-lt-iff-lt-mul}
 use native.Mathlib.Omega.{arith}
-use lib.Dec.{ltb}
-use borrow.Author.Tests.{ltb-true, ltb-false}
-use Rattle.rules.specs.Lists.{run, if, keep, each}
+use Rattle.rules.specs.Lists.{if, each}
 use Rattle.rules.specs.Walk.{Walk, place, children, under, from, next, start, spelled, candidate}
 use Rattle.rules.specs.declared.Place.{Place}
+use Rattle.rules.proofs.Tests.{both}
 use Rattle.rules.proofs.Step.{block, whole, step-at, at-end}
 use Rattle.rules.proofs.Legs.{next-size, start-size}
-use Rattle.rules.proofs.Members.{and-both, each-in, each-out, keep-run-in, keep-run-out}
+use Rattle.rules.proofs.Members.{each-in, each-out, keep-run-in, keep-run-out}
 
 -- p is a candidate
 pub record Candidate (W : Walk) (p : Place) : Type 0 where
@@ -59,7 +58,7 @@ module _ (W : Walk) (pos : 1 ≤ W .base) where
 
   candidate-kid : (i n c : ℕ) → suc i ≤ depth → good i n ≡ true → spelled W i n ≡ true → n < base ^ i → List·Memᴰ c (children W i n) → Candidate W (place (suc i) c)
   unfolding candidate spelled
-  candidate-kid i n c h g s l k = let o = kid i n c s l k in let e = and-both (may (suc i) c) (spelled W i (c / base)) (o .spelt) in record { most = h; below = o .under; is = rw (e .0, o .of, s) g }
+  candidate-kid i n c h g s l k = let o = kid i n c s l k in let e = both (may (suc i) c) (spelled W i (c / base)) .0 (o .spelt) in record { most = h; below = o .under; is = rw (e .0, o .of, s) g }
 
   settle : (p q : Place) → Candidate W q → (p ≡ q) ⊎ Candidate W p → Candidate W p
   settle p q k (inl e) = subst (Candidate W) (sym e) k
@@ -101,7 +100,7 @@ module _ (W : Walk) (pos : 1 ≤ W .base) where
     unfolding spelled children
     visited zero m l b s g = let e : m ≡ 0 = omega (arith, pow-zero base) in rw e (self-in depth 0 0)
     visited (suc j) m l b s g =
-        let e = and-both (may (suc j) m) (spelled W j (m / base)) s in
+        let e = both (may (suc j) m) (spelled W j (m / base)) .0 s in
         let b′ : m / base < base ^ j = div-lt-iff-lt-mul {x = m} {y = base ^ j} pos .1 (rw pow-suc at b) in
         child depth 0 0 j (m / base) m (visited j (m / base) (omega arith) b′ (e .1) (hope j (m / base) g)) g (omega arith)
         (keep-run-in (may (suc j)) (m / base * base) base m (omega (arith, div-add-mod' m base)) (omega (arith, div-add-mod' m base, mod-lt m {m = base} pos)) (e .0))
@@ -117,7 +116,7 @@ module _ (W : Walk) (pos : 1 ≤ W .base) where
 
         go : (j m : ℕ) → j ≤ depth → m < base ^ j → candidate W j m ≡ true → List·Memᴰ (place j m) (from W (start W))
         go zero m l b e = absurd (false≢true e)
-        go (suc j) m l b e = let f = and-both (may (suc j) m) (spelled W j (m / base) && good j (m / base)) e in let g = and-both (spelled W j (m / base)) (good j (m / base)) (f .1) in
+        go (suc j) m l b e = let f = both (may (suc j) m) (spelled W j (m / base) && good j (m / base)) .0 e in let g = both (spelled W j (m / base)) (good j (m / base)) .0 (f .1) in
             in-tail j m (List·Memᴰ·cases-cons (rw (whole W pos deep root) at (visited (suc j) m l b (rw (f .0) (g .0)) (g .1))))
 
     pub only-candidates : (p : Place) → List·Memᴰ p (from W (start W)) → Candidate W p

@@ -22,7 +22,8 @@ use Rattle.rules.specs.Told.{fine}
 use Rattle.rules.specs.declared.Component.{Component}
 use Rattle.rules.specs.declared.Search.{Search}
 use Rattle.rules.specs.declared.Template.{Template}
-use Rattle.rules.proofs.Verdicts.{neither, both, not-false, inside, refuse-if-fine, refuse-at-fine, none-bad, all-good, none-bad-in, all-good-in}
+use Rattle.rules.proofs.Tests.{neither, both, not-false}
+use Rattle.rules.proofs.Verdicts.{inside, refuse-if-fine, refuse-at-fine, none-bad, all-good, none-bad-in, all-good-in}
 
 not-less : (a b : ℕ) → (ltb a b ≡ false) ↔ (b ≤ a)
 not-less a b = (ltb-false a b, le-ltb a b)
@@ -48,32 +49,39 @@ range low high = (
   λ h. neither (ltb high low) (ltb Template-GAP high) .1 (le-ltb high low (h .0), le-ltb Template-GAP high (h .1)),
 )
 
+-- 1: the number of sequences lies in its limits
 pub check1-fine : (lengths : List ℕ) → (check1 lengths ≡ fine) ↔ ((1 ≤ length lengths) × (length lengths ≤ SequenceSet-SEQUENCES))
 unfolding check1
 check1-fine lengths = says _ 1 (inside 1 SequenceSet-SEQUENCES (length lengths))
 
+-- 2: no more letters than there may be
 pub check2-fine : (letters : List ℕ) → (check2 letters ≡ fine) ↔ (length letters ≤ SequenceSet-LETTERS)
 unfolding check2
 check2-fine letters = says _ 2 (not-less SequenceSet-LETTERS (length letters))
 
+-- 3: the lengths add up to the buffer
 pub check3-fine : (letters lengths : List ℕ) → (check3 letters lengths ≡ fine) ↔ (sum lengths ≡ length letters)
 unfolding check3
 check3-fine letters lengths = wants _ 3 (same (sum lengths) (length letters))
 
+-- 4: every byte is a letter
 pub check4-fine : (letters : List ℕ) → (check4 letters ≡ fine) ↔ ((i : ℕ) → i < length letters → letter? (getD letters i 0) ≡ true)
 unfolding check4
 check4-fine letters = (λ e i h. not-false _ .0 (none-bad 4 bad-byte 0 0 letters e i h), λ f. all-good 4 bad-byte 0 0 letters (λ i h. not-false _ .1 (f i h)))
 
 module _ (t : Template) where
+  -- 5: the number of components lies in its limits
   pub check5-fine : (check5 t ≡ fine) ↔ ((1 ≤ t .count) × (t .count ≤ Template-COMPONENTS))
   unfolding check5
   check5-fine = says _ 5 (inside 1 Template-COMPONENTS (t .count))
 
+  -- 7: K is not above its limit
   pub check7-fine : (check7 t ≡ fine) ↔ (size t ≤ Template-LETTERS)
   unfolding check7
   check7-fine = says _ 7 (not-less Template-LETTERS (size t))
 
   module _ (few : t .count ≤ Template-COMPONENTS) where
+    -- 6: the length of each component lies in its limits
     pub check6-fine : (check6 t ≡ fine) ↔ ((i : ℕ) → i < t .count → (1 ≤ getD (slots t) i none .length) × (getD (slots t) i none .length ≤ Template-LENGTH))
     unfolding check6 components
     check6-fine = (
@@ -86,6 +94,7 @@ module _ (t : Template) where
     first-gap zero c = let z = Iff·trans (not-false _) (two _ _ (same (c .low) 0) (same (c .high) 0)) in (λ e q. z .0 e, λ f. z .1 (f refl))
     first-gap (suc i) c = (λ e q. absurd (omega arith), λ f. rw (ne-eqb (suc i + 1) 1 (omega arith)))
 
+    -- 8: each range is one, and the first component's is 0, 0
     pub check8-fine : (check8 t ≡ fine)
         ↔ ((i : ℕ) → i < t .count → (getD (slots t) i none .low ≤ getD (slots t) i none .high) × (getD (slots t) i none .high ≤ Template-GAP)
         × (i ≡ 0 → (getD (slots t) i none .low ≡ 0) × (getD (slots t) i none .high ≡ 0)))
@@ -97,14 +106,17 @@ module _ (t : Template) where
           neither _ _ .1 (range _ _ .1 (r .0, r .1), first-gap i (getD (slots t) i none) .1 (r .2))),
     )
 
+-- 9: the quorum is 1 to the number of sequences
 pub check9-fine : (lengths : List ℕ) (q : ℕ) → (check9 lengths q ≡ fine) ↔ ((1 ≤ q) × (q ≤ length lengths))
 unfolding check9
 check9-fine lengths q = says _ 9 (inside 1 (length lengths) q)
 
+-- 10: the bytes have the length that they say
 pub check10-fine : (bs : List ℕ) → (check10 bs ≡ fine) ↔ (sized? bs ≡ true)
 unfolding check10
 check10-fine bs = wants _ 10 Iff·rfl
 
+-- 11: they keep their layout; or, of a search, the place keeps its rule
 pub check11-fine : (bs : List ℕ) → (check11 bs ≡ fine) ↔ (laid-out? bs ≡ true)
 unfolding check11
 check11-fine bs = wants _ 11 Iff·rfl
@@ -113,22 +125,27 @@ pub check11-place-fine : (s : Search) → (check11-place s ≡ fine) ↔ (place-
 unfolding check11-place
 check11-place-fine s = wants _ 11 Iff·rfl
 
+-- 12: the search is over as many sequences and letters as are lent
 pub check12-fine : (letters lengths : List ℕ) (s : Search) → (check12 letters lengths s ≡ fine) ↔ ((s .set .sequences ≡ length lengths) × (s .set .letters ≡ length letters))
 unfolding check12
 check12-fine letters lengths s = wants _ 12 (two _ _ (same (s .set .sequences) (length lengths)) (same (s .set .letters) (length letters)))
 
+-- 13: the place is a candidate or the ended place
 pub check13-fine : (letters lengths : List ℕ) (s : Search) → (check13 letters lengths s ≡ fine) ↔ (passes? letters lengths s ≡ true)
 unfolding check13
 check13-fine letters lengths s = wants _ 13 Iff·rfl
 
+-- 14: the number is a motif's
 pub check14-fine : (t : Template) (m : ℕ) → (check14 t m ≡ fine) ↔ (m < Letter-BASES ^ size t)
 unfolding check14
 check14-fine t m = says _ 14 (leb-false _ m, lt-leb _ m)
 
+-- 15: the first row is not above the list's length
 pub check15-fine : (letters lengths : List ℕ) (t : Template) (m f : ℕ) → (check15 letters lengths t m f ≡ fine) ↔ (f ≤ length (whole-list t (sequences letters lengths) m))
 unfolding check15
 check15-fine letters lengths t m f = says _ 15 (not-less _ f)
 
+-- a join's 6 and 8: its head is a component's length, and its range is one
 pub check6-head-fine : (head : ℕ) → (check6-head head ≡ fine) ↔ ((1 ≤ head) × (head ≤ Template-LENGTH))
 unfolding check6-head
 check6-head-fine head = Iff·trans (refuse-at-fine _ 6 1) (inside 1 Template-LENGTH head)
@@ -137,10 +154,12 @@ pub check8-range-fine : (low high : ℕ) → (check8-range low high ≡ fine) �
 unfolding check8-range
 check8-range-fine low high = Iff·trans (refuse-at-fine _ 8 1) (range low high)
 
+-- 16: both lists rise
 pub check16-fine : (xs ys : List ℕ) → (check16 xs ys ≡ fine) ↔ ((rising? 0 xs ≡ true) × (rising? 0 ys ≡ true))
 unfolding check16
 check16-fine xs ys = wants _ 16 (both (rising? 0 xs) (rising? 0 ys))
 
+-- 17: there is room
 pub check17-fine : (needed : ℕ) (out : List ℕ) → (check17 needed out ≡ fine) ↔ (needed ≤ length out)
 unfolding check17
 check17-fine needed out = says _ 17 (not-less (length out) needed)

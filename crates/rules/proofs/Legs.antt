@@ -1,13 +1,13 @@
 -- A leg passes the candidates between its two places; legs laid end to end pass them all.
 use mathlib.Core.Path.{_≡_, refl, sym, ap, _∙_}
 use mathlib.Core.Bool.{Bool, true, false, _&&_, false≢true}
-use mathlib.Core.List.{List, [], _∷_, _++_, map, append-assoc, append-nil}
-use Prim.Native.Nat.{ℕ, zero, suc, _+_, _-_, _*_, _/_, _%_, _^_, _≤_, _<_}
+use mathlib.Core.List.{List, [], _∷_, _++_, append-assoc, append-nil}
+use Prim.Native.Nat.{ℕ, zero, suc, _+_, _/_, _≤_}
 use native.Mathlib.Omega.{arith}
 use lib.ListN.{length, length-append}
 use lib.Dec.{ltb, eqb}
-use borrow.Author.Tests.{eqb-true, eqb-false, eq-eqb, ne-eqb, ltb-true, ltb-false}
-use Rattle.rules.specs.Lists.{run, if, keep, each}
+use borrow.Author.Tests.{eqb-true, eqb-false, eq-eqb, ne-eqb, ltb-true}
+use Rattle.rules.specs.Lists.{if, keep}
 use Rattle.rules.specs.Walk.{Walk, place, children, later, choose, up, from, next, start, motif, listed}
 use Rattle.rules.specs.Legs.{Stop, ended, spent, full, ended?, Stretch, halt, then, on, Grant, leg, legs}
 use Rattle.rules.specs.declared.Place.{Place}

@@ -1,9 +1,13 @@
+-- The laws of the definitions, in the order in which they build on each other. `Demands` is the file to read first.
+pub mod Tests
 pub mod Lists
 pub mod Members
 pub mod Stands
 pub mod Occurs
 pub mod OccurrenceOrder
 pub mod Ways
+pub mod Prefix
+pub mod Bound
 pub mod Step
 pub mod Whole
 pub mod Legs
@@ -13,6 +17,19 @@ pub mod Relay
 pub mod Passing
 pub mod Verdicts
 pub mod EachCheck
+pub mod LaidOut
 pub mod Sound
+pub mod Wide
+pub mod Trimmed
+pub mod LowFirst
+pub mod Records
+pub mod RoundTrip
+pub mod Rewritten
+pub mod Truncated
+pub mod Saves
 pub mod Places
+pub mod Begins
 pub mod Relayed
+pub mod Completes
+pub mod OneAnswer
+pub mod Demands

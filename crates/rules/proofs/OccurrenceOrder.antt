@@ -23,7 +23,7 @@ run-rising a zero = tt
 run-rising a (suc n) = (λ y m. run-out (suc a) n y m .0, run-rising (suc a) n)
 
 -- and so do those of a run that pass a test
-keep-run-rising : (f : ℕ → Bool) (a n : ℕ) → Rising (keep f (run a n))
+pub keep-run-rising : (f : ℕ → Bool) (a n : ℕ) → Rising (keep f (run a n))
 unfolding keep run
 keep-run-rising f a zero = tt
 keep-run-rising f a (suc n) = go (f a) (keep-run-rising f (suc a) n)

@@ -1,17 +1,17 @@
 -- The places that a search passes through: its candidates, and the ended place. A step and a leg lead from one to another.
-use mathlib.Core.Path.{_≡_, refl, sym, ap, _∙_}
+use mathlib.Core.Path.{_≡_, refl, ap}
 use mathlib.Core.Logic.{_⊎_, inl, inr}
 use mathlib.Core.Bool.{Bool, true, false, _&&_}
 use mathlib.Core.List.{List, [], _∷_, List·Memᴰ}
-use Prim.Native.Nat.{ℕ, zero, suc, _+_, _-_, _*_, _/_, _%_, _^_, _≤_, _<_}
+use Prim.Native.Nat.{ℕ, zero, suc, _/_, _≤_}
 use native.Mathlib.Omega.{arith}
 use lib.Dec.{ltb, eqb}
-use borrow.Author.Tests.{eqb-true, eqb-false, ne-eqb}
+use borrow.Author.Tests.{eqb-false}
 use Rattle.rules.specs.Lists.{if}
-use Rattle.rules.specs.Walk.{Walk, place, ended-place, choose, children, later, up, next, start, from, motif}
-use Rattle.rules.specs.Legs.{Stop, ended, spent, full, Stretch, halt, then, leg}
+use Rattle.rules.specs.Walk.{Walk, ended-place, choose, children, later, up, next, start, from, motif}
+use Rattle.rules.specs.Legs.{leg}
 use Rattle.rules.specs.declared.Place.{Place}
-use Rattle.rules.proofs.Candidates.{Candidate, some, next-candidate, all-candidates, only-candidates}
+use Rattle.rules.proofs.Candidates.{Candidate, next-candidate, all-candidates, only-candidates}
 
 -- a place that the uninterrupted search passes through: a candidate, or the ended place
 abbrev pub Passing : Walk → Place → Type 0

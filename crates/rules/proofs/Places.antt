@@ -1,13 +1,12 @@
 -- The place of a search that the checks accept is one that the uninterrupted search passes through; and at each such place
 -- the same search is accepted.
-use mathlib.Core.Path.{_≡_, refl, sym, ap, _∙_}
+use mathlib.Core.Path.{_≡_}
 use mathlib.Core.Logic.{_⊎_, inl, inr}
-use mathlib.Core.Bool.{Bool, true, false, _&&_, _||_}
+use mathlib.Core.Bool.{true, _&&_}
 use mathlib.Core.List.{List}
-use Prim.Native.Nat.{ℕ, zero, suc, _+_, _^_, _≤_, _<_}
+use Prim.Native.Nat.{ℕ, _≤_}
 use native.Mathlib.Omega.{arith}
-use lib.Dec.{eqb, leb, ltb}
-use lib.ListN.{length}
+use lib.Dec.{eqb}
 use borrow.Author.Tests.{eqb-true, leb-true, ltb-true, le-leb, lt-ltb}
 use Rattle.rules.specs.Calls.{moved}
 use Rattle.rules.specs.Refusals.{passes?}
@@ -18,18 +17,9 @@ use Rattle.rules.specs.Walk.{Walk, place, ended-place, exact, candidate}
 use Rattle.rules.specs.declared.Place.{Place}
 use Rattle.rules.specs.declared.Search.{Search}
 use Rattle.rules.specs.declared.Template.{Template}
-use Rattle.rules.proofs.Candidates.{Candidate}
 use Rattle.rules.proofs.Passing.{Passing}
 use Rattle.rules.proofs.Sound.{SoundSearch}
-use Rattle.rules.proofs.Verdicts.{both}
-
-or-true : (b : Bool) → b || true ≡ true
-or-true true = refl
-or-true false = refl
-
-or-cases : (a b : Bool) → a || b ≡ true → (a ≡ true) ⊎ (b ≡ true)
-or-cases true b e = inl refl
-or-cases false b e = inr e
+use Rattle.rules.proofs.Tests.{both, or-cases, or-true}
 
 same-place : (p q : Place) → p .letters ≡ q .letters → p .number ≡ q .number → p ≡ q
 same-place p q a b = λ i. record { letters = a i; number = b i }
@@ -39,13 +29,14 @@ abbrev pub walk-of : List ℕ → List ℕ → Search → Walk
 walk-of letters lengths s = exact (s .template) (s .quorum) (sequences letters lengths)
 
 -- the place rule holds wherever the search passes
-passing-rule : (t : Template) (quorum : ℕ) (ss : List (List ℕ)) (p : Place) → Passing (exact t quorum ss) p → place-rule? t p ≡ true
+pub passing-rule : (t : Template) (quorum : ℕ) (ss : List (List ℕ)) (p : Place) → Passing (exact t quorum ss) p → place-rule? t p ≡ true
 unfolding place-rule? exact
 passing-rule t quorum ss p (inl e) = rw (e, le-leb 0 (size t) (omega arith))
 passing-rule t quorum ss p (inr c) = rw (le-leb (p .letters) (size t) (c .most)) (lt-ltb (p .number) _ (c .below))
 
 module _ (letters lengths : List ℕ) (s : Search) where
-  passing-passes : (p : Place) → Passing (walk-of letters lengths s) p → passes? letters lengths (moved s p) ≡ true
+  -- so does the test of 13
+  pub passing-passes : (p : Place) → Passing (walk-of letters lengths s) p → passes? letters lengths (moved s p) ≡ true
   unfolding passes?
   passing-passes p (inl e) = rw e
   passing-passes p (inr c) = rw (c .is) (or-true (eqb (p .letters) 0 && eqb (p .number) 0))
@@ -72,3 +63,8 @@ module _ (letters lengths : List ℕ) (s : Search) where
         most = o .most;
         passes = passing-passes p c;
       }
+
+  -- its place has at most K letters
+  pub place-deep : SoundSearch letters lengths s → s .place .letters ≤ (walk-of letters lengths s) .depth
+  unfolding place-rule? exact
+  place-deep o = leb-true _ _ (both _ _ .0 (o .place) .0)

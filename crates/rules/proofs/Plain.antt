@@ -1,16 +1,15 @@
 -- What the laws say where every letter may follow every prefix: the step is the paper's, and each good prefix has `base`
 -- candidates under it.
 use mathlib.Core.Path.{_≡_, refl, sym, ap, _∙_}
-use mathlib.Core.Bool.{Bool, true, false, _&&_}
+use mathlib.Core.Bool.{Bool, true, false}
 use mathlib.Core.List.{List, [], _∷_}
-use Prim.Native.Nat.{ℕ, zero, suc, _+_, _-_, _*_, _/_, _%_, _^_, _≤_, _<_}
-use native.Mathlib.Nat.{mod-lt}
+use Prim.Native.Nat.{ℕ, zero, suc, _-_, _*_, _/_, _%_, _^_, _≤_}
 use native.Mathlib.Omega.{arith}
 use lib.ListN.{length, length-append}
 use lib.Dec.{ltb}
 use borrow.Author.Tests.{ltb-true, ltb-false}
 use Rattle.rules.specs.Lists.{run, if, keep, each}
-use Rattle.rules.specs.Walk.{Walk, place, choose, children, later, up, from, start, spelled, candidate, motifs, tries, goods}
+use Rattle.rules.specs.Walk.{Walk, place, choose, children, later, up, start, spelled, candidate, motifs, tries, goods}
 use Rattle.rules.proofs.Lists.{keep-same, length-run}
 use Rattle.rules.proofs.Whole.{level-keep}
 

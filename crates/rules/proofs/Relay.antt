@@ -1,17 +1,12 @@
 -- Legs laid end to end; and what the laws say where every letter may follow every prefix.
-use mathlib.Core.Path.{_≡_, refl, sym, ap, _∙_}
-use mathlib.Core.Bool.{Bool, true, false, _&&_}
-use mathlib.Core.List.{List, [], _∷_}
-use Prim.Native.Nat.{ℕ, zero, suc, _+_, _-_, _*_, _/_, _%_, _^_, _≤_, _<_}
-use native.Mathlib.Nat.{mod-lt}
+use mathlib.Core.Path.{_≡_, _∙_}
+use mathlib.Core.Bool.{true}
+use mathlib.Core.List.{List}
+use Prim.Native.Nat.{ℕ, suc, _/_, _≤_}
 use native.Mathlib.Omega.{arith}
-use lib.ListN.{length, length-append}
-use lib.Dec.{ltb}
-use borrow.Author.Tests.{ltb-true, ltb-false}
-use Rattle.rules.specs.Lists.{run, if, keep, each}
-use Rattle.rules.specs.Walk.{Walk, place, choose, children, later, up, from, start, spelled, candidate, motifs, tries, goods}
-use Rattle.rules.specs.Legs.{ended, Stretch, Grant, legs}
-use Rattle.rules.proofs.Lists.{keep-same, length-run}
+use lib.ListN.{length}
+use Rattle.rules.specs.Walk.{Walk, start, motifs, tries}
+use Rattle.rules.specs.Legs.{ended, Grant, legs}
 use Rattle.rules.proofs.Whole.{lists, tried}
 use Rattle.rules.proofs.Legs.{Ample, ended-all, legs-end, start-size}
 

@@ -1,43 +1,39 @@
 -- Legs with a save and a restore between them are legs laid end to end: what a leg leaves can be saved, and the save restores
 -- to it. So the laws of `Relay` hold of them.
-use mathlib.Core.Path.{_≡_, refl, sym, ap, _∙_}
-use mathlib.Core.Logic.{_⊎_, inl, inr, _↔_}
-use mathlib.Core.Bool.{Bool, true, false, _&&_}
-use mathlib.Core.List.{List, [], _∷_, _++_, map, map-append}
-use Prim.Native.Nat.{ℕ, zero, suc, _+_, _*_, _/_, _^_, _≤_, _<_, min}
+use mathlib.Core.Path.{_≡_, refl, ap, _∙_}
+use mathlib.Core.Bool.{Bool, true, false}
+use mathlib.Core.List.{List, [], _∷_, map, map-append}
+use Prim.Native.Nat.{ℕ, _+_, _*_, _≤_, min}
 use native.Mathlib.Omega.{arith}
-use lib.Dec.{eqb}
 use lib.ListN.{length, take, length-map}
 use lib.Seq.{take-append-seam}
-use Rattle.rules.specs.Calls.{LegRule, moved, stretch, supports-of, weights-of, motif-parts, leg-rule, Written, save-rule, restore-rule}
-use Rattle.rules.specs.Legs.{Stop, ended, spent, full, ended?, Stretch, halt, on, Grant, grant, leg, legs}
-use Rattle.rules.specs.Limits.{Record-BYTES, Template-COMPONENTS}
+use Rattle.rules.specs.Calls.{LegRule, moved, stretch, supports-of, weights-of, leg-rule, Written, save-rule}
+use Rattle.rules.specs.Legs.{Stop, ended, spent, full, ended?, Stretch, on, Grant, grant, leg, legs}
+use Rattle.rules.specs.Limits.{Record-BYTES, Record-EXTRA, Template-COMPONENTS}
 use Rattle.rules.specs.Lists.{if, put}
-use Rattle.rules.specs.Refusals.{first, search-checks, save-checks}
-use Rattle.rules.specs.Relay.{Lent, Relayed, stand, alone, followed, go-on, restored, after, relay}
+use Rattle.rules.specs.Refusals.{first, search-checks}
+use Rattle.rules.specs.Relay.{Lent, Roomy, Relayed, alone, followed, go-on, restored, after, relay}
 use Rattle.rules.specs.Saved.{bytes}
 use Rattle.rules.specs.Sequences.{sequences}
-use Rattle.rules.specs.Template.{trimmed, size}
-use Rattle.rules.specs.Told.{Told, gives, refuses, Verdict, fine, refused}
+use Rattle.rules.specs.Template.{trimmed}
+use Rattle.rules.specs.Told.{Told, gives, fine}
 use Rattle.rules.specs.declared.Place.{Place}
 use Rattle.rules.specs.declared.Search.{Search}
 use Rattle.rules.proofs.Passing.{Passing, passing-leg}
 use Rattle.rules.proofs.Places.{walk-of, sound-passing, moved-sound}
-use Rattle.rules.proofs.Sound.{SoundSearch, search-sound, search-fine, save-fine}
+use Rattle.rules.proofs.Prefix.{exact-anti, exact-root, exact-pos, exact-deep}
+use Rattle.rules.proofs.Records.{bytes-counted}
+use Rattle.rules.proofs.Saves.{restore-saved}
+use Rattle.rules.proofs.Sound.{SoundSearch, search-fine, save-fine}
 
 -- a table's front is what was written to it
-put-front : {A : Type 0} (n : ℕ) (xs table : List A) → length xs ≡ n → take n (put xs table) ≡ xs
+pub put-front : {A : Type 0} (n : ℕ) (xs table : List A) → length xs ≡ n → take n (put xs table) ≡ xs
 unfolding put
 put-front n xs table e = rw (← e) (take-append-seam xs _)
 
 -- what a leg may use of what it is lent
 abbrev pub granted : Lent → Grant
 granted g = grant (g .budget) (min (length (g .motifs)) (min (length (g .supports)) (length (g .weights))))
-
--- each buffer has room for a save
-abbrev pub Roomy : List Lent → Type 0
-Roomy [] = Unit {0}
-Roomy (g ∷ gs) = (Record-BYTES * (Template-COMPONENTS + 2) ≤ length (g .buffer)) × Roomy gs
 
 -- a stretch of the walk with its rows' supports and weights
 abbrev pub rows-of : List ℕ → List ℕ → Search → Stretch → Relayed
@@ -85,61 +81,68 @@ module _ (letters lengths : List ℕ) where
   unfolding leg-rule stretch
   leg-answers s g e = rw e
 
-  module _ (back : (s : Search) → first (search-checks letters lengths s) ≡ fine → trimmed (s .template) ≡ s .template → restore-rule letters lengths (bytes s) ≡ gives s)
-      (short : (s : Search) → SoundSearch letters lengths s → length (bytes s) ≤ Record-BYTES * (Template-COMPONENTS + 2)) where
-    -- what is saved into a buffer with room restores to the search
-    pub saved-restores : (s : Search) (buffer : List ℕ) → SoundSearch letters lengths s → trimmed (s .template) ≡ s .template → Record-BYTES * (Template-COMPONENTS + 2) ≤ length buffer
-        → restored letters lengths ((save-rule letters lengths s buffer) .told) ((save-rule letters lengths s buffer) .out) ≡ gives s
-    unfolding save-rule
-    saved-restores s buffer o t h =
-        rw (save-fine letters lengths s buffer o (omega (arith, short s o)), put-front (length (bytes s)) (bytes s) buffer refl)
-        (back s (search-fine letters lengths s o) t)
+  -- a save is never longer than eight records
+  save-short : (s : Search) → SoundSearch letters lengths s → length (bytes s) ≤ Record-BYTES * (Template-COMPONENTS + Record-EXTRA)
+  save-short s o = omega (arith, bytes-counted s (o .template .few), o .template .few)
 
-    -- one stretch after another, with their rows
-    rows-on : (s : Search) (k l : Stretch) → followed (rows-of letters lengths s k) (rows-of letters lengths s l) ≡ rows-of letters lengths s (on k l)
-    unfolding supports-of weights-of
-    rows-on s k l = rw (map-append _ (k .motifs) (l .motifs), map-append _ (k .motifs) (l .motifs))
+  -- a leg leads from a place that the search passes through to another
+  leg-passing : (s : Search) → SoundSearch letters lengths s → (b r : ℕ) (p : Place) → Passing (walk-of letters lengths s) p → Passing (walk-of letters lengths s) ((leg (walk-of letters lengths s) b r p) .at)
+  leg-passing s o =
+      let t = s .template in let q = s .quorum in let ss = sequences letters lengths in
+      passing-leg (walk-of letters lengths s) (exact-pos t q ss) (exact-anti t q ss) (exact-deep t q ss (o .template)) (exact-root t q ss)
 
-    module _ (pass : (s : Search) → SoundSearch letters lengths s → (b r : ℕ) (p : Place) → Passing (walk-of letters lengths s) p → Passing (walk-of letters lengths s) ((leg (walk-of letters lengths s) b r p) .at)) where
-      -- legs with saves and restores between them are legs laid end to end
-      pub relay-legs : (gs : List Lent) (s : Search) → SoundSearch letters lengths s → trimmed (s .template) ≡ s .template → Roomy gs
-          → relay letters lengths gs s ≡ rows-of letters lengths s (legs (walk-of letters lengths s) (map granted gs) (s .place))
-      unfolding relay legs supports-of weights-of
-      relay-legs [] s o t h = refl
-      relay-legs (g ∷ gs) s o t h = after-stop (r .told .answer) (l .stop) (alone r) more (leg-answers s g e) ∙ go (ended? (l .stop)) (λ o′. relay-legs gs (moved s (l .at)) o′ t (h .1))
-        where
-          l : Stretch
-          l = leg (walk-of letters lengths s) (granted g .budget) (granted g .room) (s .place)
+  -- what is saved into a buffer with room restores to the search
+  pub saved-restores : (s : Search) (buffer : List ℕ) → SoundSearch letters lengths s → trimmed (s .template) ≡ s .template → Record-BYTES * (Template-COMPONENTS + Record-EXTRA) ≤ length buffer
+      → restored letters lengths ((save-rule letters lengths s buffer) .told) ((save-rule letters lengths s buffer) .out) ≡ gives s
+  unfolding save-rule
+  saved-restores s buffer o t h =
+      rw (save-fine letters lengths s buffer o (omega (arith, save-short s o)), put-front (length (bytes s)) (bytes s) buffer refl)
+      (restore-saved letters lengths s (search-fine letters lengths s o) t)
 
-          r : LegRule
-          r = leg-rule letters lengths s (g .budget) (g .motifs) (g .supports) (g .weights)
+  -- one stretch after another, with their rows
+  rows-on : (s : Search) (k l : Stretch) → followed (rows-of letters lengths s k) (rows-of letters lengths s l) ≡ rows-of letters lengths s (on k l)
+  unfolding supports-of weights-of
+  rows-on s k l = rw (map-append _ (k .motifs) (l .motifs), map-append _ (k .motifs) (l .motifs))
 
-          e : first (search-checks letters lengths s) ≡ fine
-          e = search-fine letters lengths s o
+  -- legs with saves and restores between them are legs laid end to end
+  pub relay-legs : (gs : List Lent) (s : Search) → SoundSearch letters lengths s → trimmed (s .template) ≡ s .template → Roomy gs
+      → relay letters lengths gs s ≡ rows-of letters lengths s (legs (walk-of letters lengths s) (map granted gs) (s .place))
+  unfolding relay legs supports-of weights-of
+  relay-legs [] s o t h = refl
+  relay-legs (g ∷ gs) s o t h = after-stop (r .told .answer) (l .stop) (alone r) more (leg-answers s g e) ∙ go (ended? (l .stop)) (λ o′. relay-legs gs (moved s (l .at)) o′ t (h .1))
+    where
+      l : Stretch
+      l = leg (walk-of letters lengths s) (granted g .budget) (granted g .room) (s .place)
 
-          left : SoundSearch letters lengths (moved s (l .at))
-          left = moved-sound letters lengths s o (l .at) (pass s o (granted g .budget) (granted g .room) (s .place) (sound-passing letters lengths s o))
+      r : LegRule
+      r = leg-rule letters lengths s (g .budget) (g .motifs) (g .supports) (g .weights)
 
-          x : Stretch
-          x = legs (walk-of letters lengths s) (map granted gs) (l .at)
+      e : first (search-checks letters lengths s) ≡ fine
+      e = search-fine letters lengths s o
 
-          w : Written ℕ
-          w = save-rule letters lengths (r .told .search) (g .buffer)
+      left : SoundSearch letters lengths (moved s (l .at))
+      left = moved-sound letters lengths s o (l .at) (leg-passing s o (granted g .budget) (granted g .room) (s .place) (sound-passing letters lengths s o))
 
-          more : Relayed
-          more = go-on (restored letters lengths (w .told) (w .out)) (relay letters lengths gs)
+      x : Stretch
+      x = legs (walk-of letters lengths s) (map granted gs) (l .at)
 
-          more-is : relay letters lengths gs (moved s (l .at)) ≡ rows-of letters lengths s x → more ≡ rows-of letters lengths s x
-          more-is q = rw (leg-leaves s g e, saved-restores (moved s (l .at)) (g .buffer) left t (h .0)) q
+      w : Written ℕ
+      w = save-rule letters lengths (r .told .search) (g .buffer)
 
-          -- what is left after the leg
-          goes-on : (SoundSearch letters lengths (moved s (l .at)) → relay letters lengths gs (moved s (l .at)) ≡ rows-of letters lengths s x) → followed (alone r) more ≡ rows-of letters lengths s (on l x)
-          goes-on ih =
-              ap (λ k. followed k more) (leg-alone s g e)
-              ∙ ap (followed (rows-of letters lengths s l)) (more-is (ih left))
-              ∙ rows-on s l x
+      more : Relayed
+      more = go-on (restored letters lengths (w .told) (w .out)) (relay letters lengths gs)
 
-          go : (b : Bool) → (SoundSearch letters lengths (moved s (l .at)) → relay letters lengths gs (moved s (l .at)) ≡ rows-of letters lengths s x)
-              → if b (alone r) (followed (alone r) more) ≡ rows-of letters lengths s (if b l (on l x))
-          go true ih = leg-alone s g e
-          go false ih = goes-on ih
+      more-is : relay letters lengths gs (moved s (l .at)) ≡ rows-of letters lengths s x → more ≡ rows-of letters lengths s x
+      more-is q = rw (leg-leaves s g e, saved-restores (moved s (l .at)) (g .buffer) left t (h .0)) q
+
+      -- what is left after the leg
+      goes-on : (SoundSearch letters lengths (moved s (l .at)) → relay letters lengths gs (moved s (l .at)) ≡ rows-of letters lengths s x) → followed (alone r) more ≡ rows-of letters lengths s (on l x)
+      goes-on ih =
+          ap (λ k. followed k more) (leg-alone s g e)
+          ∙ ap (followed (rows-of letters lengths s l)) (more-is (ih left))
+          ∙ rows-on s l x
+
+      go : (b : Bool) → (SoundSearch letters lengths (moved s (l .at)) → relay letters lengths gs (moved s (l .at)) ≡ rows-of letters lengths s x)
+          → if b (alone r) (followed (alone r) more) ≡ rows-of letters lengths s (if b l (on l x))
+      go true ih = leg-alone s g e
+      go false ih = goes-on ih

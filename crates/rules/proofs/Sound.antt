@@ -1,16 +1,15 @@
 -- What the checks give: each call's checks pass exactly if what it is given is sound. None of a list refuses exactly if
 -- each is fine, and EachCheck.antt has what each says.
 use mathlib.Core.Path.{_≡_, refl}
-use mathlib.Core.Bool.{true, _&&_}
+use mathlib.Core.Bool.{true}
 use mathlib.Core.List.{List, [], _∷_}
-use Prim.Native.Nat.{ℕ, suc, _^_, _≤_, _<_}
-use lib.Dec.{eqb}
+use Prim.Native.Nat.{ℕ, _^_, _≤_, _<_}
 use lib.ListN.{length}
 use Rattle.rules.specs.Join.{rising?}
 use Rattle.rules.specs.Limits.{Letter-BASES, Template-LENGTH, Template-GAP}
 use Rattle.rules.specs.Recovery.{whole-list}
 use Rattle.rules.specs.Refusals.{first, check5, check6, check7, check8, check9, check10, check11, check11-place, passes?, check14, check15, check17, set-checks, value-checks, new-checks, restore-checks, search-checks, save-checks, recover-checks, join-checks}
-use Rattle.rules.specs.Saved.{bytes, sized?, laid-out?, place-rule?, read-search, read-template, read-place, record-at, component-count, size-record?, component-records?, place-record?, field}
+use Rattle.rules.specs.Saved.{bytes, sized?, laid-out?, place-rule?, read-search}
 use Rattle.rules.specs.Sequences.{sequences}
 use Rattle.rules.specs.Sound.{SoundSet, SoundTemplate}
 use Rattle.rules.specs.Template.{size}
@@ -18,7 +17,8 @@ use Rattle.rules.specs.Told.{Verdict, fine}
 use Rattle.rules.specs.declared.Search.{Search}
 use Rattle.rules.specs.declared.Template.{Template}
 use Rattle.rules.proofs.EachCheck.{check1-fine, check2-fine, check3-fine, check4-fine, check5-fine, check6-fine, check7-fine, check8-fine, check9-fine, check10-fine, check11-fine, check11-place-fine, check12-fine, check13-fine, check14-fine, check15-fine, check6-head-fine, check8-range-fine, check16-fine, check17-fine}
-use Rattle.rules.proofs.Verdicts.{both, first-both, none-of, Fine, all-fine}
+use Rattle.rules.proofs.LaidOut.{laid-out-says}
+use Rattle.rules.proofs.Verdicts.{first-both, none-of, Fine, all-fine}
 
 -- ---- the sequences and the template
 
@@ -126,6 +126,7 @@ module _ (letters lengths : List ℕ) where
     new-rest : List Verdict
     new-rest = check5 t ∷ check6 t ∷ check7 t ∷ check8 t ∷ check9 lengths quorum ∷ []
 
+    -- what 1 to 9 pass is sound, and back
     pub new-sound : first (new-checks letters lengths t quorum) ≡ fine → SoundNew letters lengths t quorum
     unfolding new-checks new-rest
     new-sound e =
@@ -145,6 +146,7 @@ module _ (letters lengths : List ℕ) where
     search-rest : List Verdict
     search-rest = check5 (s .template) ∷ check11-place s ∷ value-checks letters lengths s
 
+    -- a search that passes restore's order without 10 is sound, and back
     pub search-sound : first (search-checks letters lengths s) ≡ fine → SoundSearch letters lengths s
     unfolding search-checks search-rest
     search-sound e =
@@ -175,6 +177,7 @@ module _ (letters lengths : List ℕ) where
         first-both (set-checks letters lengths) search-rest .1
         (set-fine letters lengths (o .set), all-fine search-rest (fine5 (s .template) (o .template), (check11-place-fine s .1 (o .place), fine-value o)))
 
+    -- with 17 last there is room for the save, and back
     pub save-sound : (out : List ℕ) → first (save-checks letters lengths s out) ≡ fine → SoundSearch letters lengths s × (length (bytes s) ≤ length out)
     unfolding save-checks
     save-sound out e =
@@ -189,17 +192,10 @@ module _ (letters lengths : List ℕ) where
         first-both (search-checks letters lengths s) room .1 (search-fine o, all-fine room (check17-fine (length (bytes s)) out .1 l, tt))
 
   module _ (bs : List ℕ) where
-    -- the layout holds the place rule
-    laid-place : laid-out? bs ≡ true → place-rule? (read-search bs .template) (read-search bs .place) ≡ true
-    unfolding laid-out? read-search
-    laid-place e =
-        let n = component-count bs in
-        both (size-record? (record-at bs 0) && component-records? bs 1 n && place-record? (record-at bs (suc n)) && eqb (field (record-at bs 0) 6 2) (size (read-template bs)))
-        (place-rule? (read-template bs) (read-place (record-at bs (suc n)))) .0 e .1
-
     restore-rest : List Verdict
     restore-rest = check10 bs ∷ check5 (read-search bs .template) ∷ check11 bs ∷ value-checks letters lengths (read-search bs)
 
+    -- bytes that pass restore's order are sound, and back
     pub restore-sound : first (restore-checks letters lengths bs) ≡ fine → SoundBytes letters lengths bs
     unfolding restore-checks restore-rest
     restore-sound e =
@@ -215,7 +211,7 @@ module _ (letters lengths : List ℕ) where
           search = record {
             set = set-sound letters lengths (h .0);
             template = from-checks (s .template) (c 1) (c 3) (c 4) (c 5);
-            place = laid-place l;
+            place = (laid-out-says bs l) .rule;
             count = n .0;
             total = n .1;
             some = q .0;
@@ -236,6 +232,7 @@ module _ (letters lengths : List ℕ) where
     recover-rest : List Verdict
     recover-rest = check5 t ∷ check6 t ∷ check7 t ∷ check8 t ∷ check14 t m ∷ check15 letters lengths t m f ∷ []
 
+    -- what 1 to 8, 14 and 15 pass is sound, and back
     pub recover-sound : first (recover-checks letters lengths t m f) ≡ fine → SoundRecovery letters lengths t m f
     unfolding recover-checks recover-rest
     recover-sound e =
@@ -258,6 +255,7 @@ module _ (letters lengths : List ℕ) where
         )
 
 module _ (xs ys : List ℕ) (head low high : ℕ) (out : List ℕ) where
+  -- what 6, 8, 16 and 17 pass is sound, and back
   pub join-sound : first (join-checks xs ys head low high out) ≡ fine → SoundJoin xs ys head low high out
   unfolding join-checks
   join-sound e =

@@ -7,7 +7,7 @@ use native.Mathlib.Nat.{div-add-mod', mod-lt, div-eq-of-lt-le}
 use native.Mathlib.Omega.{arith}
 use lib.Dec.{ltb}
 use borrow.Author.Tests.{ltb-true, ltb-false}
-use Rattle.rules.specs.Lists.{run, if, keep, each}
+use Rattle.rules.specs.Lists.{if, each}
 use Rattle.rules.specs.Walk.{Walk, place, choose, children, later, under, onward, up, from, next, start}
 use Rattle.rules.specs.declared.Place.{Place}
 use Rattle.rules.proofs.Lists.{Tail, keep-tail, tail-from}

@@ -2,7 +2,7 @@
 -- the first bad one of a list, by index, as a loop makes it.
 use mathlib.Core.Path.{_≡_, refl, sym}
 use mathlib.Core.Logic.{_↔_}
-use mathlib.Core.Bool.{Bool, true, false, _&&_, _||_, not, false≢true}
+use mathlib.Core.Bool.{Bool, true, false, false≢true}
 use mathlib.Core.List.{List, [], _∷_, _++_}
 use Prim.Native.Nat.{ℕ, zero, suc, _+_, _≤_, _<_}
 use native.Mathlib.Nat.{add-right-comm, zero-add}
@@ -15,24 +15,11 @@ use borrow.Author.Tests.{ltb-false, le-ltb}
 use Rattle.rules.specs.Lists.{if}
 use Rattle.rules.specs.Refusals.{_else_, first, refuse-if, first-bad, outside}
 use Rattle.rules.specs.Told.{Verdict, fine, refused}
+use Rattle.rules.proofs.Tests.{neither}
 
--- TESTS. A refusal is not fine
+-- a refusal is not fine
 pub never : {A : Type 0} (n p : ℕ) → refused n p ≡ fine → A
 never n p e = let z : _≡_ {A = ℕ} 0 1 = cc in absurd (omega arith)
-
--- either of two tests fails to apply exactly if neither applies
-pub neither : (a b : Bool) → (a || b ≡ false) ↔ ((a ≡ false) × (b ≡ false))
-neither false b = (λ e. (refl, e), λ h. h .1)
-neither true b = (λ e. absurd (false≢true (sym e)), λ h. h .0)
-
--- both of two tests pass exactly if each does
-pub both : (a b : Bool) → (a && b ≡ true) ↔ ((a ≡ true) × (b ≡ true))
-both true b = (λ e. (refl, e), λ h. h .1)
-both false b = (λ e. absurd (false≢true e), λ h. h .0)
-
-pub not-false : (b : Bool) → (not b ≡ false) ↔ (b ≡ true)
-not-false true = (λ e. refl, λ e. refl)
-not-false false = (λ e. sym e, λ e. sym e)
 
 -- a number is not outside low to high exactly if it lies there
 pub inside : (low high x : ℕ) → (outside low high x ≡ false) ↔ ((low ≤ x) × (x ≤ high))
@@ -42,11 +29,13 @@ inside low high x = (
 )
 
 -- THE FIRST OF TWO
+-- the first of three does not depend on which two are taken together
 pub else-assoc : (u v w : Verdict) → (u else v) else w ≡ u else (v else w)
 unfolding _else_
 else-assoc fine v w = refl
 else-assoc (refused n p) v w = refl
 
+-- nothing found, first or last, changes nothing
 pub fine-else : (v : Verdict) → fine else v ≡ v
 unfolding _else_
 fine-else v = refl
@@ -63,6 +52,7 @@ else-both fine w = (λ e. (refl, e), λ h. h .1)
 else-both (refused n p) w = (λ e. never n p e, λ h. h .0)
 
 -- THE FIRST OF A LIST
+-- the first of two lists, one after the other, is the first of the first, or else of the second
 pub first-append : (us vs : List Verdict) → first (us ++ vs) ≡ first us else first vs
 unfolding first
 first-append [] vs = sym (fine-else (first vs))

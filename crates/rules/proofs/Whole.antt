@@ -2,16 +2,16 @@
 use mathlib.Core.Path.{_≡_, refl, sym, ap, _∙_}
 use mathlib.Core.Bool.{Bool, true, false, _&&_}
 use mathlib.Core.List.{List, [], _∷_, _++_, map, append-nil, map-append}
-use Prim.Native.Nat.{ℕ, zero, suc, _+_, _-_, _*_, _/_, _%_, _^_, _≤_, _<_}
-use native.Mathlib.Nat.{pow-zero, pow-suc, zero-mul}
+use Prim.Native.Nat.{ℕ, zero, suc, _+_, _*_, _/_, _^_, _≤_}
+use native.Mathlib.Nat.{pow-zero, pow-suc}
 use native.Mathlib.Omega.{arith}
 use lib.ListN.{length, length-append}
-use lib.Dec.{ltb, eqb}
 use borrow.Author.Tests.{eq-eqb, ne-eqb}
 use Rattle.rules.specs.Lists.{run, if, keep, each}
 use Rattle.rules.specs.Walk.{Walk, place, children, under, from, start, motif, listed, spelled, candidate, motifs, tries}
 use Rattle.rules.specs.declared.Place.{Place}
 use Rattle.rules.proofs.Lists.{keep-append, each-append, keep-each, keep-keep, each-each, each-same, each-keep, keep-same, keep-none, each-none, run-blocks}
+use Rattle.rules.proofs.Tests.{and-true, and-false}
 use Rattle.rules.proofs.Step.{block, whole}
 
 each-sum : {A B : Type 0} (F G : ℕ → List A) (W : ℕ → List ℕ) (g : ℕ → Bool) (f : ℕ → List B) (xs : List ℕ) → ((x : ℕ) → length (F x) ≡ length (G x) + length (each f (keep g (W x))))
@@ -29,14 +29,6 @@ each-one : {A : Type 0} (xs : List A) → each (λ x. x ∷ []) xs ≡ xs
 unfolding each
 each-one [] = refl
 each-one (x ∷ xs) = ap (λ l. x ∷ l) (each-one xs)
-
-pub and-true : (b : Bool) → b && true ≡ b
-and-true true = refl
-and-true false = refl
-
-and-false : (b : Bool) → b && false ≡ false
-and-false true = refl
-and-false false = refl
 
 module _ (W : Walk) where
   open Walk W using (base, may, good, depth)

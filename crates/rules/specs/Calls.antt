@@ -4,7 +4,7 @@ use mathlib.Core.List.{List, map}
 use Prim.Native.Nat.{ℕ, min}
 use lib.ListN.{length}
 use Rattle.rules.specs.Join.{partnered}
-use Rattle.rules.specs.Legs.{Stop, Stretch, leg}
+use Rattle.rules.specs.Legs.{Stretch, leg}
 use Rattle.rules.specs.Lists.{joined, put}
 use Rattle.rules.specs.Recovery.{whole-list, page}
 use Rattle.rules.specs.Refusals.{first, new-checks, restore-checks, search-checks, save-checks, recover-checks, join-checks}

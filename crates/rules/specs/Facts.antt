@@ -1,12 +1,11 @@
 -- The paper's small facts, p1 to p11, and its printout: what the definitions compute beside what the paper says.
-use mathlib.Core.Bool.{Bool, true, false}
-use mathlib.Core.List.{List, [], _∷_, _++_, map}
+use mathlib.Core.List.{List, [], _∷_, map}
 use mathlib.Core.Path.{_≡_, refl}
 use Prim.Native.Nat.{ℕ}
 use lib.ListN.{length, take, drop, replicate}
-use Rattle.rules.specs.Calls.{begin-rule, begun, leg-rule, LegRule, stretch, supports-of, weights-of, moved, save-rule, restore-rule, recover-rule, join-rule, Written}
+use Rattle.rules.specs.Calls.{begin-rule, begun, leg-rule, LegRule, stretch, supports-of, weights-of, save-rule, restore-rule, recover-rule, join-rule}
 use Rattle.rules.specs.Join.{partners, partnered, rising?}
-use Rattle.rules.specs.Legs.{Stop, ended, spent, full, leg}
+use Rattle.rules.specs.Legs.{leg}
 use Rattle.rules.specs.Letters.{value, letter?, letter}
 use Rattle.rules.specs.Lists.{run, keep, each, joined, some?, all?, member?, sum, put}
 use Rattle.rules.specs.Motif.{number, spell}
@@ -18,7 +17,7 @@ use Rattle.rules.specs.Sequences.{split, sequences}
 use Rattle.rules.specs.Support.{marks, support, firsts, weight, rows-from, occurrence-rows, parts, frequent}
 use Rattle.rules.specs.Template.{component, none, components, size, trimmed, cut}
 use Rattle.rules.specs.Text as text
-use Rattle.rules.specs.Told.{Told, gives, refuses, Counts, LegTold}
+use Rattle.rules.specs.Told.{Told, gives, refuses, Counts}
 use Rattle.rules.specs.Walk.{place, first-place, ended-place, exact, children, later, under, onward, from, up, next, start, motif, listed, spelled, candidate}
 use Rattle.rules.specs.declared.Place.{Place}
 use Rattle.rules.specs.declared.Search.{Search}

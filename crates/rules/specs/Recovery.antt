@@ -1,8 +1,7 @@
 -- Recovery: the rows of a motif's occurrence list from row f on, as many as fit into a buffer whole.
 use mathlib.Core.List.{List}
 use Prim.Native.Nat.{ℕ, suc, _/_}
-use lib.ListN.{length, take, drop}
-use Rattle.rules.specs.Lists.{joined}
+use lib.ListN.{take, drop}
 use Rattle.rules.specs.Support.{occurrence-rows, parts}
 use Rattle.rules.specs.Template.{size}
 use Rattle.rules.specs.declared.Template.{Template}

@@ -1,15 +1,15 @@
 -- A search run in legs, each with a budget and tables of its own, saved and restored over the same sequences between legs;
 -- and what the user asks that it comes to.
-use mathlib.Core.Bool.{Bool, true, false}
 use mathlib.Core.List.{List, [], _∷_, _++_, map}
-use Prim.Native.Nat.{ℕ, _+_, _*_, _^_}
+use mathlib.Core.Path.{_≡_}
+use Prim.Native.Nat.{ℕ, _+_, _*_, _^_, _≤_}
 use lib.Dec.{eqb, leb}
 use lib.ListN.{length, take}
 use Rattle.rules.specs.Calls.{LegRule, leg-rule, save-rule, restore-rule}
 use Rattle.rules.specs.Legs.{Stop, ended, spent, full}
-use Rattle.rules.specs.Limits.{Letter-BASES}
+use Rattle.rules.specs.Limits.{Letter-BASES, Record-BYTES, Record-EXTRA, Template-COMPONENTS}
 use Rattle.rules.specs.Lists.{run, if, keep}
-use Rattle.rules.specs.Support.{support, weight, parts, frequent}
+use Rattle.rules.specs.Support.{support, weight, parts}
 use Rattle.rules.specs.Template.{size}
 use Rattle.rules.specs.Told.{Told, gives, refuses}
 use Rattle.rules.specs.Walk.{exact, goods}
@@ -30,6 +30,13 @@ their-weights t quorum ss = map (λ m. weight (parts t (size t) m) ss) (frequent
 unfoldable pub whole-steps : Template → ℕ → List (List ℕ) → ℕ
 whole-steps t quorum ss = Letter-BASES * goods (exact t quorum ss) (size t)
 
+-- rows and steps that are those
+pub record Complete (t : Template) (quorum : ℕ) (ss : List (List ℕ)) (steps : ℕ) (motifs supports weights : List ℕ) : Type 0 where
+  pub motifs-are : motifs ≡ frequent-motifs t quorum ss
+  pub supports-are : supports ≡ their-supports t quorum ss
+  pub weights-are : weights ≡ their-weights t quorum ss
+  pub steps-are : steps ≡ whole-steps t quorum ss
+
 -- what a leg is lent: its budget, its three tables, and a buffer for the save after it
 pub record Lent : Type 0 where
   pub budget : ℕ
@@ -37,6 +44,16 @@ pub record Lent : Type 0 where
   pub supports : List ℕ
   pub weights : List ℕ
   pub buffer : List ℕ
+
+-- each leg's buffer has room for the save of any search, which has at most eight records
+abbrev pub Roomy : List Lent → Type 0
+Roomy [] = Unit {0}
+Roomy (g ∷ gs) = (Record-BYTES * (Template-COMPONENTS + Record-EXTRA) ≤ length (g .buffer)) × Roomy gs
+
+-- each leg has a budget and room of at least one
+abbrev pub Ample : List Lent → Type 0
+Ample [] = Unit {0}
+Ample (g ∷ gs) = (1 ≤ g .budget) × (1 ≤ length (g .motifs)) × (1 ≤ length (g .supports)) × (1 ≤ length (g .weights)) × Ample gs
 
 -- what legs come to: the last answer, the steps added up, and the rows of all laid end to end
 pub record Relayed : Type 0 where

@@ -1,13 +1,13 @@
 -- A saved search: records of 16 bytes, low byte first. How a search is written, how bytes are read back, and when bytes
 -- are well formed, field by field.
-use mathlib.Core.Bool.{Bool, true, false, _&&_}
+use mathlib.Core.Bool.{Bool, true, _&&_}
 use mathlib.Core.List.{List, [], _∷_, _++_}
 use Prim.Native.Nat.{ℕ, zero, suc, _+_, _-_, _*_, _/_, _%_, _^_}
 use lib.Dec.{eqb, leb, ltb}
 use lib.ListN.{length, take, drop, getD, replicate}
 use Rattle.rules.specs.Limits.{Letter-BASES, Record-BYTES, Record-SIZE, Record-COMPONENT, Record-PLACE, Record-EXTRA}
-use Rattle.rules.specs.Lists.{if, all?, joined}
-use Rattle.rules.specs.Template.{component, none, components, kept, size}
+use Rattle.rules.specs.Lists.{all?, joined}
+use Rattle.rules.specs.Template.{component, components, kept, size}
 use Rattle.rules.specs.Walk.{place}
 use Rattle.rules.specs.declared.Component.{Component}
 use Rattle.rules.specs.declared.Place.{Place}

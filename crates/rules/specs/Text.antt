@@ -10,7 +10,7 @@ use Rattle.rules.specs.Letters.{letter}
 use Rattle.rules.specs.Limits.{Text-BYTES, Text-GAP-DIGITS, Text-QUORUM-DIGITS}
 use Rattle.rules.specs.Lists.{if, all?, each, joined, some?}
 use Rattle.rules.specs.Motif.{number}
-use Rattle.rules.specs.Refusals.{first, refuse-if}
+use Rattle.rules.specs.Refusals.{first}
 use Rattle.rules.specs.Sequences.{sequences}
 use Rattle.rules.specs.Support.{support, weight}
 use Rattle.rules.specs.Template.{Part, component, none}

@@ -1,5 +1,4 @@
 -- What each answer tells, in the paper's numbers: the number and place of each refusal, and the values of each case.
-use mathlib.Core.List.{List}
 use Prim.Native.Nat.{ℕ}
 use Rattle.rules.specs.Legs.{Stop, ended, spent, full}
 use Rattle.rules.specs.declared.Begun.{Begun}

@@ -1,0 +1,84 @@
+-- What a new search that is accepted gives: a search that stands at the first candidate, that every later call accepts, and
+-- whose template reads as the one given.
+use mathlib.Core.Path.{_≡_, refl, fun-ext}
+use mathlib.Core.Logic.{inr}
+use mathlib.Core.Bool.{true}
+use mathlib.Core.List.{List}
+use Prim.Native.Nat.{ℕ, zero, suc}
+use native.Mathlib.Omega.{arith}
+use Rattle.rules.specs.Calls.{begun, begin-rule}
+use Rattle.rules.specs.Limits.{Letter-BASES}
+use Rattle.rules.specs.Refusals.{first, new-checks}
+use Rattle.rules.specs.Sequences.{sequences}
+use Rattle.rules.specs.Sound.{SoundTemplate}
+use Rattle.rules.specs.Support.{frequent}
+use Rattle.rules.specs.Template.{trimmed}
+use Rattle.rules.specs.Told.{gives}
+use Rattle.rules.specs.Walk.{exact, first-place, candidate, spelled}
+use Rattle.rules.specs.declared.Search.{Search}
+use Rattle.rules.specs.declared.Template.{Template}
+use Rattle.rules.proofs.Candidates.{Candidate}
+use Rattle.rules.proofs.Places.{walk-of, passing-rule, passing-passes}
+use Rattle.rules.proofs.Prefix.{exact-deep}
+use Rattle.rules.proofs.Saves.{unless-gives}
+use Rattle.rules.proofs.Sound.{SoundNew, SoundSearch, new-sound}
+use Rattle.rules.proofs.Trimmed.{trimmed-twice, trimmed-sound, trimmed-size, trimmed-parts}
+
+-- A is a candidate of every search
+pub first-candidate : (t : Template) (quorum : ℕ) (ss : List (List ℕ)) → SoundTemplate t → Candidate (exact t quorum ss) first-place
+unfolding candidate spelled exact frequent
+first-candidate t quorum ss o = record { most = exact-deep t quorum ss o; below = omega arith; is = refl }
+
+-- the walk of a trimmed template is the walk of the template
+pub exact-trimmed : (t : Template) (quorum : ℕ) (ss : List (List ℕ)) → exact (trimmed t) quorum ss ≡ exact t quorum ss
+unfolding exact frequent
+exact-trimmed t quorum ss = λ i. record { base = Letter-BASES; may = λ j m. true; good = fun-ext (λ j. fun-ext (same j)) i; depth = trimmed-size t i }
+  where
+    same : (j m : ℕ) → frequent (trimmed t) quorum ss j m ≡ frequent t quorum ss j m
+    same zero m = refl
+    same (suc j) m = rw (trimmed-parts t (suc j) m)
+
+-- what begins
+pub record Beginning (letters lengths : List ℕ) (t : Template) (quorum : ℕ) (s : Search) : Type 0 where
+  pub is : s ≡ begun letters lengths t quorum
+  pub sound : SoundSearch letters lengths s
+  pub trim : trimmed (s .template) ≡ s .template
+  pub at : s .place ≡ first-place
+  pub walk : walk-of letters lengths s ≡ exact t quorum (sequences letters lengths)
+  pub template : SoundTemplate t
+
+module _ (letters lengths : List ℕ) (t : Template) (quorum : ℕ) where
+  begun-sound : SoundNew letters lengths t quorum → SoundSearch letters lengths (begun letters lengths t quorum)
+  unfolding begun
+  begun-sound o =
+      let k = trimmed-sound t (o .template) in
+      let ss = sequences letters lengths in
+      let p = inr (first-candidate (trimmed t) quorum ss k) in
+      record {
+        set = o .set;
+        template = k;
+        place = passing-rule (trimmed t) quorum ss first-place p;
+        count = refl;
+        total = refl;
+        some = o .some;
+        most = o .most;
+        passes = passing-passes letters lengths (begun letters lengths t quorum) first-place p;
+      }
+
+  pub begins : (s : Search) → begin-rule letters lengths t quorum ≡ gives s → Beginning letters lengths t quorum s
+  unfolding begin-rule begun
+  begins s e =
+      let u = unless-gives (first (new-checks letters lengths t quorum)) (begun letters lengths t quorum) s e in
+      let o = new-sound letters lengths t quorum (u .0) in
+      rw (u .1) (the o)
+    where
+      the : SoundNew letters lengths t quorum → Beginning letters lengths t quorum (begun letters lengths t quorum)
+      the o =
+          record {
+            is = refl;
+            sound = begun-sound o;
+            trim = trimmed-twice t;
+            at = refl;
+            walk = exact-trimmed t quorum (sequences letters lengths);
+            template = o .template;
+          }

@@ -1,0 +1,145 @@
+-- An occurrence list has fewer than 2 ^ 57 rows: under one start each later part can follow in at most 256 ways, there are at
+-- most five later parts, and no more starts than letters, of which there are at most 65,536.
+use mathlib.Core.Path.{_≡_, refl, ap, _∙_}
+use mathlib.Core.Bool.{Bool, true, false}
+use mathlib.Core.List.{List, [], _∷_, map}
+use Prim.Native.Nat.{ℕ, zero, suc, _+_, _-_, _*_, _^_, _≤_, _<_}
+use native.Mathlib.Nat.{le-trans, pow-zero, pow-succ', pow-le-pow-right, mul-le-mul-right}
+use native.Mathlib.Omega.{arith}
+use lib.ListN.{length, getD, take, drop, length-append, length-map, length-take, length-drop}
+use lib.Seq.{getD-take}
+use Rattle.rules.specs.Letters.{value}
+use Rattle.rules.specs.Limits.{Letter-BASES}
+use Rattle.rules.specs.Lists.{run, if, each, sum}
+use Rattle.rules.specs.Motif.{spell}
+use Rattle.rules.specs.Occurrence.{stands, reach, starts, occurrences, ways}
+use Rattle.rules.specs.Recovery.{whole-list}
+use Rattle.rules.specs.Sequences.{split, sequences}
+use Rattle.rules.specs.Sound.{SoundSet, SoundTemplate}
+use Rattle.rules.specs.Support.{rows-from, occurrence-rows, parts}
+use Rattle.rules.specs.Template.{Part, part, none, slots, components, size, cut}
+use Rattle.rules.specs.declared.Component.{Component}
+use Rattle.rules.specs.declared.Template.{Template}
+use Rattle.rules.proofs.Lists.{length-run}
+use Rattle.rules.proofs.Ways.{ways-count}
+
+-- ---- under one start
+
+-- the range before each part has at most b positions
+abbrev pub Near : ℕ → List Part → Type 0
+Near b cs = (i : ℕ) → i < length cs → (getD cs i (part 0 0 [])) .high + 1 - (getD cs i (part 0 0 [])) .low ≤ b
+
+reach-count : (n low high p : ℕ) → length (reach n low high p) ≡ high + 1 - low
+unfolding reach
+reach-count n low high p = length-run (p + n + low) (high + 1 - low)
+
+each-most : {A B : Type 0} (f : A → List B) (n : ℕ) → ((x : A) → length (f x) ≤ n) → (xs : List A) → length (each f xs) ≤ length xs * n
+unfolding each
+each-most f n h [] = omega arith
+each-most f n h (x ∷ xs) = omega (arith, length-append (f x) (each f xs), h x, each-most f n h xs)
+
+-- of parts that start at p, the k later ones can follow in at most b ^ k ways
+pub starts-most : (b : ℕ) (c : Part) (cs : List Part) (s : List ℕ) → Near b (c ∷ cs) → (p : ℕ) → length (starts (c ∷ cs) s p) ≤ b ^ length cs
+unfolding starts
+starts-most b c [] s h p = rw pow-zero (go (stands (c .word) s p))
+  where
+    go : (a : Bool) → length (if a ((p ∷ []) ∷ []) []) ≤ 1
+    go true = omega arith
+    go false = omega arith
+starts-most b c (d ∷ ds) s h p = go (stands (c .word) s p) (starts-most b d ds s (λ i l. h (suc i) (omega arith)))
+  where
+    later : List ℕ
+    later = reach (length (c .word)) (d .low) (d .high) p
+
+    go : (a : Bool) → ((q : ℕ) → length (starts (d ∷ ds) s q) ≤ b ^ length ds) → length (if a (map (λ t. p ∷ t) (each (starts (d ∷ ds) s) later)) []) ≤ b ^ suc (length ds)
+    go true ih =
+        let few : length later ≤ b = omega (arith, reach-count (length (c .word)) (d .low) (d .high) p, h 1 (omega arith)) in
+        rw pow-succ' (omega (arith, length-map (each (starts (d ∷ ds) s) later) (λ t. p ∷ t), each-most (starts (d ∷ ds) s) (b ^ length ds) ih later, mul-le-mul-right (b ^ length ds) few))
+    go false ih = omega arith
+
+-- counted without being listed, they are as few
+pub ways-most : (b : ℕ) (c : Part) (cs : List Part) (s : List ℕ) → Near b (c ∷ cs) → (p : ℕ) → ways (c ∷ cs) s p ≤ b ^ length cs
+ways-most b c cs s h p = rw ways-count (starts-most b c cs s h p)
+
+-- ---- the parts of a motif
+
+cut-few : (cs : List Component) (w : List ℕ) → length (cut cs w) ≤ length cs
+unfolding cut
+cut-few [] w = omega arith
+cut-few (c ∷ cs) [] = omega arith
+cut-few (c ∷ cs) (x ∷ w) = omega (arith, cut-few cs (drop (c .length) (x ∷ w)))
+
+-- there are no more parts than components
+pub parts-few : (t : Template) (j m : ℕ) → length (parts t j m) ≤ t .count
+unfolding parts components
+parts-few t j m = omega (arith, cut-few (take (t .count) (slots t)) (spell Letter-BASES j m), length-take (t .count) (slots t))
+
+-- a part has its component's range
+cut-near : (b : ℕ) (cs : List Component) (w : List ℕ) → ((i : ℕ) → i < length cs → (getD cs i none) .high + 1 - (getD cs i none) .low ≤ b) → Near b (cut cs w)
+unfolding cut
+cut-near b [] w h i l = absurd (omega arith)
+cut-near b (c ∷ cs) [] h i l = absurd (omega arith)
+cut-near b (c ∷ cs) (x ∷ w) h zero l = h 0 (omega arith)
+cut-near b (c ∷ cs) (x ∷ w) h (suc i) l = cut-near b cs (drop (c .length) (x ∷ w)) (λ i k. h (suc i) (omega arith)) i (omega arith)
+
+-- and so at most 256 positions
+pub parts-near : (t : Template) → SoundTemplate t → (j m : ℕ) → Near 256 (parts t j m)
+unfolding parts components
+parts-near t sound j m = cut-near 256 (take (t .count) (slots t)) (spell Letter-BASES j m) span
+  where
+    span : (i : ℕ) → i < length (take (t .count) (slots t)) → (getD (take (t .count) (slots t)) i none) .high + 1 - (getD (take (t .count) (slots t)) i none) .low ≤ 256
+    span i l = let k : i < t .count = omega (arith, length-take (t .count) (slots t)) in rw (getD-take (t .count) (slots t) i none k) (omega (arith, sound .each i k .near))
+
+-- ---- the sequences
+
+-- a buffer is split into as many parts as there are lengths
+pub split-count : (ns buffer : List ℕ) → length (split ns buffer) ≡ length ns
+unfolding split
+split-count [] buffer = refl
+split-count (n ∷ ns) buffer = ap suc (split-count ns (drop n buffer))
+
+-- each part of a buffer is as long as its length says, if it has letters enough
+pub split-lengths : (ns buffer : List ℕ) → sum ns ≤ length buffer → map length (split ns buffer) ≡ ns
+unfolding split sum
+split-lengths [] buffer h = refl
+split-lengths (n ∷ ns) buffer h =
+    let k : length (take n buffer) ≡ n = omega (arith, length-take n buffer) in
+    rw (k, split-lengths ns (drop n buffer) (omega (arith, length-drop n buffer)))
+
+module _ (letters lengths : List ℕ) where
+  -- there is a sequence for each length
+  pub sequences-count : length (sequences letters lengths) ≡ length lengths
+  unfolding sequences
+  sequences-count = split-count lengths (map value letters)
+
+  module _ (sound : SoundSet letters lengths) where
+    -- of that length
+    pub sequences-lengths : map length (sequences letters lengths) ≡ lengths
+    unfolding sequences
+    sequences-lengths = split-lengths lengths (map value letters) (omega (arith, sound .adds, length-map letters value))
+
+    -- and they have all letters
+    pub sequences-letters : sum (map length (sequences letters lengths)) ≡ length letters
+    sequences-letters = ap sum sequences-lengths ∙ sound .adds
+
+-- ---- the whole list
+
+rows-most : (n : ℕ) (cs : List Part) → ((s : List ℕ) (p : ℕ) → length (starts cs s p) ≤ n) → (i : ℕ) (ss : List (List ℕ)) → length (rows-from i cs ss) ≤ sum (map length ss) * n
+unfolding rows-from sum occurrences
+rows-most n cs h i [] = omega arith
+rows-most n cs h i (s ∷ ss) =
+    omega
+    (arith, length-append (map (λ t. i ∷ t) (occurrences cs s)) (rows-from (suc i) cs ss), length-map (occurrences cs s) (λ t. i ∷ t), rw (length-run 1 (length s)) at (each-most (starts cs s) n (h s) (run 1 (length s))), rows-most n cs h (suc i) ss)
+
+-- at most five parts after the first, each in at most 256 ways
+few-starts : (cs : List Part) → length cs ≤ 6 → Near 256 cs → (s : List ℕ) (p : ℕ) → length (starts cs s p) ≤ 2 ^ 40
+few-starts [] l h s p = unfold starts in omega arith
+few-starts (c ∷ cs) l h s p = le-trans (starts-most 256 c cs s h p) (le-trans (pow-le-pow-right {n = 256} (omega arith) {j = 5} (omega arith)) (omega arith))
+
+-- the length of a motif's occurrence list
+pub list-bound : (t : Template) → SoundTemplate t → (letters lengths : List ℕ) → SoundSet letters lengths → (m : ℕ) → length (whole-list t (sequences letters lengths) m) < 2 ^ 57
+unfolding whole-list occurrence-rows
+list-bound t sound letters lengths set m =
+    let cs : List Part = parts t (size t) m in
+    let few : length cs ≤ 6 = omega (arith, parts-few t (size t) m, sound .few) in
+    omega (arith, rows-most (2 ^ 40) cs (few-starts cs few (parts-near t sound (size t) m)) 1 (sequences letters lengths), sequences-letters letters lengths set, set .short)

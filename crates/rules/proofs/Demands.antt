@@ -1,0 +1,272 @@
+-- THE USER'S THREE DEMANDS, of the rules of the public calls (specs/Calls.antt), which the calls promise to keep. The
+-- statements stand in front, the proofs behind them.
+use mathlib.Core.Path.{_≡_, refl, ap, _∙_}
+use mathlib.Core.Logic.{_⊎_, _↔_}
+use mathlib.Core.Bool.{true}
+use mathlib.Core.List.{List, [], _∷_, _++_, List·Memᴰ}
+use Prim.Native.Nat.{ℕ, suc, _+_, _*_, _≤_, _<_, _^_, min}
+use lib.ListN.{length, take, getD, replicate}
+use native.Mathlib.Omega.{arith}
+use borrow.Author.Tests.{leb-true, le-leb}
+use Rattle.rules.specs.Calls.{unless, on-refusal, begin-rule, LegRule, stretch, leg-rule, written-unless, save-rule, restore-rule, recover-rule, join-rule}
+use Rattle.rules.specs.Legs.{Stop, ended, leg}
+use Rattle.rules.specs.Limits.{Letter-BASES, Record-BYTES, Record-EXTRA, Template-COMPONENTS}
+use Rattle.rules.specs.Lists.{joined, keep, put, some?}
+use Rattle.rules.specs.Occurrence.{occurrences, Occurs}
+use Rattle.rules.specs.Order.{InOrder, Rising}
+use Rattle.rules.specs.Recovery.{whole-list, page}
+use Rattle.rules.specs.Refusals.{first, new-checks, restore-checks, search-checks, save-checks, recover-checks, join-checks}
+use Rattle.rules.specs.Relay.{frequent-motifs, whole-steps, Complete, Lent, Roomy, Ample, after, alone, relay, Relayed}
+use Rattle.rules.specs.Saved.{bytes, sized?, laid-out?, read-search}
+use Rattle.rules.specs.Sequences.{sequences}
+use Rattle.rules.specs.Sound.{SoundSet, SoundTemplate}
+use Rattle.rules.specs.Support.{support, parts}
+use Rattle.rules.specs.Template.{size, trimmed}
+use Rattle.rules.specs.Told.{Told, gives, refuses, Verdict, fine, refused, Counts}
+use Rattle.rules.specs.Walk.{Walk, ended-place, exact, from, start, listed}
+use Rattle.rules.specs.declared.Place.{Place}
+use Rattle.rules.specs.declared.Search.{Search}
+use Rattle.rules.specs.declared.Template.{Template}
+use Rattle.rules.proofs.Bound.{list-bound}
+use Rattle.rules.proofs.Completes.{relay-complete, relay-ends, relay-answers}
+use Rattle.rules.proofs.Legs.{Passed, leg-law}
+use Rattle.rules.proofs.LowFirst.{Bytes}
+use Rattle.rules.proofs.Members.{keep-run-in, keep-run-out}
+use Rattle.rules.proofs.OccurrenceOrder.{keep-run-rising, rows-in-order}
+use Rattle.rules.proofs.Occurs.{parts-worded, parts-some, rows-are}
+use Rattle.rules.proofs.Passing.{passing-from, from-passing}
+use Rattle.rules.proofs.Places.{walk-of, sound-passing, passing-rule, passing-passes, place-deep}
+use Rattle.rules.proofs.Prefix.{size-some, exact-anti, exact-root, exact-pos, exact-deep}
+use Rattle.rules.proofs.Relayed.{put-front}
+use Rattle.rules.proofs.Saves.{restore-exactly, restore-saved, save-restored, cut-refused}
+use Rattle.rules.proofs.Sound.{SoundSearch, SoundBytes, search-sound}
+use Rattle.rules.proofs.Ways.{support-counts, support-sequences}
+
+-- ---- DEMAND 1: a call refuses exactly what its checks refuse, with the number and place of the first that applies. A refused
+-- leg has counts of 0, hands back the search that it was given and leaves its tables; a refused save, recovery or join leaves
+-- its buffer.
+pub record Demand1 : Type 0 where
+  pub begin : (letters lengths : List ℕ) (t : Template) (quorum n p : ℕ)
+      → (begin-rule letters lengths t quorum ≡ refuses n p) ↔ (first (new-checks letters lengths t quorum) ≡ refused n p)
+  pub restore : (letters lengths bs : List ℕ) (n p : ℕ)
+      → (restore-rule letters lengths bs ≡ refuses n p) ↔ (first (restore-checks letters lengths bs) ≡ refused n p)
+  pub leg : (letters lengths : List ℕ) (s : Search) (budget : ℕ) (motifs supports weights : List ℕ) (n p : ℕ)
+      → ((leg-rule letters lengths s budget motifs supports weights) .told .answer ≡ refuses n p) ↔ (first (search-checks letters lengths s) ≡ refused n p)
+  pub leg-leaves : (letters lengths : List ℕ) (s : Search) (budget : ℕ) (motifs supports weights : List ℕ) (n p : ℕ)
+      → first (search-checks letters lengths s) ≡ refused n p
+      → leg-rule letters lengths s budget motifs supports weights
+      ≡ record { told = record { answer = refuses n p; steps = 0; rows = 0; search = s }; motifs = motifs; supports = supports; weights = weights }
+  pub save : (letters lengths : List ℕ) (s : Search) (out : List ℕ) (n p : ℕ)
+      → ((save-rule letters lengths s out) .told ≡ refuses n p) ↔ (first (save-checks letters lengths s out) ≡ refused n p)
+  pub save-leaves : (letters lengths : List ℕ) (s : Search) (out : List ℕ) (n p : ℕ)
+      → first (save-checks letters lengths s out) ≡ refused n p → save-rule letters lengths s out ≡ record { told = refuses n p; out = out }
+  pub recover : (letters lengths : List ℕ) (t : Template) (m f : ℕ) (out : List ℕ) (n p : ℕ)
+      → ((recover-rule letters lengths t m f out) .told ≡ refuses n p) ↔ (first (recover-checks letters lengths t m f) ≡ refused n p)
+  pub recover-leaves : (letters lengths : List ℕ) (t : Template) (m f : ℕ) (out : List ℕ) (n p : ℕ)
+      → first (recover-checks letters lengths t m f) ≡ refused n p → recover-rule letters lengths t m f out ≡ record { told = refuses n p; out = out }
+  pub join : (xs ys : List ℕ) (head low high : ℕ) (out : List ℕ) (n p : ℕ)
+      → ((join-rule xs ys head low high out) .told ≡ refuses n p) ↔ (first (join-checks xs ys head low high out) ≡ refused n p)
+  pub join-leaves : (xs ys : List ℕ) (head low high : ℕ) (out : List ℕ) (n p : ℕ)
+      → first (join-checks xs ys head low high out) ≡ refused n p → join-rule xs ys head low high out ≡ record { told = refuses n p; out = out }
+
+-- ---- DEMAND 2: the list
+
+pub record Demand2 : Type 0 where
+  -- the list holds exactly the motifs whose support reaches the quorum, each once, in letter order
+  pub motifs : (t : Template) (quorum : ℕ) (ss : List (List ℕ)) (m : ℕ)
+      → List·Memᴰ m (frequent-motifs t quorum ss) ↔ ((m < Letter-BASES ^ size t) × (quorum ≤ support (parts t (size t) m) ss))
+  pub in-letter-order : (t : Template) (quorum : ℕ) (ss : List (List ℕ)) → Rising (frequent-motifs t quorum ss)
+  -- the support is the number of sequences in which the motif occurs
+  pub supports : (t : Template) (j m : ℕ) (ss : List (List ℕ)) → support (parts t j m) ss ≡ length (keep (λ s. some? (occurrences (parts t j m) s)) ss)
+  pub occurring : (t : Template) → SoundTemplate t → (j m : ℕ) → 1 ≤ j → (s : List ℕ)
+      → (some? (occurrences (parts t j m) s) ≡ true) ↔ ((ps : List ℕ) × Occurs (parts t j m) s ps)
+  -- a leg of a new search that answers ended has listed it whole
+  pub one-leg : (letters lengths : List ℕ) (t : Template) (quorum : ℕ) (s : Search) (budget : ℕ) (motifs supports weights : List ℕ)
+      → begin-rule letters lengths t quorum ≡ gives s
+      → (leg-rule letters lengths s budget motifs supports weights) .told .answer ≡ gives ended
+      → let l = leg-rule letters lengths s budget motifs supports weights in let n = l .told .rows in
+      Complete t quorum (sequences letters lengths) (l .told .steps) (take n (l .motifs)) (take n (l .supports)) (take n (l .weights))
+  -- recovery's list holds every occurrence that respects the gaps, once, in order, and nothing else
+  pub recovered : (t : Template) → SoundTemplate t → (ss : List (List ℕ)) (m : ℕ) (row : List ℕ)
+      → List·Memᴰ row (whole-list t ss m)
+      ↔ ((i : ℕ) × (ps : List ℕ) × (i < length ss) × (row ≡ suc i ∷ ps) × Occurs (parts t (size t) m) (getD ss i []) ps)
+  pub recovered-in-order : (t : Template) (ss : List (List ℕ)) (m : ℕ) → InOrder (whole-list t ss m)
+  pub recovered-length : (letters lengths : List ℕ) (t : Template) (m : ℕ) → SoundSet letters lengths → SoundTemplate t
+      → length (whole-list t (sequences letters lengths) m) < 2 ^ 57
+  -- what a recovery writes is its page of that list, and it tells the page's rows and the list's length
+  pub recovery : (letters lengths : List ℕ) (t : Template) (m f : ℕ) (out : List ℕ) (c : Counts)
+      → (recover-rule letters lengths t m f out) .told ≡ gives c
+      → let rows = page t (sequences letters lengths) m f (length out) in
+      (c .rows ≡ length rows) × (c .length ≡ length (whole-list t (sequences letters lengths) m)) × ((recover-rule letters lengths t m f out) .out ≡ put (joined rows) out)
+
+-- ---- DEMAND 3: legs, saves and restores
+
+-- bytes that hold a search over the lent sequences, field by field, wherever it stands
+pub record WellFormed (letters lengths bs : List ℕ) : Type 0 where
+  pub set : SoundSet letters lengths
+  pub sized : sized? bs ≡ true
+  pub laid-out : laid-out? bs ≡ true
+  pub template : SoundTemplate (read-search bs .template)
+  pub count : read-search bs .set .sequences ≡ length lengths
+  pub total : read-search bs .set .letters ≡ length letters
+  pub some : 1 ≤ read-search bs .quorum
+  pub most : read-search bs .quorum ≤ length lengths
+
+-- the uninterrupted search passes through the place of s, or has ended there
+abbrev pub Through : List ℕ → List ℕ → Search → Type 0
+Through letters lengths s = (s .place ≡ ended-place) ⊎ List·Memᴰ (s .place) (from (walk-of letters lengths s) (start (walk-of letters lengths s)))
+
+pub record Demand3 : Type 0 where
+  -- the lists of a new search's legs, laid end to end, are demand 2's list once one answers ended, and the steps add up
+  pub end-to-end : (letters lengths : List ℕ) (t : Template) (quorum : ℕ) (s : Search) (gs : List Lent) → begin-rule letters lengths t quorum ≡ gives s → Roomy gs
+      → (relay letters lengths gs s) .answer ≡ gives ended
+      → let r = relay letters lengths gs s in Complete t quorum (sequences letters lengths) (r .steps) (r .motifs) (r .supports) (r .weights)
+  -- it ends within that many legs, if each has a budget and room of at least one
+  pub ends : (letters lengths : List ℕ) (t : Template) (quorum : ℕ) (s : Search) (gs : List Lent) → begin-rule letters lengths t quorum ≡ gives s → Roomy gs → Ample gs
+      → whole-steps t quorum (sequences letters lengths) ≤ length gs → (relay letters lengths gs s) .answer ≡ gives ended
+  -- nothing on the way is refused
+  pub answers : (letters lengths : List ℕ) (t : Template) (quorum : ℕ) (s : Search) (gs : List Lent) → begin-rule letters lengths t quorum ≡ gives s → Roomy gs
+      → (a : Stop) × ((relay letters lengths gs s) .answer ≡ gives a)
+  -- a leg's steps and rows are those of the candidates between its old place and its new
+  pub between : (letters lengths : List ℕ) (s : Search) (budget : ℕ) (motifs supports weights : List ℕ) → first (search-checks letters lengths s) ≡ fine
+      → let l = leg-rule letters lengths s budget motifs supports weights in let W = walk-of letters lengths s in
+      (taken : List Place) × (from W (s .place) ≡ taken ++ from W (l .told .search .place)) × (l .told .steps ≡ length taken) × (take (l .told .rows) (l .motifs) ≡ listed W taken)
+  -- restore accepts bytes exactly if they are well formed and the uninterrupted search passes through their place
+  pub accepts : (letters lengths bs : List ℕ) (s : Search)
+      → (restore-rule letters lengths bs ≡ gives s) ↔ (WellFormed letters lengths bs × Through letters lengths (read-search bs) × (s ≡ read-search bs))
+  -- what was saved restores to the same search, an ended one as ended
+  pub restores : (letters lengths : List ℕ) (s : Search) → first (search-checks letters lengths s) ≡ fine → trimmed (s .template) ≡ s .template
+      → restore-rule letters lengths (bytes s) ≡ gives s
+  -- saving a restored search gives the same bytes
+  pub same-bytes : (letters lengths bs : List ℕ) (s : Search) → Bytes bs → restore-rule letters lengths bs ≡ gives s → bytes s ≡ bs
+  -- a save cut short at any byte is refused
+  pub cut-short : (letters lengths : List ℕ) (s : Search) (n : ℕ) → first (search-checks letters lengths s) ≡ fine → n < length (bytes s)
+      → restore-rule letters lengths (take n (bytes s)) ≡ refuses 10 0
+
+-- ---- THE PROOFS
+
+unless-refuses : {A : Type 0} (v : Verdict) (a : A) (n p : ℕ) → (unless v a ≡ refuses n p) ↔ (v ≡ refused n p)
+unless-refuses fine a n p = (λ e. cc, λ e. cc)
+unless-refuses (refused m q) a n p = (λ e. cc, λ e. cc)
+
+written-refuses : {A : Type 0} (v : Verdict) (a : A) (xs out : List ℕ) (n p : ℕ) → ((written-unless v a xs out) .told ≡ refuses n p) ↔ (v ≡ refused n p)
+written-refuses fine a xs out n p = (λ e. cc, λ e. cc)
+written-refuses (refused m q) a xs out n p = (λ e. cc, λ e. cc)
+
+leg-refused : (v : Verdict) (f : ℕ → ℕ → LegRule) (l : LegRule) (n p : ℕ) (a : Stop) → ((n p : ℕ) → (f n p) .told .answer ≡ refuses n p) → l .told .answer ≡ gives a
+    → ((on-refusal v f l) .told .answer ≡ refuses n p) ↔ (v ≡ refused n p)
+leg-refused fine f l n p a h e = (λ q. cc, λ q. cc)
+leg-refused (refused m k) f l n p a h e = (λ q. let r = h m k in cc, λ q. let r = h m k in cc)
+
+pub demand1 : Demand1
+unfolding begin-rule restore-rule leg-rule save-rule recover-rule join-rule
+demand1 =
+    record {
+      begin = λ letters lengths t quorum n p. unless-refuses _ _ n p;
+      restore = λ letters lengths bs n p. unless-refuses _ _ n p;
+      leg = λ letters lengths s budget motifs supports weights n p. leg-refused (first (search-checks letters lengths s)) _ _ n p _ (λ n p. refl) refl;
+      leg-leaves = λ letters lengths s budget motifs supports weights n p e. rw e;
+      save = λ letters lengths s out n p. written-refuses _ _ _ out n p;
+      save-leaves = λ letters lengths s out n p e. rw e;
+      recover = λ letters lengths t m f out n p. written-refuses _ _ _ out n p;
+      recover-leaves = λ letters lengths t m f out n p e. rw e;
+      join = λ xs ys head low high out n p. written-refuses _ _ _ out n p;
+      join-leaves = λ xs ys head low high out n p e. rw e;
+    }
+
+-- a leg that ended is a relay of one leg
+one-leg-ended : (a : Told Stop) (k m : Relayed) → a ≡ gives ended → after a k m ≡ k
+one-leg-ended a k m e = rw e
+
+lent : ℕ → List ℕ → List ℕ → List ℕ → Lent
+lent budget motifs supports weights = record { budget = budget; motifs = motifs; supports = supports; weights = weights; buffer = replicate (Record-BYTES * (Template-COMPONENTS + Record-EXTRA)) 0 }
+
+one-leg-complete : (letters lengths : List ℕ) (t : Template) (quorum : ℕ) (s : Search) (budget : ℕ) (motifs supports weights : List ℕ)
+    → begin-rule letters lengths t quorum ≡ gives s
+    → (leg-rule letters lengths s budget motifs supports weights) .told .answer ≡ gives ended
+    → let l = leg-rule letters lengths s budget motifs supports weights in let n = l .told .rows in
+    Complete t quorum (sequences letters lengths) (l .told .steps) (take n (l .motifs)) (take n (l .supports)) (take n (l .weights))
+unfolding relay lent
+one-leg-complete letters lengths t quorum s budget motifs supports weights b e =
+    let g : Lent = lent budget motifs supports weights in
+    let l : LegRule = leg-rule letters lengths s budget motifs supports weights in
+    let q : relay letters lengths (g ∷ []) s ≡ alone l = one-leg-ended (l .told .answer) (alone l) _ e in
+    rw q at (relay-complete letters lengths t quorum s b (g ∷ []) (omega arith, tt) (ap (λ r. r .answer) q ∙ e))
+
+recovered-page : {A : Type 0} (v : Verdict) (a c : A) (xs out : List ℕ) → (written-unless v a xs out) .told ≡ gives c → (c ≡ a) × ((written-unless v a xs out) .out ≡ put xs out)
+recovered-page fine a c xs out e = (cc, refl)
+recovered-page (refused n p) a c xs out e = (cc, cc)
+
+pub demand2 : Demand2
+unfolding frequent-motifs whole-list recover-rule
+demand2 =
+    record {
+      motifs = λ t quorum ss m. (
+        λ h. let o = keep-run-out _ 0 (Letter-BASES ^ size t) m h in (omega (arith, o .1), leb-true _ _ (o .2)),
+        λ h. keep-run-in _ 0 (Letter-BASES ^ size t) m (omega arith) (omega (arith, h .0)) (le-leb _ _ (h .1)),
+      );
+      in-letter-order = λ t quorum ss. keep-run-rising _ 0 (Letter-BASES ^ size t);
+      supports = λ t j m ss. support-sequences (parts t j m) ss;
+      occurring = λ t o j m h s. support-counts (parts t j m) s (parts-worded t o j m) (parts-some t o j m h);
+      one-leg = one-leg-complete;
+      recovered = λ t o ss m row. rows-are (parts t (size t) m) ss (parts-worded t o (size t) m) (parts-some t o (size t) m (size-some t o)) row;
+      recovered-in-order = λ t ss m. rows-in-order (parts t (size t) m) ss;
+      recovered-length = λ letters lengths t m set o. list-bound t o letters lengths set m;
+      recovery = λ letters lengths t m f out c e. let r = recovered-page (first (recover-checks letters lengths t m f)) _ c _ out e in (ap (λ c. c .rows) (r .0), ap (λ c. c .length) (r .0), r .1);
+    }
+
+-- what a leg passes lies between its two places
+leg-between : (letters lengths : List ℕ) (s : Search) (budget : ℕ) (motifs supports weights : List ℕ) → first (search-checks letters lengths s) ≡ fine
+    → let l = leg-rule letters lengths s budget motifs supports weights in let W = walk-of letters lengths s in
+    (taken : List Place) × (from W (s .place) ≡ taken ++ from W (l .told .search .place)) × (l .told .steps ≡ length taken) × (take (l .told .rows) (l .motifs) ≡ listed W taken)
+unfolding leg-rule stretch
+leg-between letters lengths s budget motifs supports weights e =
+    let W : Walk = walk-of letters lengths s in
+    let room : ℕ = min (length motifs) (min (length supports) (length weights)) in
+    let o : SoundSearch letters lengths s = search-sound letters lengths s e in
+    let r : Passed W (s .place) (leg W budget room (s .place)) = leg-law W (exact-pos (s .template) (s .quorum) (sequences letters lengths)) budget room (s .place) (place-deep letters lengths s o) in
+    rw e (r .taken, r .split, r .counts, put-front (length ((leg W budget room (s .place)) .motifs)) ((leg W budget room (s .place)) .motifs) motifs refl ∙ r .lists)
+
+-- bytes that are well formed, with a place that the search passes through, pass the checks, and back
+well-formed : (letters lengths bs : List ℕ) → SoundBytes letters lengths bs → WellFormed letters lengths bs × Through letters lengths (read-search bs)
+well-formed letters lengths bs o =
+    let k = o .search in
+    let t = read-search bs .template in let q = read-search bs .quorum in let ss = sequences letters lengths in (
+      record { set = k .set; sized = o .sized; laid-out = o .laid-out; template = k .template; count = k .count; total = k .total; some = k .some; most = k .most },
+      passing-from (exact t q ss) (exact-pos t q ss) (exact-anti t q ss) (exact-deep t q ss (k .template)) (exact-root t q ss) _ (sound-passing letters lengths (read-search bs) k),
+    )
+
+passes-checks : (letters lengths bs : List ℕ) → WellFormed letters lengths bs → Through letters lengths (read-search bs) → SoundBytes letters lengths bs
+passes-checks letters lengths bs w h =
+    let t = read-search bs .template in let q = read-search bs .quorum in let ss = sequences letters lengths in
+    let p = from-passing (exact t q ss) (exact-pos t q ss) (exact-anti t q ss) (exact-deep t q ss (w .template)) (exact-root t q ss) _ h in
+    record {
+      sized = w .sized;
+      laid-out = w .laid-out;
+      search = record {
+        set = w .set;
+        template = w .template;
+        place = passing-rule t q ss _ p;
+        count = w .count;
+        total = w .total;
+        some = w .some;
+        most = w .most;
+        passes = passing-passes letters lengths (read-search bs) _ p;
+      };
+    }
+
+pub demand3 : Demand3
+demand3 =
+    record {
+      end-to-end = λ letters lengths t quorum s gs b. relay-complete letters lengths t quorum s b gs;
+      ends = λ letters lengths t quorum s gs b. relay-ends letters lengths t quorum s b gs;
+      answers = λ letters lengths t quorum s gs b. relay-answers letters lengths t quorum s b gs;
+      between = leg-between;
+      accepts = λ letters lengths bs s. (
+        λ e. let h = restore-exactly letters lengths bs s .0 e in let w = well-formed letters lengths bs (h .0) in (w .0, w .1, h .1),
+        λ h. restore-exactly letters lengths bs s .1 (passes-checks letters lengths bs (h .0) (h .1), h .2),
+      );
+      restores = restore-saved;
+      same-bytes = λ letters lengths bs s b e. save-restored letters lengths bs s e b;
+      cut-short = cut-refused;
+    }

@@ -1,0 +1,263 @@
+-- "Frequent" is closed under taking prefixes. An occurrence of a prefix, cut short by a letter, is one of the shorter prefix:
+-- the last part loses its last letter, or goes whole if that was its only one, or the letter stood past the last part.
+use mathlib.Core.Path.{_≡_, refl, sym, ap, _∙_}
+use mathlib.Core.Bool.{Bool, true, false, _||_, false≢true}
+use mathlib.Core.List.{List, [], _∷_, _++_, map}
+use Prim.Native.Nat.{ℕ, zero, suc, _+_, _*_, _/_, _%_, _^_, _≤_, _<_}
+use native.Mathlib.Nat.{pow-zero, pow-suc, pow-succ', div-one, div-div-eq-div-mul, div-add-mod', div-lt-iff-lt-mul, mod-lt, mod-eq-of-lt, one-le-pow, mul-add-div-right, mul-add-mod-self-right, div-eq-of-lt, mul-le-mul-right}
+use native.Mathlib.Numerals.{add-one}
+use native.Mathlib.Omega.{arith}
+use lib.Dec.{leb, eqb}
+use lib.ListN.{length, getD, take, drop, length-append, drop-of-length-le}
+use lib.Seq.{take-all, take-append-le, drop-append-le}
+use borrow.Author.Tests.{leb-true, leb-false, le-leb}
+use Rattle.rules.specs.Limits.{Letter-BASES}
+use Rattle.rules.specs.Lists.{run, if, keep, each, some?, sum}
+use Rattle.rules.specs.Motif.{number, spell}
+use Rattle.rules.specs.Occurrence.{front, stands, reach, starts, occurrences}
+use Rattle.rules.specs.Sound.{SoundTemplate}
+use Rattle.rules.specs.Support.{marks, support, parts, frequent}
+use Rattle.rules.specs.Template.{Part, part, slots, components, size, cut}
+use Rattle.rules.specs.Walk.{exact}
+use Rattle.rules.specs.declared.Component.{Component}
+use Rattle.rules.specs.declared.Template.{Template}
+
+-- ---- letters and numbers
+
+-- a letter more is the lowest digit
+pub spell-more : (base j m : ℕ) → spell base (suc j) m ≡ spell base j (m / base) ++ (m % base ∷ [])
+unfolding spell
+spell-more base zero m = rw (pow-zero, div-one)
+spell-more base (suc j) m = rw (pow-succ', ← (div-div-eq-div-mul m base (base ^ j))) (ap (λ w. (m / base / base ^ j) % base ∷ w) (spell-more base j m))
+
+-- a number is spelt in as many letters as are asked for
+pub length-spell : (base j m : ℕ) → length (spell base j m) ≡ j
+unfolding spell
+length-spell base zero m = refl
+length-spell base (suc j) m = ap suc (length-spell base j m)
+
+-- each letter lies below the base
+pub spell-below : (base j m : ℕ) → 1 ≤ base → (i : ℕ) → getD (spell base j m) i 0 < base
+unfolding spell
+spell-below base zero m h i = h
+spell-below base (suc j) m h zero = mod-lt (m / base ^ j) h
+spell-below base (suc j) m h (suc i) = spell-below base j m h i
+
+-- with a letter more the number goes up a digit
+pub number-more : (base : ℕ) (w : List ℕ) (x : ℕ) → number base (w ++ (x ∷ [])) ≡ number base w * base + x
+unfolding number
+number-more base [] x = rw pow-zero (omega arith)
+number-more base (y ∷ w) x =
+    let e : base ^ length (w ++ (x ∷ [])) ≡ base ^ length w * base = ap (λ n. base ^ n) (length-append w (x ∷ []) ∙ add-one (length w)) ∙ pow-suc base (length w) in
+    omega (arith, ap (λ n. y * n) e, number-more base w x)
+
+-- the letters of a number have that number
+pub number-spell : (base j m : ℕ) → 1 ≤ base → m < base ^ j → number base (spell base j m) ≡ m
+unfolding spell number
+number-spell base zero m h l = omega (arith, pow-zero base)
+number-spell base (suc j) m h l =
+    let ih = number-spell base j (m / base) h (div-lt-iff-lt-mul {x = m} {y = base ^ j} h .1 (rw pow-suc at l)) in
+    ap (number base) (spell-more base j m) ∙ number-more base (spell base j (m / base)) (m % base) ∙ rw ih (div-add-mod' m base)
+
+-- n letters below the base have a number below base ^ n
+pub number-below : (base : ℕ) (w : List ℕ) → ((i : ℕ) → i < length w → getD w i 0 < base) → number base w < base ^ length w
+unfolding number
+number-below base [] h = omega (arith, pow-zero base)
+number-below base (x ∷ w) h = rw pow-suc (omega (arith, mul-le-mul-right (base ^ length w) (h 0 (omega arith)), number-below base w (λ i l. h (suc i) (omega arith))))
+
+-- what stands above the j lowest letters does not show in them
+spell-skip : (base j c m : ℕ) → 1 ≤ base → spell base j (c * base ^ j + m) ≡ spell base j m
+unfolding spell
+spell-skip base zero c m h = refl
+spell-skip base (suc j) c m h =
+    let e : c * base ^ suc j + m ≡ c * base * base ^ j + m = rw pow-suc (omega arith) in
+    rw (e, mul-add-div-right (one-le-pow j base h) (c * base) m, mul-add-mod-self-right c base (m / base ^ j), spell-skip base j (c * base) m h)
+
+-- and the letters of their number are they themselves
+pub spell-number : (base : ℕ) (w : List ℕ) → ((i : ℕ) → i < length w → getD w i 0 < base) → spell base (length w) (number base w) ≡ w
+unfolding spell number
+spell-number base [] h = refl
+spell-number base (x ∷ w) h =
+    let p : 1 ≤ base = omega (arith, h 0 (omega arith)) in
+    let tail : (i : ℕ) → i < length w → getD w i 0 < base = λ i l. h (suc i) (omega arith) in
+    let top : (x * base ^ length w + number base w) / base ^ length w ≡ x = mul-add-div-right (one-le-pow (length w) base p) x (number base w) ∙ omega (arith, div-eq-of-lt (number-below base w tail)) in
+    rw (top, mod-eq-of-lt (h 0 (omega arith)), spell-skip base (length w) x (number base w) p, spell-number base w tail)
+
+-- ---- some? of lists
+
+-- what is kept on a test has something in it only if the test passes
+some-if : {A : Type 0} (b : Bool) (xs : List A) → some? (if b xs []) ≡ true → (b ≡ true) × (some? xs ≡ true)
+unfolding some?
+some-if true xs e = (refl, e)
+some-if false xs e = absurd (false≢true e)
+
+some-map : {A B : Type 0} (f : A → B) (xs : List A) → some? (map f xs) ≡ some? xs
+unfolding some?
+some-map f [] = refl
+some-map f (x ∷ xs) = refl
+
+some-append : {A : Type 0} (xs ys : List A) → some? (xs ++ ys) ≡ some? xs || some? ys
+unfolding some?
+some-append [] ys = refl
+some-append (x ∷ xs) ys = refl
+
+-- where f gives something, so does g
+some-each : {A B C : Type 0} (f : A → List B) (g : A → List C) (xs : List A) → ((x : A) → some? (f x) ≡ true → some? (g x) ≡ true) → some? (each f xs) ≡ true → some? (each g xs) ≡ true
+unfolding each
+some-each f g [] h e = unfold some? in absurd (false≢true e)
+some-each f g (x ∷ xs) h e = rw (some-append (g x) (each g xs)) (go (some? (f x)) (some? (g x)) refl refl (rw (some-append (f x) (each f xs)) at e) (some-each f g xs h))
+  where
+    go : (a b : Bool) → some? (f x) ≡ a → some? (g x) ≡ b → a || some? (each f xs) ≡ true → (some? (each f xs) ≡ true → some? (each g xs) ≡ true) → b || some? (each g xs) ≡ true
+    go a true p q e ih = refl
+    go true false p q e ih = absurd (false≢true (sym q ∙ h x p))
+    go false false p q e ih = ih e
+
+-- ---- occurrences, cut short
+
+-- all but the last of some letters stand where all do
+front-less : (w : List ℕ) (y : ℕ) (s : List ℕ) → front (w ++ (y ∷ [])) s ≡ true → front w s ≡ true
+unfolding front
+front-less [] y s e = refl
+front-less (x ∷ w) y [] e = e
+front-less (x ∷ w) y (z ∷ s) e = go (eqb x z) e (front-less w y s)
+  where
+    go : (b : Bool) → if b (front (w ++ (y ∷ [])) s) false ≡ true → (front (w ++ (y ∷ [])) s ≡ true → front w s ≡ true) → if b (front w s) false ≡ true
+    go true e ih = ih e
+    go false e ih = e
+
+stands-less : (w : List ℕ) (y : ℕ) (s : List ℕ) (p : ℕ) → stands (w ++ (y ∷ [])) s p ≡ true → stands w s p ≡ true
+unfolding stands
+stands-less w y s zero e = e
+stands-less w y s (suc o) e = front-less w y (drop o s) e
+
+cut-nil : (cs : List Component) → cut cs [] ≡ []
+unfolding cut
+cut-nil [] = refl
+cut-nil (c ∷ cs) = refl
+
+module _ (s : List ℕ) where
+  -- parts start where the first of them stands
+  first-stands : (c : Part) (cs : List Part) (p : ℕ) → some? (starts (c ∷ cs) s p) ≡ true → stands (c .word) s p ≡ true
+  unfolding starts
+  first-stands c [] p e = some-if _ _ e .0
+  first-stands c (d ∷ ds) p e = some-if _ _ e .0
+
+  one-starts : (c : Part) (p : ℕ) → stands (c .word) s p ≡ true → some? (starts (c ∷ []) s p) ≡ true
+  unfolding starts some?
+  one-starts c p e = rw e
+
+  -- with a first part more, those start still that did
+  after : (c : Part) (l u : ℕ) (v w : List ℕ) (ds es : List Part) → ((p : ℕ) → some? (starts (part l u v ∷ ds) s p) ≡ true → some? (starts (part l u w ∷ es) s p) ≡ true)
+      → (p : ℕ) → some? (starts (c ∷ part l u v ∷ ds) s p) ≡ true → some? (starts (c ∷ part l u w ∷ es) s p) ≡ true
+  unfolding starts
+  after c l u v w ds es h p e =
+      let k = some-if (stands (c .word) s p) _ e in
+      rw (k .0) (some-map (λ t. p ∷ t) _ ∙ some-each _ _ (reach (length (c .word)) l u p) h (sym (some-map (λ t. p ∷ t) _) ∙ k .1))
+
+  -- so it is where a letter is taken from what follows the first part
+  less-after : (a : Part) (cs : List Component) (v : List ℕ) (y : ℕ) → (1 ≤ length v → (p : ℕ) → some? (starts (cut cs (v ++ (y ∷ []))) s p) ≡ true → some? (starts (cut cs v) s p) ≡ true)
+      → (p : ℕ) → some? (starts (a ∷ cut cs (v ++ (y ∷ []))) s p) ≡ true → some? (starts (a ∷ cut cs v) s p) ≡ true
+  unfolding cut
+  less-after a [] v y ih p e = e
+  less-after a (d ∷ ds) [] y ih p e = one-starts a p (first-stands a _ p e)
+  less-after a (d ∷ ds) (x ∷ w) y ih p e = after a (d .low) (d .high) _ _ _ _ (ih (omega arith)) p e
+
+  -- with a letter less in all, parts start where they did
+  fewer : (cs : List Component) (v : List ℕ) (y : ℕ) → 1 ≤ length v → (p : ℕ) → some? (starts (cut cs (v ++ (y ∷ []))) s p) ≡ true → some? (starts (cut cs v) s p) ≡ true
+  unfolding cut
+  fewer [] v y h p e = e
+  fewer (c ∷ cs) [] y h p e = absurd (omega arith)
+  fewer (c ∷ cs) (x ∷ w) y h p e = go (leb (c .length) (suc (length w))) refl (fewer cs (drop (c .length) (x ∷ w)) y)
+    where
+      v : List ℕ
+      v = x ∷ w
+
+      go : (b : Bool) → leb (c .length) (suc (length w)) ≡ b
+          → (1 ≤ length (drop (c .length) v) → (p : ℕ) → some? (starts (cut cs (drop (c .length) v ++ (y ∷ []))) s p) ≡ true → some? (starts (cut cs (drop (c .length) v)) s p) ≡ true)
+          → some? (starts (part (c .low) (c .high) (take (c .length) v) ∷ cut cs (drop (c .length) v)) s p) ≡ true
+      -- the letter stood after the first part
+      go true f ih = let l = leb-true (c .length) (suc (length w)) f in
+          less-after _ cs (drop (c .length) v) y ih p (rw (take-append-le (c .length) v (y ∷ []) l, drop-append-le (c .length) v (y ∷ []) l) at e)
+      -- it was the first part's last
+      go false f ih =
+          let l = leb-false (c .length) (suc (length w)) f in
+          let short : length v ≤ c .length = omega arith in
+          let long : length (v ++ (y ∷ [])) ≤ c .length = omega (arith, length-append v (y ∷ [])) in
+          rw (take-all (c .length) v short, drop-of-length-le v short, cut-nil cs)
+          (one-starts _ p (stands-less v y s p (rw (take-all (c .length) (v ++ (y ∷ [])) long) at (first-stands _ _ p e))))
+
+  -- so they occur in the sequences in which they did
+  fewer-occur : (cs : List Component) (v : List ℕ) (y : ℕ) → 1 ≤ length v → some? (occurrences (cut cs (v ++ (y ∷ []))) s) ≡ true → some? (occurrences (cut cs v) s) ≡ true
+  unfolding occurrences
+  fewer-occur cs v y h e = some-each _ _ (run 1 (length s)) (fewer cs v y h) e
+
+-- ---- support
+
+-- a test that passes only where another does counts no more
+marks-le : {A : Type 0} (f g : A → Bool) → ((x : A) → f x ≡ true → g x ≡ true) → (xs : List A) → length (keep (λ b. b) (map f xs)) ≤ length (keep (λ b. b) (map g xs))
+unfolding keep
+marks-le f g h [] = omega arith
+marks-le f g h (x ∷ xs) = go (f x) (g x) (h x) (marks-le f g h xs)
+  where
+    go : (a b : Bool) → (a ≡ true → b ≡ true) → length (keep (λ b. b) (map f xs)) ≤ length (keep (λ b. b) (map g xs))
+        → length (if a (a ∷ keep (λ b. b) (map f xs)) (keep (λ b. b) (map f xs))) ≤ length (if b (b ∷ keep (λ b. b) (map g xs)) (keep (λ b. b) (map g xs)))
+    go true true k ih = omega arith
+    go true false k ih = absurd (false≢true (k refl))
+    go false true k ih = omega arith
+    go false false k ih = ih
+
+module _ (t : Template) (j m : ℕ) (h : 1 ≤ j) where
+  -- a prefix one letter shorter occurs wherever the longer one does
+  pub prefix-occurs : (s : List ℕ) → some? (occurrences (parts t (suc j) m) s) ≡ true → some? (occurrences (parts t j (m / Letter-BASES)) s) ≡ true
+  unfolding parts
+  prefix-occurs s e = fewer-occur s (components t) (spell Letter-BASES j (m / Letter-BASES)) (m % Letter-BASES) (rw length-spell h) (rw (spell-more Letter-BASES j m) at e)
+
+  -- so its support is no smaller
+  pub support-antitone : (ss : List (List ℕ)) → support (parts t (suc j) m) ss ≤ support (parts t j (m / Letter-BASES)) ss
+  unfolding support marks
+  support-antitone ss = marks-le _ _ prefix-occurs ss
+
+-- K is at least 1
+pub size-some : (t : Template) → SoundTemplate t → 1 ≤ size t
+unfolding size components sum
+size-some t s = go (t .count) (s .some)
+  where
+    go : (n : ℕ) → 1 ≤ n → 1 ≤ sum (map (λ c. c .length) (take n (slots t)))
+    go zero h = absurd (omega arith)
+    go (suc n) h = omega (arith, s .each 0 (s .some) .some)
+
+module _ (t : Template) (quorum : ℕ) (ss : List (List ℕ)) where
+  -- and it is frequent if the longer one is
+  pub frequent-prefix : (j m : ℕ) → frequent t quorum ss (suc j) m ≡ true → frequent t quorum ss j (m / Letter-BASES) ≡ true
+  unfolding frequent
+  frequent-prefix zero m e = refl
+  frequent-prefix (suc j) m e =
+      le-leb quorum (support (parts t (suc j) (m / Letter-BASES)) ss)
+      (omega (arith, leb-true quorum (support (parts t (suc (suc j)) m) ss) e, support-antitone t (suc j) m (omega arith) ss))
+
+  -- ---- what the walk's laws ask of a search, for the search for frequent motifs
+
+  -- a prefix of a good one is good
+  pub exact-anti : (j m : ℕ) → (exact t quorum ss) .good (suc j) m ≡ true → (exact t quorum ss) .good j (m / (exact t quorum ss) .base) ≡ true
+  unfolding exact
+  exact-anti = frequent-prefix
+
+  -- the empty prefix is good
+  pub exact-root : (exact t quorum ss) .good 0 0 ≡ true
+  unfolding exact frequent
+  exact-root = refl
+
+  -- there are letters
+  pub exact-pos : 1 ≤ (exact t quorum ss) .base
+  unfolding exact
+  exact-pos = omega arith
+
+  -- each letter may follow any
+  pub exact-plain : (j m : ℕ) → (exact t quorum ss) .may j m ≡ true
+  unfolding exact
+  exact-plain j m = refl
+
+  -- a motif has a letter
+  pub exact-deep : SoundTemplate t → 1 ≤ (exact t quorum ss) .depth
+  unfolding exact
+  exact-deep = size-some t

@@ -1,0 +1,163 @@
+-- Well-formed bytes are written back from the search that they hold: each record is its fields end to end, a field of n
+-- bytes is written back as those bytes, and what no field holds is fixed by the layout.
+use mathlib.Core.Path.{_≡_, refl, sym, ap, _∙_}
+use mathlib.Core.Bool.{true}
+use mathlib.Core.List.{List, [], _∷_, _++_, map}
+use Prim.Native.Nat.{ℕ, zero, suc, _+_, _*_, _≤_, _<_}
+use native.Mathlib.Omega.{arith}
+use lib.Dec.{eqb, leb}
+use lib.ListN.{length, getD, take, drop, replicate, length-drop}
+use lib.Seq.{take-all, take-add, drop-drop, drop-cons, getD-drop, getD-take, length-take-le}
+use borrow.Author.Tests.{le-leb, eqb-true}
+use Rattle.rules.specs.Limits.{Record-BYTES, Record-SIZE, Record-COMPONENT, Record-PLACE, Record-EXTRA, Template-COMPONENTS}
+use Rattle.rules.specs.Lists.{all?, run, sum}
+use Rattle.rules.specs.Saved.{low-first, read-low, size-record, component-record, place-record, component-records, records, bytes, record-at, field, record-count, component-count, read-component, read-place, read-template, read-search, sized?, blank?, size-record?, component-record?, place-record?, component-records?, laid-out?}
+use Rattle.rules.specs.Template.{components, kept, size, trimmed}
+use Rattle.rules.specs.declared.Component.{Component}
+use Rattle.rules.specs.declared.Search.{Search}
+use Rattle.rules.proofs.LowFirst.{Bytes, bytes-take, bytes-drop, written-read}
+use Rattle.rules.proofs.LaidOut.{laid-out-says}
+use Rattle.rules.proofs.Tests.{both}
+use Rattle.rules.proofs.Trimmed.{kept-twice}
+use Rattle.rules.proofs.Records.{records-whole, sized-says}
+
+-- pieces of a list from k on, as long as ns say, end to end
+abbrev pieces : ℕ → List ℕ → List ℕ → List ℕ
+pieces k [] r = []
+pieces k (n ∷ ns) r = take n (drop k r) ++ pieces (k + n) ns r
+
+pieces-joined : (k : ℕ) (ns r : List ℕ) → pieces k ns r ≡ take (sum ns) (drop k r)
+unfolding sum
+pieces-joined k [] r = refl
+pieces-joined k (n ∷ ns) r = rw (pieces-joined (k + n) ns r, take-add n (sum ns) (drop k r), drop-drop n k r)
+
+-- THE PIECES OF A RECORD: one byte, one byte that the layout fixes, a number of n bytes, and bytes that must be 0
+module _ (r : List ℕ) (k : ℕ) where
+  piece-byte : k < length r → take 1 (drop k r) ≡ field r k 1 ∷ []
+  unfolding field read-low
+  piece-byte h = let e : field r k 1 ≡ getD r k 0 = rw (drop-cons r k 0 h) (omega arith) in rw (e, drop-cons r k 0 h)
+
+  piece-fixed : (x : ℕ) → k < length r → eqb (field r k 1) x ≡ true → take 1 (drop k r) ≡ x ∷ []
+  piece-fixed x h e = piece-byte h ∙ ap (λ y. y ∷ []) (eqb-true (field r k 1) x e)
+
+  piece-number : (n : ℕ) → Bytes r → k + n ≤ length r → take n (drop k r) ≡ low-first n (field r k n)
+  unfolding field
+  piece-number n b h = sym (written-read n (drop k r) (omega (arith, length-drop k r)) (λ i l. bytes-drop k r b i))
+
+zeros : (xs : List ℕ) → all? (λ b. eqb b 0) xs ≡ true → xs ≡ replicate (length xs) 0
+unfolding all?
+zeros [] e = refl
+zeros (x ∷ xs) e = let p = both (eqb x 0) _ .0 e in let h = eqb-true x 0 (p .0) in rw (h, ← (zeros xs (p .1)))
+
+piece-blank : (r : List ℕ) (k n : ℕ) → k + n ≤ length r → blank? r k n ≡ true → take n (drop k r) ≡ replicate n 0
+unfolding blank?
+piece-blank r k n h e = zeros (take n (drop k r)) e ∙ ap (λ m. replicate m 0) (length-take-le n (drop k r) (omega (arith, length-drop k r)))
+
+-- EACH KIND OF RECORD is written back
+module _ (r : List ℕ) (w : length r ≡ Record-BYTES) (b : Bytes r) where
+  -- it is its pieces
+  sixteen : (ns : List ℕ) → sum ns ≡ Record-BYTES → pieces 0 ns r ≡ r
+  sixteen ns e = pieces-joined 0 ns r ∙ take-all (sum ns) r (omega arith)
+
+  component-again : (i : ℕ) → component-record? i r ≡ true → component-record i (read-component r) ≡ r
+  unfolding component-record? component-record read-component low-first sum
+  component-again i e =
+      let p = both _ (blank? r 8 8) .0 e in
+      let q = both _ (blank? r 3 1) .0 (p .0) in
+      let k = both (eqb (field r 0 1) Record-COMPONENT) (eqb (field r 1 1) i) .0 (q .0) in
+      rw (
+        piece-fixed r 0 Record-COMPONENT (omega arith) (k .0),
+        piece-fixed r 1 i (omega arith) (k .1),
+        piece-byte r 2 (omega arith),
+        piece-blank r 3 1 (omega arith) (q .1),
+        piece-number r 4 2 b (omega arith),
+        piece-number r 6 2 b (omega arith),
+        piece-blank r 8 8 (omega arith) (p .1),
+      )
+      at (sixteen (1 ∷ 1 ∷ 1 ∷ 1 ∷ 2 ∷ 2 ∷ 8 ∷ []) refl)
+
+  place-again : place-record? r ≡ true → place-record (read-place r) ≡ r
+  unfolding place-record? place-record read-place low-first sum
+  place-again e =
+      let p = both (eqb (field r 0 1) Record-PLACE) (blank? r 2 6) .0 e in
+      rw
+      (piece-fixed r 0 Record-PLACE (omega arith) (p .0), piece-byte r 1 (omega arith), piece-blank r 2 6 (omega arith) (p .1), piece-number r 8 8 b (omega arith))
+      at (sixteen (1 ∷ 1 ∷ 6 ∷ 8 ∷ []) refl)
+
+  -- with its fields given one by one: the count, the quorum, the sequences, K and the letters
+  size-again : (s : Search) → size-record? r ≡ true → s .template .count + Record-EXTRA ≡ field r 1 1 → s .quorum ≡ field r 2 2 → s .set .sequences ≡ field r 4 2
+      → size (s .template) ≡ field r 6 2 → s .set .letters ≡ field r 8 4 → size-record s ≡ r
+  unfolding size-record? size-record low-first sum
+  size-again s e n q m k l =
+      let p = both (eqb (field r 0 1) Record-SIZE) (blank? r 12 4) .0 e in
+      rw (n, q, m, k, l)
+      (rw (
+        piece-fixed r 0 Record-SIZE (omega arith) (p .0),
+        piece-byte r 1 (omega arith),
+        piece-number r 2 2 b (omega arith),
+        piece-number r 4 2 b (omega arith),
+        piece-number r 6 2 b (omega arith),
+        piece-number r 8 4 b (omega arith),
+        piece-blank r 12 4 (omega arith) (p .1),
+      )
+      at (sixteen (1 ∷ 1 ∷ 2 ∷ 2 ∷ 2 ∷ 4 ∷ 4 ∷ []) refl))
+
+-- THE TEMPLATE THAT BYTES HOLD
+-- it has nothing in the slots that it does not count
+pub read-trimmed : (bs : List ℕ) → trimmed (read-template bs) ≡ read-template bs
+unfolding trimmed read-template
+read-trimmed bs = simp kept-twice
+
+-- the first n of what g makes of a run, if g is f on them
+map-first : (f g : ℕ → Component) (i n m : ℕ) → n ≤ m → ((k : ℕ) → k < i + n → g k ≡ f k) → take n (map g (run i m)) ≡ map f (run i n)
+unfolding run
+map-first f g i zero m h e = refl
+map-first f g i (suc n) zero h e = absurd (omega arith)
+map-first f g i (suc n) (suc m) h e = rw (e i (omega arith), map-first f g (suc i) n m (omega arith) (λ k l. e k (omega arith)))
+
+-- and its components are those that the records hold
+read-components : (bs : List ℕ) → component-count bs ≤ Template-COMPONENTS
+    → components (read-template bs) ≡ map (λ i. read-component (record-at bs i)) (run 1 (component-count bs))
+unfolding components read-template run
+read-components bs h =
+    map-first (λ i. read-component (record-at bs i)) (λ i. kept (component-count bs) i (read-component (record-at bs i))) 1 (component-count bs) Template-COMPONENTS h
+    (λ k l. rw (le-leb k (component-count bs) (omega arith)))
+
+module _ (bs : List ℕ) where
+  -- a record of bytes is bytes, and 16 of them if they reach so far
+  record-bytes : Bytes bs → (i : ℕ) → Bytes (record-at bs i)
+  unfolding record-at
+  record-bytes b i = bytes-take Record-BYTES (drop (Record-BYTES * i) bs) (bytes-drop (Record-BYTES * i) bs b)
+
+  record-length : (i : ℕ) → Record-BYTES * suc i ≤ length bs → length (record-at bs i) ≡ Record-BYTES
+  unfolding record-at
+  record-length i h = length-take-le Record-BYTES (drop (Record-BYTES * i) bs) (omega (arith, length-drop (Record-BYTES * i) bs))
+
+  components-again : Bytes bs → (i n : ℕ) → Record-BYTES * (i + n) ≤ length bs → component-records? bs i n ≡ true
+      → component-records i (map (λ i. read-component (record-at bs i)) (run i n)) ≡ map (record-at bs) (run i n)
+  unfolding component-records? component-records run
+  components-again b i zero h e = refl
+  components-again b i (suc n) h e =
+      let p = both (component-record? i (record-at bs i)) (component-records? bs (suc i) n) .0 e in
+      rw (component-again (record-at bs i) (record-length i (omega arith)) (record-bytes b i) i (p .0), components-again b (suc i) n (omega arith) (p .1))
+
+-- the number of records stands in the size record
+count-field : (bs : List ℕ) → field (record-at bs 0) 1 1 ≡ record-count bs
+unfolding field read-low record-at record-count
+count-field bs = omega (arith, getD-drop 1 (take Record-BYTES bs) 0 0, getD-take Record-BYTES bs 1 0 (omega arith))
+
+-- WELL-FORMED BYTES
+-- they are the bytes of the search that they hold
+pub bytes-again : (bs : List ℕ) → Bytes bs → sized? bs ≡ true → component-count bs ≤ Template-COMPONENTS → laid-out? bs ≡ true → bytes (read-search bs) ≡ bs
+unfolding bytes records read-search read-template component-count
+bytes-again bs b z few l =
+    let s = read-search bs in
+    let n = component-count bs in
+    let d = sized-says bs z in
+    let o = laid-out-says bs l in
+    let w : length bs ≡ Record-BYTES * (n + Record-EXTRA) = omega arith in
+    let a : size-record s ≡ record-at bs 0 =
+    size-again (record-at bs 0) (record-length bs 0 (omega arith)) (record-bytes bs b 0) s (o .sizes) (omega (arith, count-field bs)) refl refl (sym (o .adds)) refl in
+    let c : component-records 1 (components (s .template)) ≡ map (record-at bs) (run 1 n) = rw (read-components bs few) (components-again bs b 1 n (omega arith) (o .each)) in
+    let e : place-record (s .place) ≡ record-at bs (suc n) = place-again (record-at bs (suc n)) (record-length bs (suc n) (omega arith)) (record-bytes bs b (suc n)) (o .place) in
+    rw (a, c, e) (records-whole bs n w)
