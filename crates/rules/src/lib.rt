@@ -1,8 +1,13 @@
 // The paper's types, with their limits and constructors. An inner crate: what it defines stands in specs/, and the laws
 // about that in proofs/.
 ghost use mathlib.Core.Path.{_≡_};
+ghost use Prim.Native.Nat.{min};
 ghost use Rattle.rules.specs.Limits.{Letter-BASES, Letter-MARK, Template-COMPONENTS, Template-LENGTH, Template-LETTERS, Template-GAP, SequenceSet-SEQUENCES, SequenceSet-LETTERS, Record-BYTES, Record-SIZE, Record-COMPONENT, Record-PLACE, Record-EXTRA, Text-BYTES, Text-GAP-DIGITS, Text-QUORUM-DIGITS};
-ghost use Rattle.rules.specs.Template.{slots, component, none};
+ghost use Rattle.rules.specs.Refusals.{_else_};
+ghost use Rattle.rules.specs.Template.{slots, component, none, kept, trimmed, size};
+ghost use Rattle.rules.specs.Lists.{if};
+ghost use Rattle.rules.specs.Told as told;
+ghost use Rattle.rules.specs.Told.{fine, refused, number, toldChecked};
 ghost use Rattle.rules.specs.Walk.{place, first-place, ended-place};
 
 // The three countings, each a type of its own, so that none can be taken for another.
@@ -46,6 +51,13 @@ impl Component {
             high: 0,
         }
     }
+
+    // Component i of a template that counts n: itself, or nothing past the last.
+    pub fn keep(self, n: u16, i: u16) -> Component
+        ensures { λ r. ⌜ r ≡ kept n i self ⌝ }
+    {
+        if i <= n { self } else { Component::none() }
+    }
 }
 
 // A template: how many components there are, and a slot for each that there may be.
@@ -80,6 +92,48 @@ impl Template {
         let c5 = self.c5;
         let c6 = self.c6;
         [c1, c2, c3, c4, c5, c6]
+    }
+
+    // How many slots hold a component: the count, and no more than there are slots.
+    pub fn held(self) -> u16
+        ensures { λ r. ⌜ r ≡ min (self .count) Template-COMPONENTS ⌝ }
+    {
+        let n = self.count;
+        if n <= Template::COMPONENTS {
+            n
+        } else {
+            Template::COMPONENTS
+        }
+    }
+
+    // The same template, with nothing in the slots that it does not count.
+    pub fn trim(self) -> Template
+        ensures { λ r. ⌜ r ≡ trimmed self ⌝ }
+    {
+        let n = self.count;
+        Template {
+            count: n,
+            c1: self.c1.keep(n, 1),
+            c2: self.c2.keep(n, 2),
+            c3: self.c3.keep(n, 3),
+            c4: self.c4.keep(n, 4),
+            c5: self.c5.keep(n, 5),
+            c6: self.c6.keep(n, 6),
+        }
+    }
+
+    // K, the letters in all.
+    pub fn letters(self) -> u32
+        ensures { λ r. ⌜ r ≡ size self ⌝ }
+    {
+        let t = self.trim();
+        let k1 = t.c1.length as u32;
+        let k2 = t.c2.length as u32;
+        let k3 = t.c3.length as u32;
+        let k4 = t.c4.length as u32;
+        let k5 = t.c5.length as u32;
+        let k6 = t.c6.length as u32;
+        k1 + k2 + k3 + k4 + k5 + k6
     }
 }
 
@@ -198,6 +252,83 @@ pub enum Refusal {
 pub enum Checked {
     Fine,
     Refused(Refusal),
+}
+
+impl Refusal {
+    // Its number in the paper.
+    pub fn number(self) -> u64
+        ensures { λ r. ⌜ r ≡ number self ⌝ }
+    {
+        match self {
+            Refusal::SequenceCount => 1,
+            Refusal::LetterCount => 2,
+            Refusal::LengthSum => 3,
+            Refusal::NotALetter(_) => 4,
+            Refusal::ComponentCount => 5,
+            Refusal::ComponentLength(_) => 6,
+            Refusal::MotifLength => 7,
+            Refusal::GapRange(_) => 8,
+            Refusal::Quorum => 9,
+            Refusal::SavedSize => 10,
+            Refusal::SavedLayout => 11,
+            Refusal::OtherSet => 12,
+            Refusal::NotACandidate => 13,
+            Refusal::MotifNumber => 14,
+            Refusal::FirstRow => 15,
+            Refusal::JoinList => 16,
+            Refusal::Room => 17,
+            Refusal::TextLine(_) => 18,
+        }
+    }
+
+    // The place that it tells, and 0 where it tells none.
+    pub fn place(self) -> u64
+        ensures { λ r. ⌜ r ≡ told.place self ⌝ }
+    {
+        match self {
+            Refusal::SequenceCount => 0,
+            Refusal::LetterCount => 0,
+            Refusal::LengthSum => 0,
+            Refusal::NotALetter(o) => o.0 as u64,
+            Refusal::ComponentCount => 0,
+            Refusal::ComponentLength(i) => i as u64,
+            Refusal::MotifLength => 0,
+            Refusal::GapRange(i) => i as u64,
+            Refusal::Quorum => 0,
+            Refusal::SavedSize => 0,
+            Refusal::SavedLayout => 0,
+            Refusal::OtherSet => 0,
+            Refusal::NotACandidate => 0,
+            Refusal::MotifNumber => 0,
+            Refusal::FirstRow => 0,
+            Refusal::JoinList => 0,
+            Refusal::Room => 0,
+            Refusal::TextLine(n) => n as u64,
+        }
+    }
+}
+
+impl Checked {
+    // A refusal where a test says so.
+    pub fn refuse_if(bad: bool, why: Refusal) -> Checked
+        ensures { λ r. ⌜ toldChecked r ≡ if bad (refused (number why) (told.place why)) fine ⌝ }
+    {
+        if bad {
+            Checked::Refused(why)
+        } else {
+            Checked::Fine
+        }
+    }
+
+    // The first of two that refuses.
+    pub fn then(self, next: Checked) -> Checked
+        ensures { λ r. ⌜ toldChecked r ≡ _else_ (toldChecked self) (toldChecked next) ⌝ }
+    {
+        match self {
+            Checked::Fine => next,
+            Checked::Refused(why) => Checked::Refused(why),
+        }
+    }
 }
 
 // What a new search or a restore answers.

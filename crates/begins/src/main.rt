@@ -1,0 +1,153 @@
+// What a new search answers on each side of every limit: accepted, or a refusal's number and place.
+use libc::STDOUT_FILENO;
+use rules::Begun;
+use rules::Component;
+use rules::Template;
+
+// Writes one answer on a line.
+fn tell(answer: Begun) {
+    match answer {
+        Begun::Search(_) => {
+            io::write_all(STDOUT_FILENO, b": accepted\n");
+        }
+        Begun::Refused(why) => {
+            io::write_all(STDOUT_FILENO, b": refused ");
+            io::print_decimal(STDOUT_FILENO, why.number());
+            io::write_all(STDOUT_FILENO, b" ");
+            io::print_decimal(STDOUT_FILENO, why.place());
+            io::write_all(STDOUT_FILENO, b"\n");
+        }
+    }
+}
+
+// A template of the first of six components, of which the last three have one letter and no gap.
+fn template(count: u16, c1: Component, c2: Component, c3: Component) -> Template {
+    let c = Component::new(1, 0, 0);
+    Template {
+        count,
+        c1,
+        c2,
+        c3,
+        c4: c,
+        c5: c,
+        c6: c,
+    }
+}
+
+// One letter, and after at most one more another: N[0,1]N.
+fn pair() -> Template {
+    let c = Component::new(1, 0, 0);
+    template(2, c, Component::new(1, 0, 1), c)
+}
+
+// So many empty sequences.
+fn sequences(what: &[u8], lengths: &[u32]) {
+    io::write_all(STDOUT_FILENO, what);
+    tell(search::begin(b"", lengths, pair(), 1));
+}
+
+// One sequence of these letters.
+fn letters(what: &[u8], buffer: &[u8], length: u32) {
+    io::write_all(STDOUT_FILENO, what);
+    let lengths = [length];
+    tell(search::begin(buffer, &lengths, pair(), 1));
+}
+
+// Three sequences, of the lengths given.
+fn lengths(what: &[u8], a: u32, b: u32, c: u32) {
+    io::write_all(STDOUT_FILENO, what);
+    let lengths = [a, b, c];
+    tell(search::begin(b"ACGTACAGGTAT", &lengths, pair(), 2));
+}
+
+fn quorum(what: &[u8], quorum: u64) {
+    io::write_all(STDOUT_FILENO, what);
+    let lengths = [5, 5, 2];
+    tell(search::begin(b"ACGTACAGGTAT", &lengths, pair(), quorum));
+}
+
+// Three components of the lengths given, with no gap.
+fn components(what: &[u8], count: u16, a: u16, b: u16, c: u16) {
+    io::write_all(STDOUT_FILENO, what);
+    let lengths = [5, 5, 2];
+    let t = template(
+        count,
+        Component::new(a, 0, 0),
+        Component::new(b, 0, 0),
+        Component::new(c, 0, 0),
+    );
+    tell(search::begin(b"ACGTACAGGTAT", &lengths, t, 2));
+}
+
+// Two components of one letter, with the range before each.
+fn gap(what: &[u8], l1: u16, u1: u16, l2: u16, u2: u16) {
+    io::write_all(STDOUT_FILENO, what);
+    let lengths = [5, 5, 2];
+    let t = template(
+        2,
+        Component::new(1, l1, u1),
+        Component::new(1, l2, u2),
+        Component::none(),
+    );
+    tell(search::begin(b"ACGTACAGGTAT", &lengths, t, 2));
+}
+
+// Each byte, after a letter.
+fn bytes() {
+    let lengths = [2];
+    for b in 0..=255u8 {
+        io::write_all(STDOUT_FILENO, b"A and byte ");
+        io::print_decimal(STDOUT_FILENO, b as u64);
+        let buffer = [b'A', b];
+        tell(search::begin(&buffer, &lengths, pair(), 1));
+    }
+}
+
+fn many_letters() {
+    let most = [b'A'; 65536];
+    letters(b"65536 letters", &most, 65536);
+    let more = [b'A'; 65537];
+    letters(b"65537 letters", &more, 65537);
+}
+
+fn many_sequences() {
+    let most = [0u32; 1024];
+    sequences(b"1024 sequences", &most);
+    let more = [0u32; 1025];
+    sequences(b"1025 sequences", &more);
+    let none = [0u32; 0];
+    sequences(b"0 sequences", &none);
+}
+
+fn main() {
+    many_sequences();
+    many_letters();
+    lengths(b"lengths 5, 5, 2 of 12 letters", 5, 5, 2);
+    lengths(b"lengths 5, 5, 1", 5, 5, 1);
+    lengths(b"lengths 5, 5, 3", 5, 5, 3);
+    lengths(
+        b"lengths 4294967295, 4294967295, 14",
+        4294967295,
+        4294967295,
+        14,
+    );
+    components(b"0 components", 0, 1, 1, 1);
+    components(b"6 components", 6, 1, 1, 1);
+    components(b"7 components", 7, 1, 1, 1);
+    components(b"component lengths 12, 12, 8", 3, 12, 12, 8);
+    components(b"component lengths 12, 12, 9", 3, 12, 12, 9);
+    components(b"component lengths 12, 0, 1", 3, 12, 0, 1);
+    components(b"component lengths 12, 13, 1", 3, 12, 13, 1);
+    components(b"component lengths 13, 0, 1", 3, 13, 0, 1);
+    gap(b"gap range 0, 255", 0, 0, 0, 255);
+    gap(b"gap range 0, 256", 0, 0, 0, 256);
+    gap(b"gap range 3, 3", 0, 0, 3, 3);
+    gap(b"gap range 4, 3", 0, 0, 4, 3);
+    gap(b"gap range 0, 1 before the first", 0, 1, 0, 1);
+    gap(b"gap range 1, 1 before the first", 1, 1, 0, 1);
+    quorum(b"quorum 0 of 3", 0);
+    quorum(b"quorum 1 of 3", 1);
+    quorum(b"quorum 3 of 3", 3);
+    quorum(b"quorum 4 of 3", 4);
+    bytes();
+}

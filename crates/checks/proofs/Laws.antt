@@ -1,0 +1,84 @@
+-- Laws that the checks' loops lean on: a sum from one index to the next, a power of the base one letter at a time, and how
+-- far the search for a bad component is.
+use mathlib.Core.Bool.{Bool, true, false}
+use mathlib.Core.List.{List, [], _∷_}
+use mathlib.Core.Path.{_≡_, _∙_, refl, sym}
+use Prim.Native.Nat.{ℕ, zero, suc, _+_, _-_, _/_, _^_, _≤_, _<_, min}
+use native.Mathlib.Nat.{pow-suc, zero-min, min-zero, suc-min-suc}
+use native.Mathlib.Numerals.{add-one, sub-one}
+use native.Mathlib.Omega.{arith}
+use lib.Dec.{ltb, eqb}
+use lib.ListN.{length, getD, take, drop, drop-of-length-le}
+use lib.Seq.{drop-cons}
+use borrow.Author.Tests.{ltb-true, ltb-false, lt-ltb, le-ltb, eq-eqb, ne-eqb}
+use Rattle.rules.specs.Limits.{Letter-BASES, Template-COMPONENTS}
+use Rattle.rules.specs.Lists.{sum}
+use Rattle.rules.specs.Refusals.{first-bad}
+use Rattle.rules.specs.Template.{slots, none, components}
+use Rattle.rules.specs.Told.{fine, refused}
+use Rattle.rules.specs.declared.Component.{Component}
+use Rattle.rules.specs.declared.Template.{Template}
+use Rattle.rules.proofs.Verdicts.{here-in, later-in, over-in}
+
+-- SUMS, from index i on
+pub sum-more : (xs : List ℕ) (i : ℕ) → i < length xs → sum (drop i xs) ≡ getD xs i 0 + sum (drop (i + 1) xs)
+unfolding sum
+sum-more xs i h = rw (add-one, drop-cons xs i 0 h)
+
+pub sum-over : (xs : List ℕ) (i : ℕ) → length xs ≤ i → sum (drop i xs) ≡ 0
+unfolding sum
+sum-over xs i h = rw (drop-of-length-le xs h)
+
+-- what is left of a number once another is taken away says whether they are the same
+pub same-left : (a s l : ℕ) → a + s ≡ l → eqb s l ≡ eqb a 0
+same-left zero s l e = eq-eqb s l (omega arith)
+same-left (suc a) s l e = ne-eqb s l (λ f. omega arith) ∙ sym (ne-eqb (suc a) 0 (λ f. omega arith))
+
+-- POWERS. A number is below a power of the base exactly if, without its last letter, it is below the one before
+fewer-suc : (x j : ℕ) (b : Bool) → ltb (x / Letter-BASES) (Letter-BASES ^ j) ≡ b → ltb x (Letter-BASES ^ suc j) ≡ b
+fewer-suc x j true e = lt-ltb x (Letter-BASES ^ suc j) (omega (arith, pow-suc Letter-BASES j, ltb-true (x / Letter-BASES) (Letter-BASES ^ j) e))
+fewer-suc x j false e = le-ltb x (Letter-BASES ^ suc j) (omega (arith, pow-suc Letter-BASES j, ltb-false (x / Letter-BASES) (Letter-BASES ^ j) e))
+
+pub fewer : (x j : ℕ) → 0 < j → ltb x (Letter-BASES ^ j) ≡ ltb (x / Letter-BASES) (Letter-BASES ^ (j - 1))
+fewer x zero h = absurd (omega arith)
+fewer x (suc j) h = rw sub-one (fewer-suc x j _ refl)
+
+pub none-left : (x j : ℕ) → j ≡ 0 → ltb x (Letter-BASES ^ j) ≡ eqb x 0
+none-left zero j e = rw e
+none-left (suc x) j e = rw e (le-ltb (suc x) 1 (omega arith) ∙ sym (ne-eqb (suc x) 0 (λ f. omega arith)))
+
+-- A TEMPLATE'S COMPONENTS: as many slots as it counts, and no more than there are
+take-least : {A : Type 0} (n : ℕ) (l : List A) → take (min n (length l)) l ≡ take n l
+take-least zero l = rw zero-min
+take-least (suc n) [] = rw min-zero
+take-least (suc n) (x ∷ l) = rw (suc-min-suc, take-least n l)
+
+-- how far a search for the first bad component is: of the first h slots, i are not bad
+pub record Passed (n : ℕ) (bad : ℕ → Component → Bool) (cs : List Component) (h i : ℕ) : Type 0 where
+  pub within : i ≤ h
+  pub fit : h ≤ length cs
+  pub few : length cs ≡ Template-COMPONENTS
+  pub rest : first-bad n bad 1 (take h cs) ≡ first-bad n bad (i + 1) (drop i (take h cs))
+
+module _ (n : ℕ) (bad : ℕ → Component → Bool) (t : Template) {cs : List Component} {h : ℕ} (s : cs ≡ slots t) (e : h ≡ min (t .count) Template-COMPONENTS) where
+  pub none-passed : Passed n bad cs h 0
+  none-passed = rw s (record { within = omega arith; fit = omega arith; few = refl; rest = refl })
+
+  all : first-bad n bad 1 (take h cs) ≡ first-bad n bad 1 (components t)
+  unfolding components
+  all = rw (s, e, take-least (t .count) (slots t))
+
+  pub found : (d : Component) (i : ℕ) → Passed n bad cs h i → i < h → bad (i + 1) (getD cs i d) ≡ true → refused n (i + 1) ≡ first-bad n bad 1 (components t)
+  found d i p l b =
+      sym (here-in n bad d 1 h cs (p .fit) i l b) ∙ sym (p .rest) ∙ all
+
+  pub none-found : (i : ℕ) → Passed n bad cs h i → h ≤ i → fine ≡ first-bad n bad 1 (components t)
+  none-found i p l = sym (over-in n bad none 1 h cs (p .fit) i l) ∙ sym (p .rest) ∙ all
+
+pub one-more : (n : ℕ) (bad : ℕ → Component → Bool) (d : Component) {cs : List Component} {h i : ℕ} → Passed n bad cs h i → i < h → bad (i + 1) (getD cs i d) ≡ false → Passed n bad cs h (i + 1)
+one-more n bad d {cs} {h} {i} p l b = record {
+  within = omega arith;
+  fit = p .fit;
+  few = p .few;
+  rest = p .rest ∙ later-in n bad d 1 h cs (p .fit) i l b;
+}

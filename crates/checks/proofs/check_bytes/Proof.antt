@@ -1,0 +1,69 @@
+-- `check_bytes`: the bytes passed are letters, so the first that is none stands among the rest.
+use mathlib.Core.Path.{_≡_, _∙_, sym}
+use Prim.Native.Nat.{_+_, _-_, _≤_}
+use native.Mathlib.Nat.{add-zero}
+use native.Mathlib.Omega.{arith}
+use lib.ListN.{length, drop}
+use borrow.Author.Tests.{eq-eqb, ne-eqb}
+use Rattle.rules.specs.Letters.{letter?}
+use Rattle.rules.specs.Refusals.{first-bad, bad-byte, check4}
+use Rattle.rules.proofs.Verdicts.{here, later, over}
+use borrow.Author.Needs.{needs}
+use Rattle.checks.proofs.check_bytes.Statement.{statement}
+use Rattle.checks.proofs.check_bytes.Tie as tie
+
+abbrev Inv-loop : tie.InvT-loop
+Inv-loop letters i₀ i = (i ≤ length letters) × (check4 letters ≡ first-bad 4 bad-byte (i + 0) (drop i letters))
+
+abbrev μ-loop : tie.MeasureT-loop
+μ-loop letters i₀ i = length letters - i
+
+loop-holds : tie.Need-loop-holds Inv-loop μ-loop
+unfolding check4
+loop-holds c = search needs
+
+shared-slice-read-value : tie.Need-shared-slice-read-value Inv-loop μ-loop
+shared-slice-read-value c = search needs
+
+value-requires : tie.Need-value-requires Inv-loop μ-loop
+value-requires c κs = search needs
+
+returns : tie.Need-returns Inv-loop μ-loop
+unfolding letter?
+returns c =
+    let l = c .before .before .before .before .loop in
+    let xs = c .before .before .before .before .before .before .args .letters .now in
+    sym (l .inv .1 ∙ here 4 bad-byte 0 0 xs (l .i) (omega arith) (rw (eq-eqb _ _ (sym (c .before .value .ensures) ∙ c .if1 .taken))) ∙ simp add-zero)
+
+add-i : tie.Need-add-i Inv-loop μ-loop
+add-i c = search needs
+
+loop-less : tie.Need-loop-less Inv-loop μ-loop
+loop-less c = search needs
+
+loop-again : tie.Need-loop-again Inv-loop μ-loop
+unfolding letter?
+loop-again c =
+    let l = c .before .before .before .before .loop in
+    let xs = c .before .before .before .before .before .before .args .letters .now in
+    (omega arith, l .inv .1 ∙ later 4 bad-byte 0 0 xs (l .i) (omega arith) (rw (ne-eqb _ _ (λ e. c .if1 .left (c .before .value .ensures ∙ e)))))
+
+returns-2 : tie.Need-returns-2 Inv-loop μ-loop
+returns-2 c =
+    let l = c .before .loop in
+    sym (l .inv .1 ∙ over 4 bad-byte 0 (c .before .before .before .args .letters .now) (l .i) (omega arith))
+
+pub check-bytes-spec : {M : Type 1} → statement M
+check-bytes-spec =
+    tie.close
+    (tie.spec
+    Inv-loop
+    μ-loop
+    loop-holds
+    shared-slice-read-value
+    value-requires
+    returns
+    add-i
+    loop-less
+    loop-again
+    returns-2)

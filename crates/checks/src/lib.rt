@@ -1,0 +1,236 @@
+// An inner crate: what a call refuses, each check by its number in the paper, and the orders in which the calls check. Every
+// check is total, so that an order may make all of them and keep the first that applies.
+mod letters;
+
+pub use letters::value;
+ghost use mathlib.Core.Path.{_≡_};
+ghost use Prim.Native.Nat.{_^_};
+ghost use lib.Dec.{ltb};
+ghost use Rattle.checks.specs.Orders.{template-checks, value-checks-before-13};
+ghost use Rattle.rules.specs.Limits.{Letter-BASES, Template-LENGTH};
+ghost use Rattle.rules.specs.Refusals.{first, outside, bad-gap, check1, check2, check3, check4, check5, check6, check7, check8, check9, check11-place, check12, set-checks, new-checks};
+ghost use Rattle.rules.specs.Saved.{place-rule?};
+ghost use Rattle.rules.specs.Told.{toldChecked};
+use rules::Checked;
+use rules::Component;
+use rules::Letter;
+use rules::Offset;
+use rules::Place;
+use rules::Refusal;
+use rules::Search;
+use rules::SequenceSet;
+use rules::Template;
+
+// 1: no sequences, or too many.
+pub fn check_sequences(lengths: &[u32]) -> Checked
+    ensures { λ r. ⌜ toldChecked r ≡ check1 (now (lengths .entry)) ⌝ }
+{
+    let n = lengths.len();
+    Checked::refuse_if(
+        (n < 1) | (SequenceSet::SEQUENCES < n),
+        Refusal::SequenceCount,
+    )
+}
+
+// 2: too many letters in all the sequences.
+pub fn check_letters(letters: &[u8]) -> Checked
+    ensures { λ r. ⌜ toldChecked r ≡ check2 (now (letters .entry)) ⌝ }
+{
+    let n = letters.len();
+    Checked::refuse_if(SequenceSet::LETTERS < n, Refusal::LetterCount)
+}
+
+// 3: lengths that do not add up to the letters. Each is taken from what is left of the letters, so that no sum is formed.
+pub fn check_sum(letters: &[u8], lengths: &[u32]) -> Checked
+    ensures { λ r. ⌜ toldChecked r ≡ check3 (now (letters .entry)) (now (lengths .entry)) ⌝ }
+{
+    let mut left = letters.len();
+    let mut i = 0;
+    while i < lengths.len() {
+        let n = lengths[i] as usize;
+        if left < n {
+            return Checked::Refused(Refusal::LengthSum);
+        }
+        left -= n;
+        i += 1;
+    }
+    Checked::refuse_if(left != 0, Refusal::LengthSum)
+}
+
+// 4: the first byte that is no letter.
+pub fn check_bytes(letters: &[u8]) -> Checked
+    ensures { λ r. ⌜ toldChecked r ≡ check4 (now (letters .entry)) ⌝ }
+{
+    let mut i = 0;
+    while i < letters.len() {
+        if value(letters[i]) == Letter::MARK {
+            return Checked::Refused(Refusal::NotALetter(Offset(i)));
+        }
+        i += 1;
+    }
+    Checked::Fine
+}
+
+// 5: no components, or too many.
+pub fn check_count(t: Template) -> Checked
+    ensures { λ r. ⌜ toldChecked r ≡ check5 t ⌝ }
+{
+    let n = t.count;
+    Checked::refuse_if(
+        (n < 1) | (Template::COMPONENTS < n),
+        Refusal::ComponentCount,
+    )
+}
+
+// A length that no component may have.
+fn bad_length(c: Component) -> bool
+    ensures { λ r. ⌜ r ≡ outside 1 Template-LENGTH (c .length) ⌝ }
+{
+    let n = c.length;
+    (n < 1) | (Template::LENGTH < n)
+}
+
+// 6: the first component with such a length.
+pub fn check_lengths(t: Template) -> Checked
+    ensures { λ r. ⌜ toldChecked r ≡ check6 t ⌝ }
+{
+    let cs = t.components();
+    let n = t.held() as usize;
+    let mut i: usize = 0;
+    while i < n {
+        let at = (i + 1) as u8;
+        if bad_length(cs[i]) {
+            return Checked::Refused(Refusal::ComponentLength(at));
+        }
+        i += 1;
+    }
+    Checked::Fine
+}
+
+// 7: too many letters in all the components, K.
+pub fn check_size(t: Template) -> Checked
+    ensures { λ r. ⌜ toldChecked r ≡ check7 t ⌝ }
+{
+    let k = t.letters();
+    Checked::refuse_if(Template::LETTERS < k, Refusal::MotifLength)
+}
+
+// A gap range that component i may not have: the first has 0, 0.
+fn bad_gap(c: Component, i: u8) -> bool
+    ensures { λ r. ⌜ r ≡ bad-gap i c ⌝ }
+{
+    let low = c.low;
+    let high = c.high;
+    ((high < low) | (Template::GAP < high)) | ((i == 1) & !((low == 0) & (high == 0)))
+}
+
+// 8: the first component with such a range.
+pub fn check_gaps(t: Template) -> Checked
+    ensures { λ r. ⌜ toldChecked r ≡ check8 t ⌝ }
+{
+    let cs = t.components();
+    let n = t.held() as usize;
+    let mut i: usize = 0;
+    while i < n {
+        let at = (i + 1) as u8;
+        if bad_gap(cs[i], at) {
+            return Checked::Refused(Refusal::GapRange(at));
+        }
+        i += 1;
+    }
+    Checked::Fine
+}
+
+// 9: a quorum of 0, or above the number of sequences.
+pub fn check_quorum(lengths: &[u32], quorum: u64) -> Checked
+    ensures { λ r. ⌜ toldChecked r ≡ check9 (now (lengths .entry)) quorum ⌝ }
+{
+    let n = lengths.len() as u64;
+    Checked::refuse_if((quorum < 1) | (n < quorum), Refusal::Quorum)
+}
+
+// A number that so many letters can spell: it lies below 4 to the power of them. That power is never formed; the number is
+// divided by 4 once for each letter, and must come to nothing.
+pub fn spelled_by(number: u64, letters: u32) -> bool
+    ensures { λ r. ⌜ r ≡ ltb number (Letter-BASES ^ letters) ⌝ }
+{
+    let mut x = number;
+    let mut j = letters;
+    while 0 < j {
+        x = x / Letter::BASES;
+        j -= 1;
+    }
+    x == 0
+}
+
+// The place rule: a place is 0 to K, and its number lies below 4 to the power of the place.
+pub fn place_rule(t: Template, p: Place) -> bool
+    ensures { λ r. ⌜ r ≡ place-rule? t p ⌝ }
+{
+    let j = p.letters as u32;
+    (j <= t.letters()) & spelled_by(p.number, j)
+}
+
+// 11, of a search: a place that breaks its rule.
+pub fn check_place(s: Search) -> Checked
+    ensures { λ r. ⌜ toldChecked r ≡ check11-place s ⌝ }
+{
+    Checked::refuse_if(!place_rule(s.template, s.place), Refusal::SavedLayout)
+}
+
+// 12: a search over other sequences than the lent ones.
+pub fn check_same_set(letters: &[u8], lengths: &[u32], s: Search) -> Checked
+    ensures { λ r. ⌜ toldChecked r ≡ check12 (now (letters .entry)) (now (lengths .entry)) s ⌝ }
+{
+    let set = s.set;
+    let n = set.sequences as usize;
+    let m = set.letters as usize;
+    Checked::refuse_if(
+        !((n == lengths.len()) & (m == letters.len())),
+        Refusal::OtherSet,
+    )
+}
+
+// 1 to 4: the checks of the sequences.
+pub fn check_set(letters: &[u8], lengths: &[u32]) -> Checked
+    ensures { λ r. ⌜ toldChecked r ≡ first (set-checks (now (letters .entry)) (now (lengths .entry))) ⌝ }
+{
+    check_sequences(lengths)
+        .then(check_letters(letters))
+        .then(check_sum(letters, lengths))
+        .then(check_bytes(letters))
+}
+
+// 5 to 8: the checks of a template.
+pub fn check_template(t: Template) -> Checked
+    ensures { λ r. ⌜ toldChecked r ≡ first (template-checks t) ⌝ }
+{
+    check_count(t)
+        .then(check_lengths(t))
+        .then(check_size(t))
+        .then(check_gaps(t))
+}
+
+// 1 to 9: the checks of a new search.
+pub fn check_new(letters: &[u8], lengths: &[u32], t: Template, quorum: u64) -> Checked
+    ensures { λ r. ⌜ toldChecked r ≡ first (new-checks (now (letters .entry)) (now (lengths .entry)) t quorum) ⌝ }
+{
+    check_set(letters, lengths)
+        .then(check_template(t))
+        .then(check_quorum(lengths, quorum))
+}
+
+// 5, 11, 6, 7, 8, 12, 9: those of a search value, before 13.
+pub fn check_value(letters: &[u8], lengths: &[u32], s: Search) -> Checked
+    ensures { λ r. ⌜ toldChecked r ≡ first (value-checks-before-13 (now (letters .entry)) (now (lengths .entry)) s) ⌝ }
+{
+    let t = s.template;
+    let quorum = s.quorum;
+    check_count(t)
+        .then(check_place(s))
+        .then(check_lengths(t))
+        .then(check_size(t))
+        .then(check_gaps(t))
+        .then(check_same_set(letters, lengths, s))
+        .then(check_quorum(lengths, quorum))
+}

@@ -1,0 +1,4 @@
+pub mod Rising
+pub mod Partner
+pub mod Table
+pub mod Checks
