@@ -29,7 +29,7 @@ use Rattle.rules.proofs.Relayed.{granted, rows-of, relay-legs}
 use Rattle.rules.proofs.Trimmed.{trimmed-size, trimmed-parts}
 
 -- a prefix with a letter is frequent by its support
-frequent-some : (t : Template) (quorum : ℕ) (ss : List (List ℕ)) (j m : ℕ) → 1 ≤ j → frequent t quorum ss j m ≡ leb quorum (support (parts t j m) ss)
+pub frequent-some : (t : Template) (quorum : ℕ) (ss : List (List ℕ)) (j m : ℕ) → 1 ≤ j → frequent t quorum ss j m ≡ leb quorum (support (parts t j m) ss)
 unfolding frequent
 frequent-some t quorum ss zero m h = absurd (omega arith)
 frequent-some t quorum ss (suc j) m h = refl

@@ -1,9 +1,14 @@
 // The search for frequent motifs, as a caller sees it.
+mod run;
+mod step;
+
 ghost use mathlib.Core.Path.{_≡_};
-ghost use Rattle.rules.specs.Calls.{begin-rule};
-ghost use Rattle.rules.specs.Told.{toldBegun};
+ghost use Rattle.rules.specs.Calls.{begin-rule, leg-rule};
+ghost use Rattle.rules.specs.Told.{toldBegun, toldLeg};
 use rules::Begun;
 use rules::Checked;
+use rules::Leg;
+use rules::LegAnswer;
 use rules::Place;
 use rules::Search;
 use rules::SequenceSet;
@@ -33,5 +38,49 @@ pub fn begin(letters: &[u8], lengths: &[u32], template: Template, quorum: u64) -
                 place,
             })
         }
+    }
+}
+
+// A leg of a search: from its place on, as far as a budget of steps and the room in three tables allow. A row for each motif
+// whose support reaches the quorum, in letter order: its number, its support, its weighted support, from row 0 on; the rest of
+// each table stays. It answers why it stopped, its steps, its rows, and the search at its new place. A search that breaks a rule
+// is refused by the first number, of 1 to 4, 5, 11, 6, 7, 8, 12, 9 and 13, that applies, handed back, and nothing is written.
+pub fn leg(
+    letters: &[u8],
+    lengths: &[u32],
+    search: Search,
+    budget: u64,
+    motifs: &mut [u64],
+    supports: &mut [u32],
+    weights: &mut [u64],
+) -> Leg
+    ensures { λ r. ⌜ toldLeg r ≡ (leg-rule (now (letters .entry)) (now (lengths .entry)) search budget (now (motifs .entry)) (now (supports .entry)) (now (weights .entry))) .told ⌝ }
+    ensures { λ _. ⌜ now (motifs .exit) ≡ (leg-rule (now (letters .entry)) (now (lengths .entry)) search budget (now (motifs .entry)) (now (supports .entry)) (now (weights .entry))) .motifs ⌝ }
+    ensures { λ _. ⌜ now (supports .exit) ≡ (leg-rule (now (letters .entry)) (now (lengths .entry)) search budget (now (motifs .entry)) (now (supports .entry)) (now (weights .entry))) .supports ⌝ }
+    ensures { λ _. ⌜ now (weights .exit) ≡ (leg-rule (now (letters .entry)) (now (lengths .entry)) search budget (now (motifs .entry)) (now (supports .entry)) (now (weights .entry))) .weights ⌝ }
+{
+    let mut flags = [0u8; SequenceSet::LETTERS];
+    let mut spare = [0u8; SequenceSet::LETTERS];
+    let mut ways = [0u64; SequenceSet::LETTERS];
+    let checked = places::check_search(letters, lengths, search, &mut flags, &mut spare);
+    match checked {
+        Checked::Refused(why) => Leg {
+            answer: LegAnswer::Refused(why),
+            steps: 0,
+            rows: 0,
+            search,
+        },
+        Checked::Fine => run::run(
+            letters,
+            lengths,
+            search,
+            budget,
+            motifs,
+            supports,
+            weights,
+            &mut flags,
+            &mut spare,
+            &mut ways,
+        ),
     }
 }

@@ -1,0 +1,87 @@
+-- A gap: the sum of the flags in a window that ends at a fixed distance before a place. When the place moves on by one, one
+-- flag comes in at the near end and one goes out at the far end.
+use mathlib.Core.Bool.{true, false}
+use mathlib.Core.List.{List, _++_, append-nil}
+use mathlib.Core.Path.{_≡_, refl, sym, ap, _∙_}
+use Prim.Native.Nat.{ℕ, zero, suc, _+_, _-_, _*_, _≤_}
+use native.Mathlib.Nat.{add-zero, suc-mul, suc-sub-suc}
+use native.Mathlib.Numerals.{add-one}
+use native.Mathlib.Omega.{arith}
+use lib.Dec.{eqb, leb, leb·suc-suc, leb·suc-zero}
+use lib.ListN.{length, take, drop, getD, drop-of-length-le}
+use lib.Seq.{take-length}
+use Rattle.rules.specs.Lists.{run, if, sum}
+use Rattle.matching.specs.Flags.{over, ago, recent, near, opened}
+use Rattle.matching.proofs.Over.{over-all}
+
+module _ (ks : List ℕ) where
+  ago-next : (o d : ℕ) → ago ks (suc o) (suc d) ≡ ago ks o d
+  unfolding ago
+  ago-next o d = rw (leb·suc-suc, suc-sub-suc)
+
+  ago-first : (d : ℕ) → ago ks 0 (suc d) ≡ 0
+  unfolding ago
+  ago-first d = rw leb·suc-zero
+
+  ago-bound : (b : ℕ) → ((i : ℕ) → getD ks i 0 ≤ b) → (o d : ℕ) → ago ks o d ≤ b
+  unfolding ago
+  ago-bound b h o d = elim (leb d o) as (λ t. if t (getD ks (o - d) 0) 0 ≤ b) [ true ↦ h (o - d) | false ↦ omega arith ]
+
+  recent-last : (o d n : ℕ) → recent ks o d (suc n) ≡ recent ks o d n + ago ks o (d + n)
+  unfolding recent run sum
+  recent-last o d zero = rw (add-zero d) (omega arith)
+  recent-last o d (suc n) =
+      let ih : recent ks o (suc d) (suc n) ≡ recent ks o (suc d) n + ago ks o (suc d + n) = recent-last o (suc d) n in
+      let e : ago ks o (suc d + n) ≡ ago ks o (d + suc n) = ap (ago ks o) (omega arith) in
+      omega arith
+
+  recent-sum-bound : (b : ℕ) → ((i : ℕ) → getD ks i 0 ≤ b) → (o d n : ℕ) → recent ks o d n ≤ n * b
+  unfolding recent run sum
+  recent-sum-bound b h o d zero = omega arith
+  recent-sum-bound b h o d (suc n) = rw suc-mul (omega (arith, ago-bound b h o d, recent-sum-bound b h o (suc d) n))
+
+  recent-next-place : (o d n : ℕ) → recent ks (suc o) (suc d) n ≡ recent ks o d n
+  unfolding recent run sum
+  recent-next-place o d zero = refl
+  recent-next-place o d (suc n) = rw (ago-next o d) (ap (λ (x : ℕ). ago ks o d + x) (recent-next-place o (suc d) n))
+
+  recent-first : (d n : ℕ) → recent ks 0 (suc d) n ≡ 0
+  unfolding recent run sum
+  recent-first d zero = refl
+  recent-first d (suc n) = rw (ago-first d) (omega (arith, recent-first (suc d) n))
+
+  -- before the first place there is no flag
+  pub recent-none : (d n : ℕ) → 0 ≡ recent ks 0 (d + 1) n
+  recent-none d n = rw add-one (sym (recent-first d n))
+
+  recent-on : (o d n : ℕ) → recent ks (o + 1) (d + 1) n ≡ recent ks o d n
+  recent-on o d n = rw (add-one o, add-one d) (recent-next-place o d n)
+
+  -- a turn, with t the sum that it starts from
+  module _ (o d n t : ℕ) (e : t ≡ recent ks o (d + 1) n) where
+    turn : recent ks o d n + ago ks o (d + n) ≡ ago ks o d + t
+    unfolding recent run sum
+    turn = sym (recent-last o d n) ∙ ap (λ (x : ℕ). ago ks o d + x) (sym (e ∙ rw add-one))
+
+    -- what goes out was in
+    pub recent-least : ago ks o (d + n) ≤ t + ago ks o d
+    recent-least = omega (arith, turn)
+
+    pub recent-bound : (b : ℕ) → ((i : ℕ) → getD ks i 0 ≤ b) → t + ago ks o d ≤ n * b + b
+    recent-bound b h = omega (arith, e, recent-sum-bound b h o (d + 1) n, ago-bound b h o d)
+
+    pub recent-next : t + ago ks o d - ago ks o (d + n) ≡ recent ks (o + 1) (d + 1) n
+    recent-next = let q : t + ago ks o d - ago ks o (d + n) ≡ recent ks o d n = omega (arith, turn) in q ∙ sym (recent-on o d n)
+
+  pub near-is : (o d n : ℕ) {v r : ℕ} → v ≡ recent ks (o + 1) (d + 1) n → r ≡ if (eqb v 0) 0 1 → r ≡ near ks d n o
+  unfolding near
+  near-is o d n e q = q ∙ ap (λ (x : ℕ). if (eqb x 0) 0 1) (e ∙ recent-on o d n)
+
+-- a whole pass, from a copy of the flags
+pub opened-pass : (n low high : ℕ) (ks ls : List ℕ) {cs ms : List ℕ} → length ls ≡ length ks → cs ≡ take (length ks) ks ++ drop (length ks) ls
+    → ms ≡ over (near cs (n + low) (high + 1 - low)) (length cs) ks → ms ≡ opened n low high ks
+unfolding opened
+opened-pass n low high ks ls {cs} l e q =
+    let h : length ls ≤ length ks = omega arith in
+    let same : cs ≡ ks = e ∙ rw (take-length, drop-of-length-le ls {i = length ks} h, append-nil) in
+    over-all _ _ ks (rw same at q) refl (omega arith)

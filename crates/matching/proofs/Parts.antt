@@ -1,0 +1,111 @@
+-- The parts of a prefix one by one: the next component takes as many of the letters left as it has room for, and what it
+-- leaves goes to the components after it.
+use mathlib.Core.Bool.{true, false, _&&_}
+use mathlib.Core.List.{List, [], _∷_}
+use mathlib.Core.Path.{_≡_, refl, sym, ap, _∙_}
+use Prim.Native.Nat.{ℕ, zero, suc, _+_, _-_, _≤_, _<_, min}
+use native.Mathlib.Decide.{decLt}
+use native.Mathlib.Nat.{min-zero, suc-min-suc}
+use native.Mathlib.Numerals.{add-one, unary-clauses}
+use native.Mathlib.Omega.{arith}
+use lib.Dec.{ltb}
+use lib.ListN.{length, take, drop, getD, replicate, length-take, length-drop, drop-of-length-le}
+use lib.Seq.{drop-cons, drop-drop, length-take-le, getD-take}
+use borrow.Author.Tests.{lt-ltb, ltb-true, ltb-false}
+use Rattle.rules.proofs.Tests.{both}
+use Rattle.rules.specs.Template.{part, none, cut}
+use Rattle.rules.specs.declared.Component.{Component}
+use Rattle.matching.specs.Flags.{matched, opened, following, last-starts}
+
+-- no component left, or no letter
+cut-nil : (w : List ℕ) → cut [] w ≡ []
+unfolding cut
+cut-nil w = refl
+
+cut-none : (cs : List Component) (w : List ℕ) → length w ≤ 0 → cut cs w ≡ []
+unfolding cut
+cut-none [] w h = refl
+cut-none (c ∷ cs) [] h = refl
+cut-none (c ∷ cs) (x ∷ w) h = absurd (omega arith)
+
+cut-cons : (c : Component) (cs : List Component) (w : List ℕ) → 0 < length w → cut (c ∷ cs) w ≡ part (c .low) (c .high) (take (c .length) w) ∷ cut cs (drop (c .length) w)
+unfolding cut
+cut-cons c cs [] h = absurd (omega arith)
+cut-cons c cs (x ∷ w) h = refl
+
+-- of as many letters as a component has room for, as many as there are
+take-min : (n : ℕ) (w : List ℕ) → take (min n (length w)) w ≡ take n w
+take-min zero w = simp unary-clauses
+take-min (suc n) [] = rw min-zero
+take-min (suc n) (x ∷ w) = rw suc-min-suc (ap (λ (l : List ℕ). x ∷ l) (take-min n w))
+
+drop-min : (n : ℕ) (w : List ℕ) → drop (min n (length w)) w ≡ drop n w
+drop-min zero w = simp unary-clauses
+drop-min (suc n) [] = rw min-zero
+drop-min (suc n) (x ∷ w) = rw suc-min-suc (drop-min n w)
+
+-- what a component takes of the letters v, and what it leaves
+module _ (room : ℕ) (v : List ℕ) (n : ℕ) (e : n ≡ min room (length v)) where
+  taken : take n v ≡ take room v
+  taken = rw e (take-min room v)
+
+  left : drop n v ≡ drop room v
+  left = rw e (drop-min room v)
+
+  as-long : n ≡ length (take room v)
+  as-long = e ∙ sym (length-take room v)
+
+first-cut : (cs : List Component) (w s : List ℕ) (n : ℕ) {ks : List ℕ} → 0 < length cs → 0 < length w → n ≡ min ((getD cs 0 none) .length) (length w)
+    → ks ≡ matched (take n w) 0 s (replicate (length s) 1) → following n (cut (drop 1 cs) (drop n w)) s ks ≡ last-starts (cut cs w) s
+unfolding last-starts
+first-cut [] w s n h l e q = absurd (omega arith)
+first-cut (c ∷ cs) w s n h l e q =
+    let v = take (c .length) w in
+    rw (cut-cons c cs w l, q, taken (c .length) w n e, left (c .length) w n e)
+    (ap (λ (i : ℕ). following i (cut cs (drop (c .length) w)) s (matched v 0 s (replicate (length s) 1))) (as-long (c .length) w n e))
+
+-- the steps of a prefix w in a sequence s, for the first `count` of the components
+module _ (all : List Component) (count : ℕ) (fits : count ≤ length all) (w s : List ℕ) where
+  counted : length (take count all) ≡ count
+  counted = length-take-le count all fits
+
+  -- the first part
+  pub first-step : (n : ℕ) {ks : List ℕ} → 0 < count → 0 < length w → n ≡ min ((getD all 0 none) .length) (length w)
+      → ks ≡ matched (take n w) 0 s (replicate (length s) 1)
+      → following n (cut (drop 1 (take count all)) (drop n w)) s ks ≡ last-starts (cut (take count all) w) s
+  first-step n {ks} h l e q =
+      let e' : n ≡ min ((getD (take count all) 0 none) .length) (length w) = rw (getD-take count all 0 none h) e in
+      first-cut (take count all) w s n (rw counted h) l e' q
+
+  -- from a part of n letters, whose flags are ks, to the part of component k
+  module _ (k from n : ℕ) (ks : List ℕ) where
+    pub next-step : (m : ℕ) {ls : List ℕ} → k < count → from < length w → m ≡ min ((getD all k none) .length) (length w - from)
+        → ls ≡ matched (take (from + m - from) (drop from w)) 0 s (opened n ((getD all k none) .low) ((getD all k none) .high) ks)
+        → following m (cut (drop (k + 1) (take count all)) (drop (from + m) w)) s ls ≡ following n (cut (drop k (take count all)) (drop from w)) s ks
+    unfolding following
+    next-step m {ls} h l e q =
+        let c = getD all k none in
+        let v = drop from w in
+        let rest = drop (suc k) (take count all) in
+        let e' : m ≡ min (c .length) (length v) = e ∙ ap (min (c .length)) (sym (length-drop from w)) in
+        let p : 0 < length v = simp length-drop (omega arith) in
+        let i : from + m - from ≡ m = omega arith in
+        let d : drop k (take count all) ≡ c ∷ rest = drop-cons (take count all) k none (rw counted h) ∙ rw (getD-take count all k none h) in
+        rw (q, i, ← (drop-drop m from w), add-one k, d, cut-cons c rest v p, taken (c .length) v m e', left (c .length) v m e')
+        (ap (λ (i : ℕ). following i (cut rest (drop (c .length) v)) s (matched (take (c .length) v) 0 s (opened n (c .low) (c .high) ks))) (as-long (c .length) v m e'))
+
+    -- after the last part: no component is left, or no letter
+    pub last-step : ltb k count && ltb from (length w) ≡ false → following n (cut (drop k (take count all)) (drop from w)) s ks ≡ ks
+    unfolding following
+    last-step h = rw none-left
+      where
+        none-left : cut (drop k (take count all)) (drop from w) ≡ []
+        none-left =
+            elim (decLt k count) [
+              | yes l ↦ cut-none _ (drop from w) (simp length-drop (omega (arith, ltb-false from (length w) ((rw (lt-ltb k count l) at h)))))
+              | no n ↦ let z : length (take count all) ≤ k = rw counted (omega arith) in rw (drop-of-length-le (take count all) {i = k} z) (cut-nil (drop from w))
+            ]
+
+-- as the loop tests it
+pub both-left : (k count from n : ℕ) → ltb k count && ltb from n ≡ true → (k < count) × (from < n)
+both-left k count from n h = let e = both (ltb k count) (ltb from n) .0 h in (ltb-true k count (e .0), ltb-true from n (e .1))

@@ -1,0 +1,19 @@
+-- Frequent: the empty prefix is, and any other is compared with the quorum by its support.
+use mathlib.Core.Bool.{true}
+use mathlib.Core.List.{List}
+use mathlib.Core.Path.{_≡_, ap}
+use Prim.Native.Nat.{ℕ, zero, suc, _≤_}
+use native.Mathlib.Omega.{arith}
+use lib.Dec.{leb}
+use Rattle.rules.specs.Support.{support, parts, frequent}
+use Rattle.rules.specs.declared.Template.{Template}
+
+module _ (t : Template) (quorum : ℕ) (ss : List (List ℕ)) (m : ℕ) where
+  pub frequent-empty : (j : ℕ) → j ≡ 0 → true ≡ frequent t quorum ss j m
+  unfolding frequent
+  frequent-empty j e = rw e
+
+  pub frequent-support : (j : ℕ) {r : ℕ} → 1 ≤ j → r ≡ support (parts t j m) ss → leb quorum r ≡ frequent t quorum ss j m
+  unfolding frequent
+  frequent-support zero h e = absurd (omega arith)
+  frequent-support (suc j) h e = ap (leb quorum) e

@@ -1,0 +1,38 @@
+// A mark for each sequence: 64-bit words of marks, set one by one and counted.
+ghost use mathlib.Core.Path.{_≡_};
+ghost use Prim.Native.Nat.{_*_, _≤_, _<_};
+ghost use lib.ListN.{length, getD, set};
+ghost use Rattle.rules.specs.Lists.{sum};
+ghost use Rattle.matching.specs.Flags.{bit};
+ghost use Rattle.matching.specs.Marks.{held};
+
+// 1 of true.
+fn one(found: bool) -> u64
+    ensures { λ r. ⌜ r ≡ bit found ⌝ }
+{
+    if found { 1 } else { 0 }
+}
+
+// Marks sequence `i`, from 0, if the prefix was found in it.
+pub fn mark(words: &mut [u64], i: usize, found: bool)
+    requires { ⌜ (i < 64 * length (now words)) × (getD (held (now words)) i 0 ≡ 0) ⌝ }
+    ensures { λ _. ⌜ held (now (words .exit)) ≡ set (held (now (words .entry))) i (bit found) ⌝ }
+{
+    let q = i / 64;
+    let b = i % 64;
+    words[q] = words[q] | (one(found) << b);
+}
+
+// How many sequences are marked.
+pub fn count(words: &[u64]) -> u32
+    requires { ⌜ length (now words) ≤ 1024 ⌝ }
+    ensures { λ r. ⌜ r ≡ sum (held (now (words .entry))) ⌝ }
+{
+    let mut sum: u32 = 0;
+    let mut i = 0;
+    while i < words.len() {
+        sum += u64::count_ones(words[i]);
+        i += 1;
+    }
+    sum
+}

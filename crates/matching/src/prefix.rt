@@ -1,0 +1,177 @@
+// A prefix in one sequence, and in each of the set.
+use super::flags;
+use super::marks;
+use rules::Letter;
+use rules::Template;
+ghost use mathlib.Core.Path.{_≡_};
+ghost use mathlib.Core.List.{_++_};
+ghost use Prim.Native.Nat.{_+_, _-_, _*_, _^_, _/_, _%_, _≤_, _<_};
+ghost use lib.ListN.{length, take, drop, replicate};
+ghost use Rattle.rules.specs.Letters.{letter};
+ghost use Rattle.rules.specs.Limits.{Letter-BASES, Template-LENGTH, Template-GAP};
+ghost use Rattle.rules.specs.Lists.{keep, sum};
+ghost use Rattle.rules.specs.Sequences.{split};
+ghost use Rattle.rules.specs.Sound.{SoundSet, SoundTemplate};
+ghost use Rattle.rules.specs.Template.{cut, components};
+ghost use Rattle.matching.specs.Flags.{matched, opened, last-starts, left?};
+ghost use Rattle.matching.specs.Marks.{held, left-marks};
+ghost use Rattle.matching.specs.Prefix.{bytes};
+
+// The letter that has this value, as a byte.
+fn letter(value: u64) -> u8
+    ensures { λ r. ⌜ r ≡ letter value ⌝ }
+{
+    if value == 0 {
+        return b'A';
+    }
+    if value == 1 {
+        return b'C';
+    }
+    if value == 2 { b'G' } else { b'T' }
+}
+
+// Writes the `size` letters of a number, as bytes, to the front of a table.
+pub fn spell(number: u64, size: usize, word: &mut [u8])
+    requires { ⌜ (size ≤ length (now word)) × (size ≤ 32) ⌝ }
+    ensures { λ _. ⌜ now (word .exit) ≡ bytes size number ++ drop size (now (word .entry)) ⌝ }
+{
+    let mut i = 0;
+    while i < size {
+        let value = (number >> (2 * (size - 1 - i))) % Letter::BASES;
+        word[i] = letter(value);
+        i += 1;
+    }
+}
+
+// The smaller of two numbers.
+fn least(a: usize, b: usize) -> usize
+    ensures { λ r. ⌜ r ≡ Prim.Native.Nat.min a b ⌝ }
+{
+    if a < b { a } else { b }
+}
+
+// Sets the flags of a sequence at which the first part of a prefix stands.
+fn first_part(word: &[u8], sequence: &[u8], flags: &mut [u8])
+    requires { ⌜ length (now flags) ≡ length (now sequence) ⌝ }
+    ensures { λ _. ⌜ now (flags .exit) ≡ matched (now (word .entry)) 0 (now (sequence .entry)) (replicate (length (now (sequence .entry))) 1) ⌝ }
+{
+    flags::fill(flags, 1);
+    flags::keep_word(word, sequence, flags);
+}
+
+// From the flags of a part of `behind` letters, those of the part that follows it.
+fn next_part(
+    behind: usize,
+    low: usize,
+    high: usize,
+    word: &[u8],
+    sequence: &[u8],
+    flags: &mut [u8],
+    spare: &mut [u8],
+)
+    requires { ⌜ (length (now flags) ≡ length (now sequence)) × (length (now spare) ≡ length (now sequence)) ⌝ }
+    requires { ⌜ (behind ≤ Template-LENGTH) × (low ≤ high) × (high ≤ Template-GAP) ⌝ }
+    ensures { λ _. ⌜ now (flags .exit) ≡ matched (now (word .entry)) 0 (now (sequence .entry)) (opened behind low high (now (flags .entry))) ⌝ }
+{
+    flags::open_gap(behind, low, high, flags, spare);
+    flags::keep_word(word, sequence, flags);
+}
+
+// Sets the flags of a sequence at which the last part of a prefix can start, the parts before it placed.
+fn last_part(template: Template, word: &[u8], sequence: &[u8], flags: &mut [u8], spare: &mut [u8])
+    requires { ⌜ SoundTemplate template ⌝ }
+    requires { ⌜ 1 ≤ length (now word) ⌝ }
+    requires { ⌜ (length (now flags) ≡ length (now sequence)) × (length (now spare) ≡ length (now sequence)) ⌝ }
+    ensures { λ _. ⌜ now (flags .exit) ≡ last-starts (cut (components template) (now (word .entry))) (now (sequence .entry)) ⌝ }
+{
+    let count = template.count as usize;
+    let components = template.components();
+    let first = components[0];
+    let room = first.length as usize;
+    let mut behind = least(room, word.len());
+    first_part(&word[..behind], sequence, flags);
+    let mut from = behind;
+    let mut k = 1;
+    while (k < count) & (from < word.len()) {
+        let c = components[k];
+        let room = c.length as usize;
+        let low = c.low as usize;
+        let high = c.high as usize;
+        let n = least(room, word.len() - from);
+        let to = from + n;
+        next_part(behind, low, high, &word[from..to], sequence, flags, spare);
+        behind = n;
+        from = to;
+        k += 1;
+    }
+}
+
+// Whether a flag is left in a sequence, once all parts of a prefix are placed.
+fn flag_left(
+    template: Template,
+    word: &[u8],
+    sequence: &[u8],
+    flags: &mut [u8],
+    spare: &mut [u8],
+) -> bool
+    requires { ⌜ SoundTemplate template ⌝ }
+    requires { ⌜ 1 ≤ length (now word) ⌝ }
+    requires { ⌜ (length (now flags) ≡ length (now sequence)) × (length (now spare) ≡ length (now sequence)) ⌝ }
+    ensures { λ r. ⌜ r ≡ left? (last-starts (cut (components template) (now (word .entry))) (now (sequence .entry))) ⌝ }
+{
+    last_part(template, word, sequence, flags, spare);
+    flags::left(flags)
+}
+
+// The same for the sequence from offset `from` up to `to`, in its own part of each buffer.
+fn flag_left_between(
+    from: usize,
+    to: usize,
+    template: Template,
+    word: &[u8],
+    letters: &[u8],
+    flags: &mut [u8],
+    spare: &mut [u8],
+) -> bool
+    requires { ⌜ SoundTemplate template ⌝ }
+    requires { ⌜ 1 ≤ length (now word) ⌝ }
+    requires { ⌜ (from ≤ to) × (to ≤ length (now letters)) × (length (now letters) ≤ length (now flags)) × (length (now letters) ≤ length (now spare)) ⌝ }
+    ensures { λ r. ⌜ r ≡ left? (last-starts (cut (components template) (now (word .entry))) (take (to - from) (drop from (now (letters .entry))))) ⌝ }
+{
+    flag_left(
+        template,
+        word,
+        &letters[from..to],
+        &mut flags[from..to],
+        &mut spare[from..to],
+    )
+}
+
+// Marks each sequence in which a flag of the prefix is left. No mark is set before.
+pub fn mark_all(
+    letters: &[u8],
+    lengths: &[u32],
+    template: Template,
+    word: &[u8],
+    flags: &mut [u8],
+    spare: &mut [u8],
+    words: &mut [u64],
+)
+    requires { ⌜ SoundSet (now letters) (now lengths) ⌝ }
+    requires { ⌜ SoundTemplate template ⌝ }
+    requires { ⌜ 1 ≤ length (now word) ⌝ }
+    requires { ⌜ (length (now letters) ≤ length (now flags)) × (length (now letters) ≤ length (now spare)) ⌝ }
+    requires { ⌜ now words ≡ replicate 16 0 ⌝ }
+    ensures { λ _. ⌜ sum (held (now (words .exit))) ≡ length (keep (λ b. b) (left-marks (cut (components template) (now (word .entry))) (split (now (lengths .entry)) (now (letters .entry))))) ⌝ }
+{
+    let mut from = 0;
+    let mut i = 0;
+    while i < lengths.len() {
+        let n = lengths[i] as usize;
+        let to = from + n;
+        let found = flag_left_between(from, to, template, word, letters, flags, spare);
+        marks::mark(words, i, found);
+        from = to;
+        i += 1;
+    }
+}

@@ -1,0 +1,4 @@
+pub mod Four
+pub mod Follow
+pub mod Round
+pub mod Ruled

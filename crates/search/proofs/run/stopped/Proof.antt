@@ -1,0 +1,13 @@
+-- The answer holds the place that the constructor made.
+use borrow.Author.Needs.{needs}
+use Rattle.search.proofs.run.stopped.Statement.{statement}
+use Rattle.search.proofs.run.stopped.Tie as tie
+
+new-requires : tie.Need-new-requires
+new-requires c κs = search needs
+
+returns : tie.Need-returns
+returns c = rw (c .new .ensures)
+
+pub stopped-spec : {M : Type 1} → statement M
+stopped-spec = tie.close (tie.spec new-requires returns)

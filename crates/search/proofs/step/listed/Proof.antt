@@ -1,0 +1,14 @@
+use Rattle.search.proofs.Four.{hit-yes, hit-no}
+use Rattle.search.proofs.step.listed.Statement.{statement}
+use Rattle.search.proofs.step.listed.Tie as tie
+use Rattle.search.proofs.step.listed.Reads as reads
+use Rattle.search.proofs.step.listed.Lts as lts
+
+returns : tie.Need-returns
+returns c = hit-yes _ _ _ (c .if1 .taken)
+
+returns-2 : tie.Need-returns-2
+returns-2 c = hit-no _ _ _ (c .if1 .left)
+
+pub listed-spec : {M : Type 1} → statement M
+listed-spec = tie.close (tie.spec returns returns-2)

@@ -1,0 +1,93 @@
+-- Passes give the counts: what the last component's pass and each pass before it write is what the definition of `ways` adds
+-- up, as no occurrence starts past the end of a sequence; and no count is too large.
+use mathlib.Core.Path.{_≡_, refl, sym, ap, _∙_}
+use mathlib.Core.Bool.{true, false}
+use mathlib.Core.List.{List, [], _∷_, map}
+use Prim.Native.Nat.{ℕ, zero, suc, _+_, _-_, _*_, _≤_, _<_}
+use native.Mathlib.Nat.{le-trans, mul-le-mul-right}
+use native.Mathlib.Numerals.{one-add}
+use native.Mathlib.Decide.{decLt}
+use native.Mathlib.Omega.{arith}
+use lib.ListN.{length, getD, List·getD-eq-default}
+use Rattle.rules.specs.Limits.{Template-GAP}
+use Rattle.rules.specs.Lists.{run, if, sum}
+use Rattle.rules.specs.Occurrence.{stands, reach, ways}
+use Rattle.rules.specs.Template.{Part}
+use Rattle.ways.specs.Counts.{counts, entry, cell, ending, leading}
+use Rattle.ways.proofs.Standing.{stands-short}
+use Rattle.ways.proofs.Tables.{map-same, length-over, getD-over, over-most, sum-most}
+
+-- one count for each letter of the sequence
+pub length-counts : (cs : List Part) (s : List ℕ) → length (counts cs s) ≡ length s
+unfolding counts
+length-counts cs s = length-over (ways cs s) 1 (length s)
+
+-- nothing starts before the first position or past the end
+ways-none : (c : Part) (cs : List Part) (s : List ℕ) → ways (c ∷ cs) s 0 ≡ 0
+unfolding ways stands
+ways-none c [] s = refl
+ways-none c (d ∷ ds) s = refl
+
+ways-past : (c : Part) (cs : List Part) (s : List ℕ) (o : ℕ) → 0 < length (c .word) → length s ≤ o → ways (c ∷ cs) s (suc o) ≡ 0
+unfolding ways
+ways-past c [] s o some h = rw (← (stands-short (c .word) s o (omega arith)))
+ways-past c (d ∷ ds) s o some h = rw (← (stands-short (c .word) s o (omega arith)))
+
+-- the counts have the ways of each position
+pub counts-inside : (cs : List Part) (s : List ℕ) (o : ℕ) → o < length s → getD (counts cs s) o 0 ≡ ways cs s (suc o)
+unfolding counts
+counts-inside cs s o h = getD-over (ways cs s) 1 (length s) o h ∙ ap (ways cs s) (one-add o)
+
+-- and 0 where there are none
+counts-at : (c : Part) (cs : List Part) (s : List ℕ) → 0 < length (c .word) → (p : ℕ) → entry (counts (c ∷ cs) s) p ≡ ways (c ∷ cs) s p
+unfolding entry
+counts-at c cs s some zero = sym (ways-none c cs s)
+counts-at c cs s some (suc o) =
+    elim (decLt o (length s)) [
+      | yes h ↦ counts-inside (c ∷ cs) s o h
+      | no n ↦
+          let h : length s ≤ o = omega arith in
+          List·getD-eq-default (counts (c ∷ cs) s) 0 (rw length-counts h) ∙ sym (ways-past c cs s o some h)
+    ]
+
+-- the pass of the last part
+pub ending-counts : (c : Part) (s : List ℕ) → map (ending (c .word) s) (run 1 (length s)) ≡ counts (c ∷ []) s
+unfolding counts ending cell ways
+ending-counts c s = refl
+
+-- the pass of a part before others
+pub leading-counts : (c d : Part) (ds : List Part) (s : List ℕ) → 0 < length (d .word)
+    → map (leading (c .word) (d .low) (d .high) s (counts (d ∷ ds) s)) (run 1 (length s)) ≡ counts (c ∷ d ∷ ds) s
+unfolding counts leading cell ways
+leading-counts c d ds s some = map-same _ _ (λ p. rw (map-same (entry (counts (d ∷ ds) s)) (ways (d ∷ ds) s) (counts-at d ds s some) (reach (length (c .word)) (d .low) (d .high) p))) (run 1 (length s))
+
+-- what a sliding sum has at an offset goes into the cell there
+pub leading-at : (w : List ℕ) (low high : ℕ) (s later : List ℕ) (o : ℕ) {t v : ℕ}
+    → t ≡ sum (map (entry later) (run (suc (o + (length w + low))) (high + 1 - low))) → v ≡ cell w s (suc o) t → v ≡ leading w low high s later (suc o)
+unfolding leading reach
+leading-at w low high s later o et ev =
+    let e : suc (o + (length w + low)) ≡ suc o + length w + low = omega arith in
+    ev ∙ ap (cell w s (suc o)) (rw e at et)
+
+-- ---- no count is too large
+
+cell-most : (w s : List ℕ) (p v : ℕ) → cell w s p v ≤ v
+unfolding cell
+cell-most w s p v = elim (stands w s p) as (λ b. if b v 0 ≤ v) [ true ↦ omega arith | false ↦ omega arith ]
+
+-- the last part stands at a position or does not
+pub ending-most : (w s : List ℕ) (n : ℕ) {y : List ℕ} → y ≡ map (ending w s) (run 1 n) → (p : ℕ) → entry y p ≤ 1
+unfolding ending
+ending-most w s n e = over-most (ending w s) 1 (λ p. cell-most w s p 1) n e
+
+-- a pass multiplies by no more than the distances at which the next part may start
+pub leading-most : (w : List ℕ) (low high : ℕ) (s later : List ℕ) (b n : ℕ) → high ≤ Template-GAP → ((p : ℕ) → entry later p ≤ b)
+    → {y : List ℕ} → y ≡ map (leading w low high s later) (run 1 n) → (p : ℕ) → entry y p ≤ (Template-GAP + 1) * b
+unfolding leading reach
+leading-most w low high s later b n near h e =
+    over-most (leading w low high s later) ((Template-GAP + 1) * b)
+    (λ p.
+    le-trans (cell-most w s p _)
+    (le-trans (sum-most (entry later) b h (p + length w + low) (high + 1 - low)) (mul-le-mul-right b (omega arith))))
+    n
+    e

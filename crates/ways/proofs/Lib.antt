@@ -1,0 +1,8 @@
+pub mod Standing
+pub mod Tables
+pub mod Counting
+pub mod Spelling
+pub mod Aligned
+pub mod Bytes
+pub mod Totals
+pub mod Motifs

@@ -1,0 +1,67 @@
+-- Whether letters stand at an offset, letter by letter: the letters from the j-th on stand where those before them do.
+use mathlib.Core.Path.{_≡_, refl, sym, _∙_}
+use mathlib.Core.Bool.{Bool, true, false}
+use mathlib.Core.List.{List, [], _∷_}
+use Prim.Native.Nat.{ℕ, suc, _+_, _-_, _≤_, _<_}
+use native.Mathlib.Nat.{add-zero}
+use native.Mathlib.Numerals.{add-one}
+use native.Mathlib.Omega.{arith}
+use lib.Dec.{eqb}
+use lib.ListN.{length, drop, getD, length-drop, drop-of-length-le}
+use lib.Seq.{drop-cons}
+use borrow.Author.Tests.{eq-eqb, ne-eqb}
+use Rattle.rules.specs.Lists.{if}
+use Rattle.rules.specs.Occurrence.{front, stands}
+use Rattle.ways.specs.Counts.{cell}
+
+front-short : (w s : List ℕ) → length s < length w → front w s ≡ false
+unfolding front
+front-short [] s h = absurd (omega arith)
+front-short (x ∷ w) [] h = refl
+front-short (x ∷ w) (y ∷ s) h = elim (eqb x y) as (λ b. if b (front w s) false ≡ false) [ true ↦ front-short w s (omega arith) | false ↦ refl ]
+
+-- letters that are more than what is left do not stand there
+pub stands-short : (w s : List ℕ) (o : ℕ) → length s - o < length w → false ≡ stands w s (suc o)
+unfolding stands
+stands-short w s o h = sym (front-short w (drop o s) (simp length-drop h))
+
+-- the letters of w from the j-th on stand as they do if w stands at the offset o
+unfoldable pub rest : List ℕ → List ℕ → ℕ → ℕ → Bool
+unfolding front
+rest w s o j = front (drop j w) (drop (o + j) s)
+
+-- all letters stand if those from the first on do
+pub rest-all : (w s : List ℕ) (o : ℕ) → stands w s (suc o) ≡ rest w s o 0
+unfolding stands rest
+rest-all w s o = rw (add-zero o)
+
+module _ (w s : List ℕ) (o j : ℕ) (hs : o + length w ≤ length s) where
+  rest-open : j < length w → rest w s o j ≡ if (eqb (getD w j 0) (getD s (o + j) 0)) (rest w s o (j + 1)) false
+  unfolding rest front
+  rest-open hw =
+      let e : o + (j + 1) ≡ suc (o + j) = omega arith in
+      let hs' : o + j < length s = omega arith in
+      rw (e, add-one j, drop-cons w j 0 hw, drop-cons s (o + j) 0 hs')
+
+  -- a letter that is the same leaves it to those after it
+  pub rest-next : j < length w → getD w j 0 ≡ getD s (o + j) 0 → rest w s o j ≡ rest w s o (j + 1)
+  rest-next hw e = rest-open hw ∙ simp (eq-eqb _ _ e)
+
+  -- one that is another settles it
+  pub rest-stop : j < length w → (getD w j 0 ≡ getD s (o + j) 0 → ⊥) → rest w s o j ≡ false
+  rest-stop hw n = rest-open hw ∙ simp (ne-eqb _ _ n)
+
+  -- past the last all have stood
+  pub rest-done : length w ≤ j → rest w s o j ≡ true
+  unfolding rest front
+  rest-done h = rw (drop-of-length-le w {i = j} h)
+
+-- a cell has v where the letters stand
+pub cell-true : (w s : List ℕ) (p v : ℕ) → true ≡ stands w s p → v ≡ cell w s p v
+unfolding cell
+cell-true w s p v e = simp (← e)
+
+-- and where they do not
+pub cell-false : (w s : List ℕ) (p v : ℕ) → false ≡ stands w s p → 0 ≡ cell w s p v
+unfolding cell
+cell-false w s p v e = simp (← e)

@@ -1,0 +1,59 @@
+-- What the passes over one sequence compute: for each position, in how many ways the parts from one on can stand from there.
+use mathlib.Core.List.{List, map}
+use mathlib.Core.Path.{_≡_}
+use Prim.Native.Nat.{ℕ, zero, suc, _+_, _-_, _^_}
+use lib.Dec.{ltb}
+use lib.ListN.{length, drop, getD}
+use Rattle.rules.specs.Limits.{Template-COMPONENTS, Template-GAP}
+use Rattle.rules.specs.Lists.{run, if, keep, each, sum}
+use Rattle.rules.specs.Occurrence.{stands, reach, ways}
+use Rattle.rules.specs.Sequences.{split}
+use Rattle.rules.specs.Template.{Part, cut}
+use Rattle.rules.specs.declared.Component.{Component}
+
+-- THE COUNTS. For each position of s, the number of occurrences of the parts that start there: those of
+-- A, then A after a gap of 0 to 1, in AAA are 2, 1, 0
+unfoldable pub counts : List Part → List ℕ → List ℕ
+counts cs s = map (ways cs s) (run 1 (length s))
+
+-- those of all sequences of a buffer, laid end to end
+unfoldable pub all-counts : List Part → List ℕ → List ℕ → List ℕ
+all-counts cs lengths buffer = each (counts cs) (split lengths buffer)
+
+-- from one start, at most so many: each later part starts at one of at most GAP + 1 distances
+abbrev pub most-ways : ℕ
+most-ways = (Template-GAP + 1) ^ (Template-COMPONENTS - 1)
+
+-- how many numbers of a list are above 0
+unfoldable pub positives : List ℕ → ℕ
+positives l = length (keep (ltb 0) l)
+
+-- what some counts come to: how many are above 0, and their sum
+pub record Tally (l : List ℕ) (firsts occurrences : ℕ) : Type 0 where
+  pub starts : firsts ≡ positives l
+  pub all : occurrences ≡ sum l
+
+-- A PASS. What a list of counts has for a position; 0 where it has none
+unfoldable pub entry : List ℕ → ℕ → ℕ
+entry l zero = 0
+entry l (suc o) = getD l o 0
+
+-- v where the letters w stand in s, and else 0
+unfoldable pub cell : List ℕ → List ℕ → ℕ → ℕ → ℕ
+cell w s p v = if (stands w s p) v 0
+
+-- the ways of the last part
+unfoldable pub ending : List ℕ → List ℕ → ℕ → ℕ
+ending w s p = cell w s p 1
+
+-- the ways of a part and those after it, from the counts of those: the sum over all positions where the next may start
+unfoldable pub leading : List ℕ → ℕ → ℕ → List ℕ → List ℕ → ℕ → ℕ
+leading w low high s later p = cell w s p (sum (map (entry later) (reach (length w) low high p)))
+
+-- THE LETTERS. How many letters some components take
+unfoldable pub letters-of : List Component → ℕ
+letters-of cs = sum (map (λ c. c .length) cs)
+
+-- the parts that they are if their letters are the last of w
+unfoldable pub aligned : List Component → List ℕ → List Part
+aligned cs w = cut cs (drop (length w - letters-of cs) w)

@@ -1,0 +1,262 @@
+// How many occurrences a motif has, and at how many first starts one begins. An inner crate: its functions require what the
+// checks show of the sequences and the template.
+use rules::Component;
+use rules::Letter;
+use rules::Template;
+ghost use mathlib.Core.Path.{_≡_};
+ghost use mathlib.Core.List.{map};
+ghost use Prim.Native.Nat.{ℕ, suc, _+_, _^_, _≤_, _<_};
+ghost use lib.Dec.{ltb};
+ghost use lib.ListN.{length, drop};
+ghost use Rattle.rules.specs.Letters.{value, letter};
+ghost use Rattle.rules.specs.Limits.{Letter-BASES, Template-LENGTH, Template-GAP};
+ghost use Rattle.rules.specs.Lists.{if, run, sum, put};
+ghost use Rattle.rules.specs.Motif.{spell};
+ghost use Rattle.rules.specs.Occurrence.{stands};
+ghost use Rattle.rules.specs.Sequences.{sequences};
+ghost use Rattle.rules.specs.Sound.{SoundSet, SoundComponent, SoundTemplate};
+ghost use Rattle.rules.specs.Support.{weight, occurrence-rows, parts};
+ghost use Rattle.rules.specs.Template.{size, components};
+ghost use Rattle.ways.specs.Counts.{counts, all-counts, most-ways, Tally, entry, cell, ending, leading, aligned};
+
+// The byte of the letter that a digit names.
+fn letter(v: u64) -> u8
+    ensures { λ r. ⌜ r ≡ letter v ⌝ }
+{
+    if v == 0 {
+        return b'A';
+    }
+    if v == 1 {
+        return b'C';
+    }
+    if v == 2 {
+        return b'G';
+    }
+    b'T'
+}
+
+// Writes the last letters of a motif, as many as there is room for.
+fn spell(motif: u64, word: &mut [u8])
+    ensures { λ _. ⌜ now (word .exit) ≡ map letter (spell Letter-BASES (length (now (word .entry))) motif) ⌝ }
+{
+    let mut rest = motif;
+    let mut i = word.len();
+    while 0 < i {
+        i -= 1;
+        word[i] = letter(rest % Letter::BASES);
+        rest = rest / Letter::BASES;
+    }
+}
+
+// Whether the letters of `word` stand in `s` at the offset `o`.
+fn stands(word: &[u8], s: &[u8], o: usize) -> bool
+    requires { ⌜ o ≤ length (now s) ⌝ }
+    ensures { λ r. ⌜ r ≡ stands (now (word .entry)) (now (s .entry)) (suc o) ⌝ }
+{
+    if s.len() - o < word.len() {
+        return false;
+    }
+    let mut j = 0;
+    while j < word.len() {
+        if word[j] != s[o + j] {
+            return false;
+        }
+        j += 1;
+    }
+    true
+}
+
+// `v` where the letters stand, and else 0.
+fn cell(word: &[u8], s: &[u8], o: usize, v: u64) -> u64
+    requires { ⌜ o ≤ length (now s) ⌝ }
+    ensures { λ r. ⌜ r ≡ cell (now (word .entry)) (now (s .entry)) (suc o) v ⌝ }
+{
+    if stands(word, s, o) { v } else { 0 }
+}
+
+// The number at `i`, and 0 past the end.
+fn at(a: &[u64], i: usize) -> u64
+    ensures { λ r. ⌜ r ≡ entry (now (a .entry)) (suc i) ⌝ }
+{
+    if i < a.len() { a[i] } else { 0 }
+}
+
+// The sum of the `count` numbers from `from` on.
+fn window(a: &[u64], from: usize, count: usize) -> u64
+    requires { ⌜ (from ≤ Template-LENGTH + Template-GAP) × (count ≤ Template-GAP + 1) × ((p : ℕ) → entry (now a) p ≤ most-ways) ⌝ }
+    ensures { λ r. ⌜ r ≡ sum (map (entry (now (a .entry))) (run (suc from) count)) ⌝ }
+{
+    let mut total: u64 = 0;
+    let mut k = 0;
+    while k < count {
+        total += at(a, from + k);
+        k += 1;
+    }
+    total
+}
+
+// The ways of the last component.
+fn last(word: &[u8], s: &[u8], ways: &mut [u64])
+    requires { ⌜ length (now ways) ≡ length (now s) ⌝ }
+    ensures { λ _. ⌜ now (ways .exit) ≡ map (ending (now (word .entry)) (now (s .entry))) (run 1 (length (now (s .entry)))) ⌝ }
+{
+    let mut o = 0;
+    while o < ways.len() {
+        ways[o] = cell(word, s, o, 1);
+        o += 1;
+    }
+}
+
+// The ways of a component and those after it, from the ways of those: `next` has the gap range between. One sum slides
+// along, so a wide range costs no more than a narrow one, and no place is read once it is written.
+fn pass(word: &[u8], next: Component, s: &[u8], ways: &mut [u64])
+    requires { ⌜ (length (now ways) ≡ length (now s)) × (length (now word) ≤ Template-LENGTH) × ((p : ℕ) → entry (now ways) p ≤ most-ways) ⌝ }
+    requires { ⌜ SoundComponent next ⌝ }
+    ensures { λ _. ⌜ now (ways .exit) ≡ map (leading (now (word .entry)) (next .low) (next .high) (now (s .entry)) (now (ways .entry))) (run 1 (length (now (s .entry)))) ⌝ }
+{
+    let low = next.low as usize;
+    let high = next.high as usize;
+    let distance = word.len() + low;
+    let count = high + 1 - low;
+    let mut total = window(ways, distance, count);
+    let mut o = 0;
+    while o < ways.len() {
+        let v = cell(word, s, o, total);
+        total = total + at(ways, o + distance + count) - at(ways, o + distance);
+        ways[o] = v;
+        o += 1;
+    }
+}
+
+// The ways of the components from `from` on. The motif's letters are the last of `word`.
+fn passes(sequence: &[u8], template: Template, word: &[u8], from: usize, ways: &mut [u64])
+    requires { ⌜ SoundTemplate template ⌝ }
+    requires { ⌜ (from < template .count) × (size template ≤ length (now word)) × (length (now ways) ≡ length (now sequence)) ⌝ }
+    ensures { λ _. ⌜ now (ways .exit) ≡ counts (aligned (drop from (components template)) (now (word .entry))) (now (sequence .entry)) ⌝ }
+{
+    let components = template.components();
+    let count = template.count as usize;
+    let mut c = count - 1;
+    let final_component = components[c];
+    let final_length = final_component.length as usize;
+    let mut begin = word.len() - final_length;
+    last(&word[begin..], sequence, ways);
+    while from < c {
+        let next = components[c];
+        c -= 1;
+        let here = components[c];
+        let length = here.length as usize;
+        let end = begin;
+        begin = end - length;
+        pass(&word[begin..end], next, sequence, ways);
+    }
+}
+
+// For each place of `sequence`, in how many ways the components from `from` on (0 is the first) can stand from there, written
+// to the front of `ways`. A start can be continued exactly if its number is above 0.
+pub fn fill(sequence: &[u8], template: Template, motif: u64, from: usize, ways: &mut [u64])
+    requires { ⌜ SoundTemplate template ⌝ }
+    requires { ⌜ (from < template .count) × (length (now sequence) ≤ length (now ways)) ⌝ }
+    ensures { λ _. ⌜ now (ways .exit) ≡ put (counts (drop from (parts template (size template) motif)) (map value (now (sequence .entry)))) (now (ways .entry)) ⌝ }
+{
+    let mut word = [0u8; Template::LETTERS as usize];
+    spell(motif, &mut word);
+    let n = sequence.len();
+    passes(sequence, template, &word, from, &mut ways[..n]);
+}
+
+// What is found of a motif: at how many first starts an occurrence begins, and how many occurrences there are.
+pub struct Tallied {
+    pub firsts: u64,
+    pub occurrences: u64,
+}
+
+// 1 of a number above 0.
+fn sign(x: u64) -> u64
+    ensures { λ r. ⌜ r ≡ if (ltb 0 x) 1 0 ⌝ }
+{
+    if 0 < x { 1 } else { 0 }
+}
+
+// How many of the ways are above 0, and their sum.
+fn count(ways: &[u64]) -> Tallied
+    requires { ⌜ sum (now ways) < 2 ^ 64 ⌝ }
+    ensures { λ r. ⌜ Tally (now (ways .entry)) (r .firsts) (r .occurrences) ⌝ }
+{
+    let mut firsts: u64 = 0;
+    let mut occurrences: u64 = 0;
+    let mut i = 0;
+    while i < ways.len() {
+        let x = ways[i];
+        firsts += sign(x);
+        occurrences += x;
+        i += 1;
+    }
+    Tallied {
+        firsts,
+        occurrences,
+    }
+}
+
+// What is found in one sequence.
+fn examine(sequence: &[u8], template: Template, word: &[u8], ways: &mut [u64]) -> Tallied
+    requires { ⌜ SoundTemplate template ⌝ }
+    requires { ⌜ (size template ≤ length (now word)) × (length (now ways) ≡ length (now sequence)) ⌝ }
+    requires { ⌜ sum (counts (aligned (components template) (now word)) (now sequence)) < 2 ^ 64 ⌝ }
+    ensures { λ r. ⌜ Tally (counts (aligned (components template) (now (word .entry))) (now (sequence .entry))) (r .firsts) (r .occurrences) ⌝ }
+{
+    passes(sequence, template, word, 0, ways);
+    count(ways)
+}
+
+// What is found in all sequences, each by its own part of the buffer.
+fn examine_all(
+    letters: &[u8],
+    lengths: &[u32],
+    template: Template,
+    word: &[u8],
+    ways: &mut [u64],
+) -> Tallied
+    requires { ⌜ SoundTemplate template ⌝ }
+    requires { ⌜ (size template ≤ length (now word)) × (sum (now lengths) ≡ length (now letters)) × (length (now letters) ≤ length (now ways)) ⌝ }
+    requires { ⌜ sum (all-counts (aligned (components template) (now word)) (now lengths) (now letters)) < 2 ^ 64 ⌝ }
+    ensures { λ r. ⌜ Tally (all-counts (aligned (components template) (now (word .entry))) (now (lengths .entry)) (now (letters .entry))) (r .firsts) (r .occurrences) ⌝ }
+{
+    let mut firsts: u64 = 0;
+    let mut occurrences: u64 = 0;
+    let mut begin: usize = 0;
+    let mut i = 0;
+    while i < lengths.len() {
+        let n = lengths[i] as usize;
+        let end = begin + n;
+        let found = examine(&letters[begin..end], template, word, &mut ways[..n]);
+        firsts += found.firsts;
+        occurrences += found.occurrences;
+        begin = end;
+        i += 1;
+    }
+    Tallied {
+        firsts,
+        occurrences,
+    }
+}
+
+// At how many first starts an occurrence of a motif begins, and how many occurrences there are, in all sequences.
+pub fn tally(
+    letters: &[u8],
+    lengths: &[u32],
+    template: Template,
+    motif: u64,
+    ways: &mut [u64],
+) -> Tallied
+    requires { ⌜ SoundSet (now letters) (now lengths) ⌝ }
+    requires { ⌜ SoundTemplate template ⌝ }
+    requires { ⌜ length (now letters) ≤ length (now ways) ⌝ }
+    ensures { λ r. ⌜ r .firsts ≡ weight (parts template (size template) motif) (sequences (now (letters .entry)) (now (lengths .entry))) ⌝ }
+    ensures { λ r. ⌜ r .occurrences ≡ length (occurrence-rows (parts template (size template) motif) (sequences (now (letters .entry)) (now (lengths .entry)))) ⌝ }
+    ensures { λ _. ⌜ length (now (ways .exit)) ≡ length (now (ways .entry)) ⌝ }
+{
+    let mut word = [0u8; Template::LETTERS as usize];
+    spell(motif, &mut word);
+    examine_all(letters, lengths, template, &word, ways)
+}
