@@ -18,6 +18,7 @@ pub both-true : (b x : Bool) → if b x false ≡ true → (b ≡ true) × (x �
 both-true true x e = (refl, e)
 both-true false x e = absurd (false≢true e)
 
+-- and they hold together
 pub true-both : (b x : Bool) → b ≡ true → x ≡ true → if b x false ≡ true
 true-both b x e f = rw (e, f)
 
@@ -27,6 +28,7 @@ both-one true x h = refl
 both-one false true h = h refl
 both-one false false h = refl
 
+-- two tests that follow from each other are the same
 pub same-truth : (a b : Bool) → (a ≡ true → b ≡ true) → (b ≡ true → a ≡ true) → a ≡ b
 same-truth true b f g = sym (f refl)
 same-truth false true f g = g refl
@@ -46,6 +48,7 @@ any-true f a (suc n) e =
     (λ h. let r = any-true f (suc a) n h in (suc (r .0), omega (arith, r .1), ap f (omega arith) ∙ r .2))
     (either (f a) (any f (suc a) n) e)
 
+-- and where it holds at one, it holds somewhere
 pub true-any : (f : ℕ → Bool) (a n k : ℕ) → k < n → f (a + k) ≡ true → any f a n ≡ true
 unfolding any
 true-any f a zero k h e = absurd (omega arith)
@@ -54,11 +57,13 @@ true-any f a (suc n) (suc k) h e =
     elim (f a) as (λ b. if b true (any f (suc a) n) ≡ true)
     [ true ↦ refl | false ↦ true-any f (suc a) n k (omega arith) (ap f (omega arith) ∙ e) ]
 
+-- two tests that agree
 pub any-same : (f g : ℕ → Bool) (a n : ℕ) → ((i : ℕ) → f i ≡ g i) → any f a n ≡ any g a n
 unfolding any
 any-same f g a zero h = refl
 any-same f g a (suc n) h = rw (h a, any-same f g (suc a) n h)
 
+-- a run that starts one later
 pub any-suc : (f : ℕ → Bool) (a n : ℕ) → any f (suc a) n ≡ any (λ i. f (suc i)) a n
 unfolding any
 any-suc f a zero = refl
@@ -70,16 +75,19 @@ unfolding some?
 some-append [] ys = refl
 some-append (x ∷ xs) ys = refl
 
+-- what is made of each member is a member
 pub some-map : {A B : Type 0} (f : A → B) (xs : List A) → some? (map f xs) ≡ some? xs
 unfolding some?
 some-map f [] = refl
 some-map f (x ∷ xs) = refl
 
+-- a list that is there only if a test holds
 pub some-if : {A : Type 0} (b : Bool) (xs : List A) → some? (if b xs []) ≡ if b (some? xs) false
 unfolding some?
 some-if true xs = refl
 some-if false xs = refl
 
+-- lists end to end have a member where one of them has
 pub some-each : {A : Type 0} (g : ℕ → List A) (a n : ℕ) → some? (each g (run a n)) ≡ any (λ o. some? (g o)) a n
 unfolding each run any some?
 some-each g a zero = refl

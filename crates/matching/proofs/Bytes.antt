@@ -24,7 +24,7 @@ use Rattle.rules.specs.Template.{Part, part, cut, components}
 use Rattle.rules.specs.declared.Component.{Component}
 use Rattle.rules.specs.declared.Template.{Template}
 use Rattle.matching.specs.Flags.{last-starts, left?}
-use Rattle.matching.specs.Marks.{left-marks}
+use Rattle.matching.specs.Marks.{left-marks, left-count}
 use Rattle.matching.specs.Prefix.{bytes}
 use Rattle.matching.proofs.Any.{same-truth}
 use Rattle.matching.proofs.Occurs.{flag-left}
@@ -156,10 +156,13 @@ marks-bytes cs low f h (n ∷ ns) l =
 
 -- THE SUPPORT: the marks of the flags of a prefix in bytes are as many as its support
 pub support-bytes : (t : Template) (j m : ℕ) (letters lengths : List ℕ) → SoundTemplate t → 1 ≤ j → {w : List ℕ} → w ≡ bytes j m
-    → length (keep (λ b. b) (left-marks (cut (components t) w) (split lengths letters))) ≡ support (parts t j m) (sequences letters lengths)
-unfolding support bytes parts sequences
-support-bytes t j m letters lengths sound h e =
+    → {n r : ℕ} → r ≡ n → n ≡ left-count (cut (components t) w) (split lengths letters)
+    → r ≡ support (parts t j m) (sequences letters lengths)
+unfolding support bytes parts sequences left-count
+support-bytes t j m letters lengths sound h e p q =
     let v = spell Letter-BASES j m in
     let low : Lows (cut (components t) v) = lows-cut (components t) v (low-spell j m) in
-    ap (λ cs. length (keep (λ b. b) (left-marks cs (split lengths letters)))) (ap (cut (components t)) e ∙ cut-bytes (components t) v)
+    p
+    ∙ q
+    ∙ ap (λ cs. length (keep (λ b. b) (left-marks cs (split lengths letters)))) (ap (cut (components t)) e ∙ cut-bytes (components t) v)
     ∙ ap (λ bs. length (keep (λ b. b) bs)) (marks-bytes (cut (components t) v) low (parts-worded t sound j m) (parts-some t sound j m h) lengths letters)

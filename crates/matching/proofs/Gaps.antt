@@ -67,12 +67,15 @@ module _ (ks : List ℕ) where
     pub recent-least : ago ks o (d + n) ≤ t + ago ks o d
     recent-least = omega (arith, turn)
 
+    -- and the sum stays small, if the flags are
     pub recent-bound : (b : ℕ) → ((i : ℕ) → getD ks i 0 ≤ b) → t + ago ks o d ≤ n * b + b
     recent-bound b h = omega (arith, e, recent-sum-bound b h o (d + 1) n, ago-bound b h o d)
 
+    -- the sum that the next turn starts from
     pub recent-next : t + ago ks o d - ago ks o (d + n) ≡ recent ks (o + 1) (d + 1) n
     recent-next = let q : t + ago ks o d - ago ks o (d + n) ≡ recent ks o d n = omega (arith, turn) in q ∙ sym (recent-on o d n)
 
+  -- what a turn writes
   pub near-is : (o d n : ℕ) {v r : ℕ} → v ≡ recent ks (o + 1) (d + 1) n → r ≡ if (eqb v 0) 0 1 → r ≡ near ks d n o
   unfolding near
   near-is o d n e q = q ∙ ap (λ (x : ℕ). if (eqb x 0) 0 1) (e ∙ recent-on o d n)

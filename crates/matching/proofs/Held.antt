@@ -20,6 +20,7 @@ unfolding digits
 length-digits zero w = refl
 length-digits (suc k) w = ap suc (length-digits k (w / 2))
 
+-- a word holds 64 marks
 pub length-held : (ws : List ℕ) → length (held ws) ≡ 64 * length ws
 unfolding held
 length-held [] = refl
@@ -95,6 +96,7 @@ module _ (ws : List ℕ) (i : ℕ) where
   unfolding held
   held-step h l = rw (add-one i, drop-cons ws i 0 h, sum-append, sum-digits 64 (getD ws i 0) l)
 
+  -- after the last word none is left to count
   pub held-end : length ws ≤ i → sum (held (drop i ws)) ≡ 0
   unfolding held sum
   held-end h = rw (drop-of-length-le ws {i = i} h)

@@ -28,12 +28,14 @@ join-cases true false x = refl
 join-cases false c x = refl
 
 module _ (ks : List ℕ) (o a : ℕ) where
+  -- a turn joins the next flag
   pub left-step : o < length ks → Left a (drop o ks) ≡ Left (bitOr a (getD ks o 0)) (drop (o + 1) ks)
   unfolding left?
   left-step h =
       rw (drop-cons ks o 0 h, or-zero a (getD ks o 0) (eqb a 0) (eqb (getD ks o 0) 0) refl refl, add-one o)
       (join-cases (eqb a 0) (eqb (getD ks o 0) 0) _)
 
+  -- after the last flag the joined byte decides
   pub left-end : length ks ≤ o → Left a (drop o ks) ≡ not (eqb a 0)
   unfolding left?
   left-end h =

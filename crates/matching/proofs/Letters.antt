@@ -45,6 +45,7 @@ module _ (x j n : ℕ) (s ks : List ℕ) (e : n ≡ length s - j) (l : length ks
       let q : o < length (take n ks) = simp length-take (omega arith) in
       rw (List·getD-append (take n ks) ls 0 o q, getD-take n ks o 0 h)
 
+  -- both together keep the flags at which the letter stands
   pub kept-pass : {zs ms : List ℕ} → zs ≡ replicate (length (midOf n (length ks - n) ks)) 0
       → ms ≡ over (kept-at x j s (putMid n (length ks - n) ks zs)) n (putMid n (length ks - n) ks zs) → ms ≡ kept x j s ks
   unfolding over kept
@@ -67,6 +68,7 @@ module _ (w : List ℕ) (j : ℕ) (s ks ms : List ℕ) (e : matched (drop j w) j
   unfolding matched
   matched-step h q = rw (q, add-one j) (rw (drop-cons w j 0 h) at e)
 
+  -- after the last letter the flags are those of the whole word
   pub matched-end : length w ≤ j → ks ≡ ms
   unfolding matched
   matched-end h = rw (drop-of-length-le w {i = j} h) at e

@@ -2,12 +2,12 @@ pub mod Over
 pub mod Letters
 pub mod Gaps
 pub mod Left
-pub mod Held
-pub mod Spelling
 pub mod Any
-pub mod Parts
 pub mod Passes
 pub mod Occurs
+pub mod Parts
+pub mod Spelling
+pub mod Held
 pub mod Marking
 pub mod Bytes
 pub mod Quorum

@@ -13,7 +13,7 @@ use Rattle.rules.specs.Lists.{run, keep, sum}
 use Rattle.rules.specs.Sequences.{split}
 use Rattle.rules.specs.Template.{Part}
 use Rattle.matching.specs.Flags.{bit, over, last-starts, left?}
-use Rattle.matching.specs.Marks.{digits, held, left-marks}
+use Rattle.matching.specs.Marks.{digits, held, left-marks, left-count}
 use Rattle.matching.proofs.Held.{sum-append}
 use Rattle.matching.proofs.Over.{over-keeps}
 
@@ -30,6 +30,7 @@ module _ (ns l : List ℕ) (i from : ℕ) (h : i < length ns) where
     next-sequence : getD (split ns l) i [] ≡ take (getD ns i 0) (drop from l)
     next-sequence = cc both
 
+    -- and those after it are what its end leaves
     pub later-sequences : drop (i + 1) (split ns l) ≡ split (drop (i + 1) ns) (drop (from + getD ns i 0) l)
     later-sequences = rw (add-one i) (cc both)
 
@@ -42,6 +43,7 @@ module _ (ns l : List ℕ) (i from : ℕ) (h : i < length ns) where
 unfoldable pub mark-at : List Part → List (List ℕ) → ℕ → ℕ
 mark-at cs ss k = bit (left? (last-starts cs (getD ss k [])))
 
+-- what a turn marks
 pub mark-next : (cs : List Part) (ns l : List ℕ) (i from : ℕ) → i < length ns → drop i (split ns l) ≡ split (drop i ns) (drop from l)
     → {found : Bool} → found ≡ left? (last-starts cs (take (from + getD ns i 0 - from) (drop from l))) → bit found ≡ mark-at cs (split ns l) i
 unfolding mark-at
@@ -100,9 +102,10 @@ marks-run cs [] = refl
 marks-run cs (s ∷ ss) =
     ap (λ (xs : List ℕ). bit (left? (last-starts cs s)) ∷ xs) (map-run-suc (mark-at cs (s ∷ ss)) 0 (length ss) ∙ marks-run cs ss)
 
+-- after the last sequence the marks are those of all
 pub marks-end : (cs : List Part) (ns l : List ℕ) (i n : ℕ) (ws : List ℕ) {x : List ℕ} → ws ≡ replicate n 0
-    → x ≡ over (mark-at cs (split ns l)) i (held ws) → i ≡ length ns → sum x ≡ length (keep (λ b. b) (left-marks cs (split ns l)))
-unfolding over
+    → x ≡ over (mark-at cs (split ns l)) i (held ws) → i ≡ length ns → sum x ≡ left-count cs (split ns l)
+unfolding over left-count
 marks-end cs ns l i n ws b e h =
     let ss = split ns l in
     let q : i ≡ length ss = h ∙ sym (split-count ns l) in

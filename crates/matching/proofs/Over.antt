@@ -17,6 +17,7 @@ unfolding run
 map-run f a zero = rw (add-zero a)
 map-run f a (suc n) = rw (map-run f (suc a) n, add-suc a n, suc-add a n)
 
+-- a list made of a run is as long as the run
 pub length-map-run : (f : ℕ → ℕ) (a n : ℕ) → length (map f (run a n)) ≡ n
 length-map-run f a n = simp (length-map, length-run)
 
@@ -82,6 +83,7 @@ module _ (f : ℕ → ℕ) (o : ℕ) (l : List ℕ) where
     pub over-end : {n : ℕ} → o ≡ n → x ≡ over f n l
     over-end h = e ∙ ap (λ (k : ℕ). over f k l) h
 
+    -- where the loop has passed the whole list
     pub over-all : {n : ℕ} → o ≡ n → length l ≤ n → x ≡ map f (run 0 n)
     unfolding over
     over-all {n} h a = e ∙ rw (h, drop-of-length-le l {i = n} a, append-nil)

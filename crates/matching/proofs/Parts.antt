@@ -1,27 +1,18 @@
 -- The parts of a prefix one by one: the next component takes as many of the letters left as it has room for, and what it
 -- leaves goes to the components after it.
-use mathlib.Core.Bool.{true, false, _&&_}
 use mathlib.Core.List.{List, [], _∷_}
 use mathlib.Core.Path.{_≡_, refl, sym, ap, _∙_}
 use Prim.Native.Nat.{ℕ, zero, suc, _+_, _-_, _≤_, _<_, min}
-use native.Mathlib.Decide.{decLt}
 use native.Mathlib.Nat.{min-zero, suc-min-suc}
 use native.Mathlib.Numerals.{add-one, unary-clauses}
 use native.Mathlib.Omega.{arith}
-use lib.Dec.{ltb}
 use lib.ListN.{length, take, drop, getD, replicate, length-take, length-drop, drop-of-length-le}
 use lib.Seq.{drop-cons, drop-drop, length-take-le, getD-take}
-use borrow.Author.Tests.{lt-ltb, ltb-true, ltb-false}
-use Rattle.rules.proofs.Tests.{both}
 use Rattle.rules.specs.Template.{part, none, cut}
 use Rattle.rules.specs.declared.Component.{Component}
 use Rattle.matching.specs.Flags.{matched, opened, following, last-starts}
 
--- no component left, or no letter
-cut-nil : (w : List ℕ) → cut [] w ≡ []
-unfolding cut
-cut-nil w = refl
-
+-- no letter left
 cut-none : (cs : List Component) (w : List ℕ) → length w ≤ 0 → cut cs w ≡ []
 unfolding cut
 cut-none [] w h = refl
@@ -55,6 +46,10 @@ module _ (room : ℕ) (v : List ℕ) (n : ℕ) (e : n ≡ min room (length v)) w
   as-long : n ≡ length (take room v)
   as-long = e ∙ sym (length-take room v)
 
+-- the flags of a part, whose letters are those from one place up to another
+pub part-flags : (from n : ℕ) (w s : List ℕ) {xs ys ks : List ℕ} → ks ≡ matched (take (from + n - from) (drop from w)) 0 s xs → xs ≡ ys → ks ≡ matched (take n (drop from w)) 0 s ys
+part-flags from n w s e q = let i : from + n - from ≡ n = omega arith in e ∙ rw (i, q)
+
 first-cut : (cs : List Component) (w s : List ℕ) (n : ℕ) {ks : List ℕ} → 0 < length cs → 0 < length w → n ≡ min ((getD cs 0 none) .length) (length w)
     → ks ≡ matched (take n w) 0 s (replicate (length s) 1) → following n (cut (drop 1 cs) (drop n w)) s ks ≡ last-starts (cut cs w) s
 unfolding last-starts
@@ -79,8 +74,9 @@ module _ (all : List Component) (count : ℕ) (fits : count ≤ length all) (w s
 
   -- from a part of n letters, whose flags are ks, to the part of component k
   module _ (k from n : ℕ) (ks : List ℕ) where
+    -- the parts that are left come to the same, with that part done
     pub next-step : (m : ℕ) {ls : List ℕ} → k < count → from < length w → m ≡ min ((getD all k none) .length) (length w - from)
-        → ls ≡ matched (take (from + m - from) (drop from w)) 0 s (opened n ((getD all k none) .low) ((getD all k none) .high) ks)
+        → ls ≡ matched (take m (drop from w)) 0 s (opened n ((getD all k none) .low) ((getD all k none) .high) ks)
         → following m (cut (drop (k + 1) (take count all)) (drop (from + m) w)) s ls ≡ following n (cut (drop k (take count all)) (drop from w)) s ks
     unfolding following
     next-step m {ls} h l e q =
@@ -89,23 +85,16 @@ module _ (all : List Component) (count : ℕ) (fits : count ≤ length all) (w s
         let rest = drop (suc k) (take count all) in
         let e' : m ≡ min (c .length) (length v) = e ∙ ap (min (c .length)) (sym (length-drop from w)) in
         let p : 0 < length v = simp length-drop (omega arith) in
-        let i : from + m - from ≡ m = omega arith in
         let d : drop k (take count all) ≡ c ∷ rest = drop-cons (take count all) k none (rw counted h) ∙ rw (getD-take count all k none h) in
-        rw (q, i, ← (drop-drop m from w), add-one k, d, cut-cons c rest v p, taken (c .length) v m e', left (c .length) v m e')
+        rw (q, ← (drop-drop m from w), add-one k, d, cut-cons c rest v p, taken (c .length) v m e', left (c .length) v m e')
         (ap (λ (i : ℕ). following i (cut rest (drop (c .length) v)) s (matched (take (c .length) v) 0 s (opened n (c .low) (c .high) ks))) (as-long (c .length) v m e'))
 
-    -- after the last part: no component is left, or no letter
-    pub last-step : ltb k count && ltb from (length w) ≡ false → following n (cut (drop k (take count all)) (drop from w)) s ks ≡ ks
+    -- after the last letter no part follows
+    pub letters-end : length w ≤ from → following n (cut (drop k (take count all)) (drop from w)) s ks ≡ ks
     unfolding following
-    last-step h = rw none-left
-      where
-        none-left : cut (drop k (take count all)) (drop from w) ≡ []
-        none-left =
-            elim (decLt k count) [
-              | yes l ↦ cut-none _ (drop from w) (simp length-drop (omega (arith, ltb-false from (length w) ((rw (lt-ltb k count l) at h)))))
-              | no n ↦ let z : length (take count all) ≤ k = rw counted (omega arith) in rw (drop-of-length-le (take count all) {i = k} z) (cut-nil (drop from w))
-            ]
+    letters-end h = rw (cut-none (drop k (take count all)) (drop from w) (simp length-drop (omega arith)))
 
--- as the loop tests it
-pub both-left : (k count from n : ℕ) → ltb k count && ltb from n ≡ true → (k < count) × (from < n)
-both-left k count from n h = let e = both (ltb k count) (ltb from n) .0 h in (ltb-true k count (e .0), ltb-true from n (e .1))
+    -- nor after the last component
+    pub components-end : count ≤ k → following n (cut (drop k (take count all)) (drop from w)) s ks ≡ ks
+    unfolding following cut
+    components-end h = let z : length (take count all) ≤ k = rw counted h in rw (drop-of-length-le (take count all) {i = k} z)

@@ -73,6 +73,7 @@ module _ (s : List ℕ) where
       map-same _ _ 0 (length s)
       (λ o _ l. ap (λ (k : ℕ). if (stands (x ∷ []) s (suc (o + j))) k 0) (flagged-at A (length s) o (omega arith)) ∙ bit-if (stands (x ∷ []) s (suc (o + j))) (A o))
 
+  -- so a word keeps those at which it stands
   pub matched-flagged : (w : List ℕ) (j : ℕ) (A : ℕ → Bool) → matched w j s (flagged A (length s)) ≡ flagged (λ o. if (stands w s (suc (o + j))) (A o) false) (length s)
   unfolding matched
   matched-flagged [] j A = flagged-same A _ (length s) (λ o. ap (λ (b : Bool). if b (A o) false) (sym (stands-none o j)))
@@ -97,6 +98,7 @@ module _ (A : ℕ → Bool) (n : ℕ) where
   near-flagged o h d zero = refl
   near-flagged o h d (suc m) = rw (ago-flagged o h d) (sum-step (before A d o) _ _ (near-flagged o h (suc d) m))
 
+  -- so a gap sets those that a set one reaches
   pub opened-flagged : (l low high : ℕ) → opened l low high (flagged A n) ≡ flagged (λ o. any (λ g. before A g o) (l + low) (high + 1 - low)) n
   unfolding opened flagged
   opened-flagged l low high =
@@ -114,6 +116,7 @@ left-run A a (suc n) = go (A a) (left-run A (suc a) n)
     go true e = refl
     go false e = e
 
+-- a flag is left where A holds somewhere
 pub left-flagged : (A : ℕ → Bool) (n : ℕ) → left? (flagged A n) ≡ any A 0 n
 unfolding flagged
 left-flagged A n = left-run A 0 n

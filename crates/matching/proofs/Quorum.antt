@@ -9,10 +9,12 @@ use Rattle.rules.specs.Support.{support, parts, frequent}
 use Rattle.rules.specs.declared.Template.{Template}
 
 module _ (t : Template) (quorum : ℕ) (ss : List (List ℕ)) (m : ℕ) where
+  -- the empty prefix is frequent
   pub frequent-empty : (j : ℕ) → j ≡ 0 → true ≡ frequent t quorum ss j m
   unfolding frequent
   frequent-empty j e = rw e
 
+  -- any other is, if its support is at least the quorum
   pub frequent-support : (j : ℕ) {r : ℕ} → 1 ≤ j → r ≡ support (parts t j m) ss → leb quorum r ≡ frequent t quorum ss j m
   unfolding frequent
   frequent-support zero h e = absurd (omega arith)

@@ -45,8 +45,10 @@ length-bytes j m = length-map (spell Letter-BASES j m) letter ∙ length-spell L
 
 -- the letters at the front of a table
 module _ (j m : ℕ) (l : List ℕ) {x : List ℕ} (e : x ≡ bytes j m ++ drop j l) where
+  -- they are those of the number
   pub spelled-front : take j x ≡ bytes j m
   spelled-front = ap (take j) e ∙ take-at (bytes j m) (drop j l) j (length-bytes j m)
 
+  -- and as many as were asked for
   pub spelled-length : length (take j x) ≡ j
   spelled-length = ap length spelled-front ∙ length-bytes j m

@@ -2,8 +2,14 @@
 use mathlib.Core.Bool.{Bool}
 use mathlib.Core.List.{List, [], _∷_, _++_, map}
 use Prim.Native.Nat.{ℕ, zero, suc, _/_, _%_}
+use lib.ListN.{length, replicate}
+use Rattle.rules.specs.Lists.{keep}
 use Rattle.rules.specs.Template.{Part}
 use Rattle.matching.specs.Flags.{last-starts, left?}
+
+-- no mark: sixteen words, for as many sequences as there may be
+abbrev pub unmarked : List ℕ
+unmarked = replicate 16 0
 
 -- the k lowest binary digits of a number, the lowest first
 unfoldable pub digits : ℕ → ℕ → List ℕ
@@ -18,3 +24,7 @@ held (w ∷ ws) = digits 64 w ++ held ws
 -- whether a flag of the last part is left, for each sequence
 unfoldable pub left-marks : List Part → List (List ℕ) → List Bool
 left-marks cs ss = map (λ s. left? (last-starts cs s)) ss
+
+-- the number of those marks
+unfoldable pub left-count : List Part → List (List ℕ) → ℕ
+left-count cs ss = length (keep (λ b. b) (left-marks cs ss))

@@ -19,8 +19,8 @@ const LETTERS: usize = Template::LETTERS as usize;
 
 const WORDS: usize = SequenceSet::SEQUENCES / 64;
 
-// The support of the prefix of `size` letters with this number: how many sequences it occurs in. The two tables are for the
-// work, and what they hold afterwards is left open.
+// The support of the prefix of `size` letters with this number: in how many sequences it occurs. Both tables are lent for the
+// work alone.
 pub fn support(
     letters: &[u8],
     lengths: &[u32],

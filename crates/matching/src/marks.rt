@@ -1,4 +1,4 @@
-// A mark for each sequence: 64-bit words of marks, set one by one and counted.
+// A mark for each sequence, 64 to a word: set one by one, and counted.
 ghost use mathlib.Core.Path.{_≡_};
 ghost use Prim.Native.Nat.{_*_, _≤_, _<_};
 ghost use lib.ListN.{length, getD, set};
@@ -25,7 +25,7 @@ pub fn mark(words: &mut [u64], i: usize, found: bool)
 
 // How many sequences are marked.
 pub fn count(words: &[u64]) -> u32
-    requires { ⌜ length (now words) ≤ 1024 ⌝ }
+    requires { ⌜ length (now words) ≤ 16 ⌝ }
     ensures { λ r. ⌜ r ≡ sum (held (now (words .entry))) ⌝ }
 {
     let mut sum: u32 = 0;

@@ -1,20 +1,22 @@
-// A prefix in one sequence, and in each of the set.
+// A prefix over the set: its letters as bytes, its parts one after another in a sequence, and a mark for each sequence in
+// which a flag is left.
 use super::flags;
 use super::marks;
+use rules::Component;
 use rules::Letter;
 use rules::Template;
 ghost use mathlib.Core.Path.{_≡_};
 ghost use mathlib.Core.List.{_++_};
-ghost use Prim.Native.Nat.{_+_, _-_, _*_, _^_, _/_, _%_, _≤_, _<_};
+ghost use Prim.Native.Nat.{_-_, _≤_, min};
 ghost use lib.ListN.{length, take, drop, replicate};
 ghost use Rattle.rules.specs.Letters.{letter};
-ghost use Rattle.rules.specs.Limits.{Letter-BASES, Template-LENGTH, Template-GAP};
-ghost use Rattle.rules.specs.Lists.{keep, sum};
+ghost use Rattle.rules.specs.Limits.{Template-LETTERS, Template-LENGTH, Template-GAP};
+ghost use Rattle.rules.specs.Lists.{sum};
 ghost use Rattle.rules.specs.Sequences.{split};
-ghost use Rattle.rules.specs.Sound.{SoundSet, SoundTemplate};
+ghost use Rattle.rules.specs.Sound.{SoundComponent, SoundSet, SoundTemplate};
 ghost use Rattle.rules.specs.Template.{cut, components};
 ghost use Rattle.matching.specs.Flags.{matched, opened, last-starts, left?};
-ghost use Rattle.matching.specs.Marks.{held, left-marks};
+ghost use Rattle.matching.specs.Marks.{unmarked, held, left-count};
 ghost use Rattle.matching.specs.Prefix.{bytes};
 
 // The letter that has this value, as a byte.
@@ -30,9 +32,9 @@ fn letter(value: u64) -> u8
     if value == 2 { b'G' } else { b'T' }
 }
 
-// Writes the `size` letters of a number, as bytes, to the front of a table.
+// Writes the `size` letters of a prefix's number, as bytes, to the front of a table. A letter is two binary digits.
 pub fn spell(number: u64, size: usize, word: &mut [u8])
-    requires { ⌜ (size ≤ length (now word)) × (size ≤ 32) ⌝ }
+    requires { ⌜ (size ≤ length (now word)) × (size ≤ Template-LETTERS) ⌝ }
     ensures { λ _. ⌜ now (word .exit) ≡ bytes size number ++ drop size (now (word .entry)) ⌝ }
 {
     let mut i = 0;
@@ -45,36 +47,50 @@ pub fn spell(number: u64, size: usize, word: &mut [u8])
 
 // The smaller of two numbers.
 fn least(a: usize, b: usize) -> usize
-    ensures { λ r. ⌜ r ≡ Prim.Native.Nat.min a b ⌝ }
+    ensures { λ r. ⌜ r ≡ min a b ⌝ }
 {
     if a < b { a } else { b }
 }
 
-// Sets the flags of a sequence at which the first part of a prefix stands.
-fn first_part(word: &[u8], sequence: &[u8], flags: &mut [u8])
+// Sets the flags of a sequence at which the first part of a prefix stands, and answers how many letters it has: as many as the
+// component has room for.
+fn first_part(c: Component, word: &[u8], sequence: &[u8], flags: &mut [u8]) -> usize
     requires { ⌜ length (now flags) ≡ length (now sequence) ⌝ }
-    ensures { λ _. ⌜ now (flags .exit) ≡ matched (now (word .entry)) 0 (now (sequence .entry)) (replicate (length (now (sequence .entry))) 1) ⌝ }
+    ensures { λ r. ⌜ r ≡ min (c .length) (length (now (word .entry))) ⌝ }
+    ensures { λ r. ⌜ now (flags .exit) ≡ matched (take r (now (word .entry))) 0 (now (sequence .entry)) (replicate (length (now (sequence .entry))) 1) ⌝ }
 {
+    let room = c.length as usize;
+    let n = least(room, word.len());
     flags::fill(flags, 1);
-    flags::keep_word(word, sequence, flags);
+    flags::keep_word(&word[..n], sequence, flags);
+    n
 }
 
-// From the flags of a part of `behind` letters, those of the part that follows it.
+// From the flags of a part of `behind` letters, those of the part that follows it, which takes the letters from `from` on. It
+// answers how many it has.
 fn next_part(
+    c: Component,
     behind: usize,
-    low: usize,
-    high: usize,
+    from: usize,
     word: &[u8],
     sequence: &[u8],
     flags: &mut [u8],
     spare: &mut [u8],
-)
+) -> usize
+    requires { ⌜ SoundComponent c ⌝ }
+    requires { ⌜ (behind ≤ Template-LENGTH) × (from ≤ length (now word)) ⌝ }
     requires { ⌜ (length (now flags) ≡ length (now sequence)) × (length (now spare) ≡ length (now sequence)) ⌝ }
-    requires { ⌜ (behind ≤ Template-LENGTH) × (low ≤ high) × (high ≤ Template-GAP) ⌝ }
-    ensures { λ _. ⌜ now (flags .exit) ≡ matched (now (word .entry)) 0 (now (sequence .entry)) (opened behind low high (now (flags .entry))) ⌝ }
+    ensures { λ r. ⌜ r ≡ min (c .length) (length (now (word .entry)) - from) ⌝ }
+    ensures { λ r. ⌜ now (flags .exit) ≡ matched (take r (drop from (now (word .entry)))) 0 (now (sequence .entry)) (opened behind (c .low) (c .high) (now (flags .entry))) ⌝ }
 {
+    let room = c.length as usize;
+    let low = c.low as usize;
+    let high = c.high as usize;
+    let n = least(room, word.len() - from);
+    let to = from + n;
     flags::open_gap(behind, low, high, flags, spare);
-    flags::keep_word(word, sequence, flags);
+    flags::keep_word(&word[from..to], sequence, flags);
+    n
 }
 
 // Sets the flags of a sequence at which the last part of a prefix can start, the parts before it placed.
@@ -87,21 +103,16 @@ fn last_part(template: Template, word: &[u8], sequence: &[u8], flags: &mut [u8],
     let count = template.count as usize;
     let components = template.components();
     let first = components[0];
-    let room = first.length as usize;
-    let mut behind = least(room, word.len());
-    first_part(&word[..behind], sequence, flags);
+    let mut behind = first_part(first, word, sequence, flags);
     let mut from = behind;
     let mut k = 1;
-    while (k < count) & (from < word.len()) {
+    while k < count {
+        if from == word.len() {
+            return;
+        }
         let c = components[k];
-        let room = c.length as usize;
-        let low = c.low as usize;
-        let high = c.high as usize;
-        let n = least(room, word.len() - from);
-        let to = from + n;
-        next_part(behind, low, high, &word[from..to], sequence, flags, spare);
-        behind = n;
-        from = to;
+        behind = next_part(c, behind, from, word, sequence, flags, spare);
+        from += behind;
         k += 1;
     }
 }
@@ -147,7 +158,7 @@ fn flag_left_between(
     )
 }
 
-// Marks each sequence in which a flag of the prefix is left. No mark is set before.
+// Marks each sequence in which a flag is left. No mark is set before.
 pub fn mark_all(
     letters: &[u8],
     lengths: &[u32],
@@ -161,8 +172,8 @@ pub fn mark_all(
     requires { ⌜ SoundTemplate template ⌝ }
     requires { ⌜ 1 ≤ length (now word) ⌝ }
     requires { ⌜ (length (now letters) ≤ length (now flags)) × (length (now letters) ≤ length (now spare)) ⌝ }
-    requires { ⌜ now words ≡ replicate 16 0 ⌝ }
-    ensures { λ _. ⌜ sum (held (now (words .exit))) ≡ length (keep (λ b. b) (left-marks (cut (components template) (now (word .entry))) (split (now (lengths .entry)) (now (letters .entry))))) ⌝ }
+    requires { ⌜ now words ≡ unmarked ⌝ }
+    ensures { λ _. ⌜ sum (held (now (words .exit))) ≡ left-count (cut (components template) (now (word .entry))) (split (now (lengths .entry)) (now (letters .entry))) ⌝ }
 {
     let mut from = 0;
     let mut i = 0;

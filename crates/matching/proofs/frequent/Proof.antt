@@ -1,5 +1,7 @@
+-- The empty prefix is frequent, and any other is if its support reaches the quorum.
 use native.Mathlib.Omega.{arith}
 use borrow.Author.Needs.{needs}
+use Rattle.rules.specs.Sequences.{sequences}
 use Rattle.matching.proofs.Quorum.{frequent-empty, frequent-support}
 use Rattle.matching.proofs.frequent.Statement.{statement}
 use Rattle.matching.proofs.frequent.Tie as tie
@@ -23,8 +25,11 @@ same-length-2 c = search needs
 
 returns-2 : tie.Need-returns-2
 returns-2 c =
-    let a = c .before .before .before .before .before .before .before .before .before .before .before .before .args in
-    (frequent-support (a .template) (a .quorum) _ (a .number) (a .size) (omega (arith, c .before .before .before .before .before .before .before .if1 .left)) (c .before .before .before .before .support .ensures .0), (search needs, search needs))
+    let a = c .before .before .before .before .before .before .before .before .before .before .before .before .args in (
+      frequent-support (a .template) (a .quorum) (sequences (a .letters .now) (a .lengths .now)) (a .number) (a .size)
+          (omega (arith, c .before .before .before .before .before .before .before .if1 .left)) (c .before .before .before .before .support .ensures .0),
+      (search needs, search needs),
+    )
 
 pub frequent-spec : {M : Type 1} → statement M
 frequent-spec =

@@ -1,4 +1,5 @@
-use mathlib.Core.Path.{refl, sym, _∙_}
+-- The letters stand at the front of the table, the marks are those of the flags, and these are as many as the support.
+use mathlib.Core.Path.{refl, sym}
 use native.Mathlib.Omega.{arith}
 use borrow.Author.Needs.{needs}
 use Rattle.matching.proofs.Bytes.{support-bytes}
@@ -43,9 +44,8 @@ returns : tie.Need-returns
 returns c =
     let s = c .before .before .before .before .before .before .before .before .before .before .before .before .before .before .before .before .before .before .before in
     let a = s .args in (
-      c .count .ensures
-          ∙ c .before .before .before .before .before .before .before .mark-all .ensures
-          ∙ support-bytes (a .template) (a .size) (a .number) (a .letters .now) (a .lengths .now) (s .pre .1 .0) (s .pre .1 .1 .0 .0) (spelled-front _ _ _ (c .before .before .before .before .before .before .before .before .before .before .before .before .before .spell .ensures)),
+      support-bytes (a .template) (a .size) (a .number) (a .letters .now) (a .lengths .now) (s .pre .1 .0) (s .pre .1 .1 .0 .0)
+          (spelled-front _ _ _ (c .before .before .before .before .before .before .before .before .before .before .before .before .before .spell .ensures)) (c .count .ensures) (c .before .before .before .before .before .before .before .mark-all .ensures),
       (search needs, search needs),
     )
 

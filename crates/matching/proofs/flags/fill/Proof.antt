@@ -1,3 +1,4 @@
+-- The flags that the loop has passed hold the value, and the others are as they were.
 use mathlib.Core.Path.{_≡_, refl}
 use Prim.Native.Nat.{_-_, _≤_}
 use lib.ListN.{length}

@@ -1,3 +1,4 @@
+-- The two answers of the test are those of the definition.
 use Prim.Native.Nat.{_-_}
 use native.Mathlib.Omega.{arith}
 use borrow.Author.Needs.{needs}

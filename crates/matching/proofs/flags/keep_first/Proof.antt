@@ -1,3 +1,4 @@
+-- A flag that the loop has passed is kept or cleared by the letter ahead of it, and those to come are as they were.
 use mathlib.Core.Path.{_≡_}
 use Prim.Native.Nat.{_-_, _≤_}
 use lib.ListN.{length}

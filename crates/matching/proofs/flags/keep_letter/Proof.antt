@@ -1,3 +1,4 @@
+-- The flags with no letter ahead are cleared first, and the pass then keeps or clears the others.
 use borrow.Author.Needs.{needs}
 use Rattle.matching.proofs.Letters.{kept-pass}
 use Rattle.matching.proofs.flags.keep_letter.Statement.{statement}

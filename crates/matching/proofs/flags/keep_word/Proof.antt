@@ -1,3 +1,4 @@
+-- What is left of the word, from the flags so far, comes to the same as the whole word from the first flags.
 use mathlib.Core.Path.{_≡_}
 use Prim.Native.Nat.{_-_, _≤_}
 use lib.ListN.{length, drop}

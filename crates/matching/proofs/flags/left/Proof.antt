@@ -1,3 +1,4 @@
+-- A flag is left among those passed, joined in one byte, or among those to come.
 use mathlib.Core.Path.{_≡_, sym, _∙_}
 use Prim.Native.Nat.{_-_, _≤_}
 use lib.ListN.{length, drop}

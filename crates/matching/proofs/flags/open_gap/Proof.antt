@@ -1,3 +1,4 @@
+-- The copy holds the flags as they were, and the pass reads them there.
 use borrow.Author.Needs.{needs}
 use Rattle.matching.proofs.Gaps.{opened-pass}
 use Rattle.matching.proofs.flags.open_gap.Statement.{statement}

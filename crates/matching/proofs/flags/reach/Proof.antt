@@ -1,3 +1,4 @@
+-- The running sum is that of the flags in the window behind the place where the loop stands. It fits, for it is of at most 257 bytes.
 use mathlib.Core.Path.{_≡_}
 use Prim.Native.Nat.{ℕ, _+_, _-_, _≤_}
 use native.Mathlib.Omega.{arith}

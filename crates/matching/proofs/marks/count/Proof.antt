@@ -1,3 +1,4 @@
+-- The ones counted so far and those of the words to come are all the marks.
 use mathlib.Core.Path.{_≡_}
 use Prim.Native.Nat.{_+_, _-_, _*_, _≤_}
 use native.Mathlib.Omega.{arith}

@@ -1,3 +1,4 @@
+-- The mark is one binary digit of one word.
 use borrow.Author.Needs.{needs}
 use Rattle.matching.proofs.Held.{held-mark}
 use Rattle.matching.proofs.marks.mark.Statement.{statement}

@@ -1,3 +1,4 @@
+-- The flags are those of the last part.
 use mathlib.Core.Path.{ap, _∙_}
 use borrow.Author.Needs.{needs}
 use Rattle.matching.specs.Flags.{left?}

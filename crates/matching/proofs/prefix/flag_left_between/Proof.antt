@@ -1,3 +1,4 @@
+-- The three parts of the buffers are equally long.
 use mathlib.Core.Path.{sym, _∙_}
 use borrow.Author.Needs.{needs}
 use borrow.Rule.Slice.PartMut.{mid-len}

@@ -1,19 +1,20 @@
+-- The parts that are left, from the flags so far, come to the same as all parts from the start. The loop ends when no letter or
+-- no component is left.
 use mathlib.Core.Path.{_≡_, sym, ap, _∙_}
 use Prim.Native.Nat.{ℕ, _-_, _≤_, _<_}
 use native.Mathlib.Omega.{arith}
 use lib.ListN.{length, getD, take, drop}
-use lib.Seq.{length-take-le}
 use borrow.Author.Needs.{needs}
 use Rattle.rules.specs.Limits.{Template-COMPONENTS, Template-LENGTH}
 use Rattle.rules.specs.Sound.{SoundComponent}
 use Rattle.rules.specs.Template.{none, cut, components}
 use Rattle.matching.specs.Flags.{following, last-starts}
-use Rattle.matching.proofs.Parts.{first-step, next-step, last-step, both-left}
+use Rattle.matching.proofs.Parts.{first-step, next-step, letters-end, components-end}
 use Rattle.matching.proofs.prefix.last_part.Statement.{statement}
 use Rattle.matching.proofs.prefix.last_part.Tie as tie
 
 abbrev Inv-loop : tie.InvT-loop
-Inv-loop word sequence flags₀ spare₀ count components room behind₀ from₀ k₀ flags spare behind from k =
+Inv-loop word sequence flags₀ spare₀ count components behind₀ from₀ k₀ flags spare behind from k =
     (length flags ≡ length sequence)
     × (length spare ≡ length sequence)
     × (count ≤ length components)
@@ -24,7 +25,7 @@ Inv-loop word sequence flags₀ spare₀ count components room behind₀ from₀
     × (following behind (cut (drop k (take count components)) (drop from word)) sequence flags ≡ last-starts (cut (take count components) word) sequence)
 
 abbrev μ-loop : tie.MeasureT-loop
-μ-loop word sequence flags₀ spare₀ count components room behind₀ from₀ k₀ flags spare behind from k = count - k
+μ-loop word sequence flags₀ spare₀ count components behind₀ from₀ k₀ flags spare behind from k = count - k
 
 cast-count : tie.Need-cast-count Inv-loop μ-loop
 cast-count c = search needs
@@ -35,126 +36,24 @@ components-requires c κs = search needs
 array-copy-out-first : tie.Need-array-copy-out-first Inv-loop μ-loop
 array-copy-out-first c = search needs
 
-cast-room : tie.Need-cast-room Inv-loop μ-loop
-cast-room c = search needs
-
-least-requires : tie.Need-least-requires Inv-loop μ-loop
-least-requires c κs = search needs
-
-slice-aggregate-first-part : tie.Need-slice-aggregate-first-part Inv-loop μ-loop
-slice-aggregate-first-part c = sym (length-take-le _ _ (omega (arith, c .before .least .ensures)))
-
 first-part-requires : tie.Need-first-part-requires Inv-loop μ-loop
 first-part-requires c κs = search needs
 
 loop-holds : tie.Need-loop-holds Inv-loop μ-loop
 loop-holds c =
-    let a = c .before .before .before .before .before .before .before .before .before .before .before .before .before .before .args in
-    let sound = c .before .before .before .before .before .before .before .before .before .before .before .before .before .before .pre .0 in
-    let e = c .before .before .before .before .before .before .before .before .components .ensures in
+    let sound = c .before .before .before .before .before .before .before .before .before .before .before .pre .0 in
+    let e = c .before .before .before .before .before .components .ensures in
+    let each : (i : ℕ) → i < c .before .before .before .before .before .before .before .before .before .before .before .args .template .count → SoundComponent (getD (c .before .before .before .before .before .components .result) i none) = λ i h. rw e (sound .each i h) in
     let size = ap length e in
-    let each : (i : ℕ) → i < a .template .count → SoundComponent (getD (c .before .before .before .before .before .before .before .before .components .result) i none) = λ i h. rw e (sound .each i h) in
-    let n = c .before .before .before .before .before .least .ensures in (
+    let n = c .before .before .first-part .ensures .0 in (
       search needs,
       search needs,
       omega (arith, sound .few),
       each,
-      omega arith,
+      omega (arith, n),
       omega (arith, n, each 0 (sound .some) .short),
       size,
-      first-step _ _ (omega (arith, sound .few)) _ _ _ (sound .some) (search needs) n (c .before .before .first-part .ensures),
-    )
-
-mul-c : tie.Need-mul-c Inv-loop μ-loop
-mul-c c =
-    let l = c .before .loop in
-    let a = c .before .before .before .before .before .before .before .before .before .before .before .before .before .before .before .before .args in
-    let test = both-left (l .k) (a .template .count) (l .from) (length (a .word .now)) (c .loop-test .taken) in
-    omega (arith, l .inv)
-
-array-copy-out-c : tie.Need-array-copy-out-c Inv-loop μ-loop
-array-copy-out-c c =
-    let l = c .before .loop in
-    let a = c .before .before .before .before .before .before .before .before .before .before .before .before .before .before .before .before .args in
-    let test = both-left (l .k) (a .template .count) (l .from) (length (a .word .now)) (c .loop-test .taken) in
-    omega (arith, l .inv)
-
-cast-room-2 : tie.Need-cast-room-2 Inv-loop μ-loop
-cast-room-2 c = search needs
-
-cast-low : tie.Need-cast-low Inv-loop μ-loop
-cast-low c = search needs
-
-cast-high : tie.Need-cast-high Inv-loop μ-loop
-cast-high c = search needs
-
-sub-least : tie.Need-sub-least Inv-loop μ-loop
-sub-least c =
-    let l = c .before .before .before .before .before .loop in
-    let a = c .before .before .before .before .before .before .before .before .before .before .before .before .before .before .before .before .before .before .before .before .args in
-    let test = both-left (l .k) (a .template .count) (l .from) (length (a .word .now)) (c .before .before .before .before .loop-test .taken) in
-    omega arith
-
-least-requires-2 : tie.Need-least-requires-2 Inv-loop μ-loop
-least-requires-2 c κs = search needs
-
-add-to : tie.Need-add-to Inv-loop μ-loop
-add-to c =
-    let l = c .before .before .before .before .before .before .loop in
-    let a = c .before .before .before .before .before .before .before .before .before .before .before .before .before .before .before .before .before .before .before .before .before .args in
-    let test = both-left (l .k) (a .template .count) (l .from) (length (a .word .now)) (c .before .before .before .before .before .loop-test .taken) in
-    omega (arith, c .least2 .ensures, c .before .before .before .before .before .before .before .before .before .before .before .before .before .before .before .before .before .before .before .before .before .good)
-
-sub-next-part : tie.Need-sub-next-part Inv-loop μ-loop
-sub-next-part c = search needs
-
-part-next-part-start : tie.Need-part-next-part-start Inv-loop μ-loop
-part-next-part-start c = search needs
-
-part-next-part-end : tie.Need-part-next-part-end Inv-loop μ-loop
-part-next-part-end c =
-    let l = c .before .before .before .before .before .before .loop in
-    let a = c .before .before .before .before .before .before .before .before .before .before .before .before .before .before .before .before .before .before .before .before .before .args in
-    let test = both-left (l .k) (a .template .count) (l .from) (length (a .word .now)) (c .before .before .before .before .before .loop-test .taken) in
-    omega (arith, c .least2 .ensures)
-
-next-part-requires : tie.Need-next-part-requires Inv-loop μ-loop
-next-part-requires c κs =
-    let l = c .before .before .before .before .before .before .before .before .before .loop in
-    let a = c .before .before .before .before .before .before .before .before .before .before .before .before .before .before .before .before .before .before .before .before .before .before .before .before .args in
-    let test = both-left (l .k) (a .template .count) (l .from) (length (a .word .now)) (c .before .before .before .before .before .before .before .before .loop-test .taken) in
-    let here = l .inv .3 (l .k) (test .0) in
-    ((search needs, search needs), (l .inv .5, here .ordered, here .near))
-
-add-k : tie.Need-add-k Inv-loop μ-loop
-add-k c =
-    let l = c .before .before .before .before .before .before .before .before .before .before .before .before .before .before .loop in
-    let a = c .before .before .before .before .before .before .before .before .before .before .before .before .before .before .before .before .before .before .before .before .before .before .before .before .before .before .before .before .before .args in
-    let test = both-left (l .k) (a .template .count) (l .from) (length (a .word .now)) (c .before .before .before .before .before .before .before .before .before .before .before .before .before .loop-test .taken) in
-    omega (arith, l .inv)
-
-loop-less : tie.Need-loop-less Inv-loop μ-loop
-loop-less c =
-    let l = c .before .before .before .before .before .before .before .before .before .before .before .before .before .before .loop in
-    let a = c .before .before .before .before .before .before .before .before .before .before .before .before .before .before .before .before .before .before .before .before .before .before .before .before .before .before .before .before .before .args in
-    let test = both-left (l .k) (a .template .count) (l .from) (length (a .word .now)) (c .before .before .before .before .before .before .before .before .before .before .before .before .before .loop-test .taken) in
-    omega arith
-
-loop-again : tie.Need-loop-again Inv-loop μ-loop
-loop-again c =
-    let l = c .before .before .before .before .before .before .before .before .before .before .before .before .before .before .loop in
-    let a = c .before .before .before .before .before .before .before .before .before .before .before .before .before .before .before .before .before .before .before .before .before .before .before .before .before .before .before .before .before .args in
-    let test = both-left (l .k) (a .template .count) (l .from) (length (a .word .now)) (c .before .before .before .before .before .before .before .before .before .before .before .before .before .loop-test .taken) in
-    let i = l .inv in
-    let n = c .before .before .before .before .before .before .before .before .least2 .ensures in (
-      search needs,
-      search needs,
-      i .2,
-      i .3,
-      omega (arith, test .1, n),
-      omega (arith, n, i .3 (l .k) (test .0) .short),
-      i .6,
-      next-step _ _ (i .2) _ _ _ _ _ _ _ (test .0) (test .1) n (c .before .before .before .before .next-part .ensures) ∙ i .7,
+      first-step _ _ (omega (arith, sound .few)) _ _ _ (sound .some) (c .before .before .before .before .before .before .before .before .before .before .before .pre .1 .0) n (c .before .before .first-part .ensures .1),
     )
 
 same-length : tie.Need-same-length Inv-loop μ-loop
@@ -166,10 +65,63 @@ same-length-2 c = search needs
 returns : tie.Need-returns Inv-loop μ-loop
 unfolding components
 returns c =
+    let l = c .before .before .loop in
+    let a = c .before .before .before .before .before .before .before .before .before .before .before .before .before .before .args in
+    let s = c .before .before .before .before .before .before .before .before .components in
+    sym (letters-end (s .result) (a .template .count) (l .inv .2) (a .word .now) (a .sequence .now) (l .k) (l .from) (l .behind) (l .flags) (omega (arith, c .if1 .taken)))
+    ∙ l .inv .7
+    ∙ rw (s .ensures)
+
+mul-c : tie.Need-mul-c Inv-loop μ-loop
+mul-c c = search needs
+
+array-copy-out-c : tie.Need-array-copy-out-c Inv-loop μ-loop
+array-copy-out-c c = search needs
+
+next-part-requires : tie.Need-next-part-requires Inv-loop μ-loop
+next-part-requires c κs =
+    let l = c .before .before .before .before .before .loop in
+    (l .inv .3 (l .k) (c .before .before .before .before .loop-test .taken), ((search needs, l .inv .4), (search needs, search needs)))
+
+add-from : tie.Need-add-from Inv-loop μ-loop
+add-from c = omega (arith, c .before .before .before .before .next-part .ensures .0, c .before .before .before .before .before .before .before .before .before .before .loop .inv .4, c .before .before .before .before .before .before .before .before .before .before .before .before .before .before .before .before .before .before .before .before .before .before .good)
+
+add-k : tie.Need-add-k Inv-loop μ-loop
+add-k c = search needs
+
+loop-less : tie.Need-loop-less Inv-loop μ-loop
+loop-less c = search needs
+
+loop-again : tie.Need-loop-again Inv-loop μ-loop
+loop-again c =
+    let l = c .before .before .before .before .before .before .before .before .before .before .loop in
+    let i = l .inv in
+    let test = c .before .before .before .before .before .before .before .before .before .loop-test .taken in
+    let some = c .before .before .before .before .before .before .before .before .if1 .left in
+    let n = c .before .before .before .before .next-part .ensures .0 in (
+      search needs,
+      search needs,
+      i .2,
+      i .3,
+      omega (arith, n, i .4),
+      omega (arith, n, i .3 (l .k) test .short),
+      i .6,
+      next-step _ _ (i .2) _ _ _ _ _ _ _ test (omega (arith, some, i .4)) n (c .before .before .before .before .next-part .ensures .1) ∙ i .7,
+    )
+
+same-length-3 : tie.Need-same-length-3 Inv-loop μ-loop
+same-length-3 c = search needs
+
+same-length-4 : tie.Need-same-length-4 Inv-loop μ-loop
+same-length-4 c = search needs
+
+returns-2 : tie.Need-returns-2 Inv-loop μ-loop
+unfolding components
+returns-2 c =
     let l = c .before .loop in
-    let a = c .before .before .before .before .before .before .before .before .before .before .before .before .before .before .before .before .args in
-    let s = c .before .before .before .before .before .before .before .before .before .before .components in
-    sym (last-step (s .result) (a .template .count) (l .inv .2) (a .word .now) (a .sequence .now) (l .k) (l .from) (l .behind) (l .flags) (c .loop-test .left))
+    let a = c .before .before .before .before .before .before .before .before .before .before .before .before .before .args in
+    let s = c .before .before .before .before .before .before .before .components in
+    sym (components-end (s .result) (a .template .count) (l .inv .2) (a .word .now) (a .sequence .now) (l .k) (l .from) (l .behind) (l .flags) (c .loop-test .left))
     ∙ l .inv .7
     ∙ rw (s .ensures)
 
@@ -182,26 +134,18 @@ last-part-spec =
     cast-count
     components-requires
     array-copy-out-first
-    cast-room
-    least-requires
-    slice-aggregate-first-part
     first-part-requires
     loop-holds
+    same-length
+    same-length-2
+    returns
     mul-c
     array-copy-out-c
-    cast-room-2
-    cast-low
-    cast-high
-    sub-least
-    least-requires-2
-    add-to
-    sub-next-part
-    part-next-part-start
-    part-next-part-end
     next-part-requires
+    add-from
     add-k
     loop-less
     loop-again
-    same-length
-    same-length-2
-    returns)
+    same-length-3
+    same-length-4
+    returns-2)

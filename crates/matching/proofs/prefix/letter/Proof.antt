@@ -1,3 +1,4 @@
+-- Each answer is that of the definition at the value tested.
 use borrow.Author.Tests.{eq-eqb, ne-eqb}
 use Rattle.rules.specs.Letters.{letter}
 use Rattle.matching.proofs.prefix.letter.Statement.{statement}

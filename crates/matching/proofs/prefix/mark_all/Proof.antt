@@ -1,3 +1,5 @@
+-- The sequences to come are what the lengths to come split off the letters from the offset on. Those passed have their marks, and
+-- the others none.
 use mathlib.Core.Path.{_≡_, refl, ap, _∙_}
 use Prim.Native.Nat.{_+_, _-_, _≤_}
 use native.Mathlib.Omega.{arith}

@@ -1,3 +1,4 @@
+-- The letters that the loop has passed are written, and the rest of the table is as it was.
 use mathlib.Core.Path.{_≡_}
 use Prim.Native.Nat.{_-_, _≤_}
 use lib.ListN.{length}
