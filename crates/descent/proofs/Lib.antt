@@ -1,0 +1,5 @@
+pub mod Parts
+pub mod Buffer
+pub mod Paths
+pub mod Descent
+pub mod Flags

@@ -1,0 +1,42 @@
+-- The occurrences as they are read off flags: a flag for each component and position says whether an occurrence of the
+-- components from that one on starts there.
+use mathlib.Core.Bool.{Bool, _&&_}
+use mathlib.Core.List.{List, [], _∷_, map}
+use mathlib.Core.Path.{_≡_}
+use Prim.Native.Nat.{ℕ, suc, _+_, _-_, _*_, _≤_, _<_}
+use lib.Dec.{leb, eqb}
+use lib.ListN.{length, take, drop, getD}
+use Rattle.descent.specs.Buffer.{Buffer, emits, after}
+use Rattle.rules.specs.Limits.{SequenceSet-LETTERS}
+use Rattle.rules.specs.Lists.{run, if, each, some?}
+use Rattle.rules.specs.Occurrence.{reach, starts}
+use Rattle.rules.specs.Template.{Part, components}
+use Rattle.rules.specs.declared.Component.{Component}
+use Rattle.rules.specs.declared.Template.{Template}
+
+-- the flag of component c, from 0, at position p of a sequence of n letters. Each component has room for the longest sequence
+unfoldable pub flag : ℕ → List ℕ → ℕ → ℕ → Bool
+flag n flags c p = leb 1 p && leb p n && eqb (getD flags (c * SequenceSet-LETTERS + (p - 1)) 0) 1
+
+-- the starts of some components, the first of them number c, whose first start is p: those with a flag
+unfoldable pub paths : ℕ → List ℕ → List Component → ℕ → ℕ → List (List ℕ)
+paths n flags [] c p = []
+paths n flags (x ∷ []) c p = if (flag n flags c p) ((p ∷ []) ∷ []) []
+paths n flags (x ∷ y ∷ ys) c p =
+    if (flag n flags c p) (map (λ t. p ∷ t) (each (paths n flags (y ∷ ys) (suc c)) (reach (x .length) (y .low) (y .high) p))) []
+
+-- a buffer after the rows whose numbers up to component c stand in `row` and whose start of c is p
+abbrev pub handed : Template → ℕ → List ℕ → List ℕ → ℕ → ℕ → Buffer → Buffer
+handed t n flags row c p s = emits (suc (t .count)) (after (take (suc c) row) (paths n flags (drop c (components t)) c p)) s
+
+-- a buffer after all rows of the sequence with number i
+abbrev pub listed : Template → ℕ → List ℕ → ℕ → Buffer → Buffer
+listed t n flags i s = emits (suc (t .count)) (after (i ∷ []) (each (paths n flags (components t) 0) (run 1 n))) s
+
+-- the flags of the parts from number c on are set where an occurrence of them and those after them starts
+abbrev pub Flagged : List Part → List ℕ → List ℕ → ℕ → Type 0
+Flagged cs s flags c = (i : ℕ) → c ≤ i → i < length cs → (p : ℕ) → 1 ≤ p → p ≤ length s → flag (length s) flags i p ≡ some? (starts (drop i cs) s p)
+
+-- the ways have, for each position of a sequence of n letters, how many rows are read off under it
+abbrev pub Counted : ℕ → List ℕ → List Component → List ℕ → Type 0
+Counted n flags xs ways = (p : ℕ) → 1 ≤ p → p ≤ n → getD ways (p - 1) 0 ≡ length (paths n flags xs 0 p)

@@ -1,0 +1,242 @@
+// The descent of a recovery: from flags that say where a component can start with the rest after it, every occurrence in a
+// sequence, as rows in a lent buffer. An inner crate: its functions require what the checks and the flags' maker show.
+use rules::Position;
+use rules::SequenceNumber;
+use rules::SequenceSet;
+use rules::Template;
+ghost use mathlib.Core.Bool.{_&&_};
+ghost use mathlib.Core.List.{_++_};
+ghost use mathlib.Core.Path.{_≡_};
+ghost use Prim.Native.Nat.{min, _+_, _-_, _*_, _^_, _≤_, _<_};
+ghost use lib.Dec.{leb, ltb};
+ghost use lib.ListN.{length, take, drop, getD};
+ghost use Rattle.descent.specs.Buffer.{buffer, Inside, emit};
+ghost use Rattle.descent.specs.Paths.{flag, paths, handed, listed, Counted};
+ghost use Rattle.rules.specs.Limits.{SequenceSet-LETTERS, SequenceSet-SEQUENCES, Template-COMPONENTS};
+ghost use Rattle.rules.specs.Sound.{SoundTemplate};
+ghost use Rattle.rules.specs.Template.{components, slots, none};
+
+// The most numbers of a row: the sequence's, and a start for each component.
+const ROW: usize = Template::COMPONENTS as usize + 1;
+
+// How far the rows have come: those still to pass over, those written, and the numbers written.
+pub struct Progress {
+    pub skip: u64,
+    pub rows: usize,
+    pub at: usize,
+}
+
+// Copies a row.
+fn copy(from: &[u32], to: &mut [u32])
+    requires { ⌜ length (now to) ≡ length (now from) ⌝ }
+    ensures { λ _. ⌜ now (to .exit) ≡ now (from .entry) ⌝ }
+{
+    let mut i = 0;
+    while i < from.len() {
+        to[i] = from[i];
+        i += 1;
+    }
+}
+
+// Writes a row behind the last one.
+fn write(row: &[u32], at: usize, out: &mut [u32])
+    requires { ⌜ at + length (now row) ≤ length (now out) ⌝ }
+    ensures { λ _. ⌜ now (out .exit) ≡ take at (now (out .entry)) ++ (now (row .entry) ++ drop (at + length (now (row .entry))) (now (out .entry))) ⌝ }
+{
+    let end = at + row.len();
+    copy(row, &mut out[at..end]);
+}
+
+// A row more: it is passed over, written, or left out for want of room.
+fn emit(row: &[u32], done: Progress, out: &mut [u32]) -> Progress
+    requires { ⌜ (0 < length (now row)) × Inside done (length (now out)) ⌝ }
+    ensures { λ r. ⌜ Inside r (length (now (out .exit))) ⌝ }
+    ensures { λ r. ⌜ buffer r (now (out .exit)) ≡ emit (length (now (row .entry))) (now (row .entry)) (buffer done (now (out .entry))) ⌝ }
+{
+    let skip = done.skip;
+    let rows = done.rows;
+    let at = done.at;
+    if 0 < skip {
+        return Progress {
+            skip: skip - 1,
+            rows,
+            at,
+        };
+    }
+    if out.len() - at < row.len() {
+        return done;
+    }
+    write(row, at, out);
+    Progress {
+        skip,
+        rows: rows + 1,
+        at: at + row.len(),
+    }
+}
+
+// Whether no row of `width` numbers can go out any more.
+fn full(done: Progress, width: usize, room: usize) -> bool
+    requires { ⌜ done .at ≤ room ⌝ }
+    ensures { λ r. ⌜ r ≡ leb (done .skip) 0 && ltb (room - done .at) width ⌝ }
+{
+    let skip = done.skip;
+    let at = done.at;
+    (skip <= 0) & (room - at < width)
+}
+
+// Whether a component can start at a position, with the rest after it.
+fn can_start(flags: &[u8], component: usize, at: Position, letters: usize) -> bool
+    requires { ⌜ (component < Template-COMPONENTS) × (1 ≤ at .0) × (at .0 ≤ letters) × (letters ≤ SequenceSet-LETTERS) ⌝ }
+    requires { ⌜ length (now flags) ≡ Template-COMPONENTS * SequenceSet-LETTERS ⌝ }
+    ensures { λ r. ⌜ r ≡ flag letters (now (flags .entry)) component (at .0) ⌝ }
+{
+    let i = component * SequenceSet::LETTERS + (at.0 - 1);
+    flags[i] == 1
+}
+
+// A number of a component, for sums.
+fn wide(x: u16) -> usize
+    ensures { λ r. ⌜ (r ≡ x) × (r < 2 ^ 16) ⌝ }
+{
+    x as usize
+}
+
+// The lower of two.
+fn least(a: usize, b: usize) -> usize
+    ensures { λ r. ⌜ r ≡ min a b ⌝ }
+{
+    if a <= b { a } else { b }
+}
+
+// Positions from one up to another, which is not one of them.
+struct Span {
+    from: usize,
+    end: usize,
+}
+
+// Where the component after one may start if that starts at a position of a sequence of so many letters.
+fn next_starts(template: Template, component: usize, at: Position, letters: usize) -> Span
+    requires { ⌜ (component + 1 < Template-COMPONENTS) × (at .0 ≤ SequenceSet-LETTERS) × (letters ≤ SequenceSet-LETTERS) ⌝ }
+    ensures { λ r. ⌜ r .from ≡ at .0 + getD (slots template) component none .length + getD (slots template) (component + 1) none .low ⌝ }
+    ensures { λ r. ⌜ r .end ≡ min letters (at .0 + getD (slots template) component none .length + getD (slots template) (component + 1) none .high) + 1 ⌝ }
+{
+    let cs = template.components();
+    let next = component + 1;
+    let here = cs[component];
+    let there = cs[next];
+    let length = wide(here.length);
+    let low = wide(there.low);
+    let high = wide(there.high);
+    let after = at.0 + length;
+    Span {
+        from: after + low,
+        end: least(letters, after + high) + 1,
+    }
+}
+
+// Hands out, one by one, the occurrences whose starts before `component` stand in `row` and whose start of it is `at`: all
+// later starts under it, component by component, before the next. A start without a flag has none, and once the buffer is full
+// no more are made.
+fn descend(
+    template: Template,
+    component: usize,
+    at: Position,
+    letters: usize,
+    flags: &[u8],
+    row: [u32; ROW],
+    done: Progress,
+    out: &mut [u32],
+) -> Progress
+    requires { ⌜ SoundTemplate template ⌝ }
+    requires { ⌜ (component < template .count) × (1 ≤ at .0) × (at .0 ≤ letters) × (letters ≤ SequenceSet-LETTERS) ⌝ }
+    requires { ⌜ (length row ≡ Template-COMPONENTS + 1) × (length (now flags) ≡ Template-COMPONENTS * SequenceSet-LETTERS) ⌝ }
+    requires { ⌜ Inside done (length (now out)) ⌝ }
+    ensures { λ r. ⌜ Inside r (length (now (out .exit))) ⌝ }
+    ensures { λ r. ⌜ buffer r (now (out .exit)) ≡ handed template letters (now (flags .entry)) row component (at .0) (buffer done (now (out .entry))) ⌝ }
+{
+    let width = template.count as usize + 1;
+    if !can_start(flags, component, at, letters) {
+        return done;
+    }
+    if full(done, width, out.len()) {
+        return done;
+    }
+    let next = component + 1;
+    let start = at.0 as u32;
+    let mut longer = row;
+    longer[next] = start;
+    if next + 1 == width {
+        return emit(&longer[..width], done, out);
+    }
+    let starts = next_starts(template, component, at, letters);
+    let end = starts.end;
+    let mut p = done;
+    let mut q = starts.from;
+    while q < end {
+        p = descend(template, next, Position(q), letters, flags, longer, p, out);
+        q += 1;
+    }
+    p
+}
+
+// The same of all occurrences whose first start is `at`. Where no row of theirs is asked for, they are passed over at once:
+// `ways` has how many there are from each position.
+fn list_start(
+    template: Template,
+    at: Position,
+    letters: usize,
+    flags: &[u8],
+    ways: &[u64],
+    row: [u32; ROW],
+    done: Progress,
+    out: &mut [u32],
+) -> Progress
+    requires { ⌜ SoundTemplate template ⌝ }
+    requires { ⌜ (1 ≤ at .0) × (at .0 ≤ letters) × (letters ≤ SequenceSet-LETTERS) × (letters ≤ length (now ways)) ⌝ }
+    requires { ⌜ (length row ≡ Template-COMPONENTS + 1) × (length (now flags) ≡ Template-COMPONENTS * SequenceSet-LETTERS) ⌝ }
+    requires { ⌜ Inside done (length (now out)) ⌝ }
+    requires { ⌜ getD (now ways) (at .0 - 1) 0 ≡ length (paths letters (now flags) (components template) 0 (at .0)) ⌝ }
+    ensures { λ r. ⌜ Inside r (length (now (out .exit))) ⌝ }
+    ensures { λ r. ⌜ buffer r (now (out .exit)) ≡ handed template letters (now (flags .entry)) row 0 (at .0) (buffer done (now (out .entry))) ⌝ }
+{
+    let i = at.0 - 1;
+    let under = ways[i];
+    let skip = done.skip;
+    if under <= skip {
+        return Progress {
+            skip: skip - under,
+            rows: done.rows,
+            at: done.at,
+        };
+    }
+    descend(template, 0, at, letters, flags, row, done, out)
+}
+
+// Hands out all occurrences in a sequence of so many letters, each with the sequence's number in front.
+pub fn list_starts(
+    template: Template,
+    number: SequenceNumber,
+    letters: usize,
+    flags: &[u8],
+    ways: &[u64],
+    done: Progress,
+    out: &mut [u32],
+) -> Progress
+    requires { ⌜ SoundTemplate template ⌝ }
+    requires { ⌜ (number .0 ≤ SequenceSet-SEQUENCES) × (letters ≤ SequenceSet-LETTERS) × (letters ≤ length (now ways)) ⌝ }
+    requires { ⌜ length (now flags) ≡ Template-COMPONENTS * SequenceSet-LETTERS ⌝ }
+    requires { ⌜ Inside done (length (now out)) ⌝ }
+    requires { ⌜ Counted letters (now flags) (components template) (now ways) ⌝ }
+    ensures { λ r. ⌜ Inside r (length (now (out .exit))) ⌝ }
+    ensures { λ r. ⌜ buffer r (now (out .exit)) ≡ listed template letters (now (flags .entry)) (number .0) (buffer done (now (out .entry))) ⌝ }
+{
+    let mut row = [0u32; ROW];
+    row[0] = number.0 as u32;
+    let mut p = done;
+    let mut at = 1;
+    while at <= letters {
+        p = list_start(template, Position(at), letters, flags, ways, row, p, out);
+        at += 1;
+    }
+    p
+}

@@ -1,0 +1,4 @@
+pub mod Page
+pub mod Marks
+pub mod Rows
+pub mod Rule

@@ -1,0 +1,51 @@
+-- One sequence after the other: the whole list is the rows of the first sequence, with its number in front, and then those of
+-- the later ones.
+use mathlib.Core.Path.{_≡_, refl, sym, ap, _∙_}
+use mathlib.Core.List.{List, [], _∷_, map}
+use Prim.Native.Nat.{ℕ, zero, suc, _+_, _-_, _≤_, _<_}
+use native.Mathlib.Numerals.{add-one}
+use native.Mathlib.Omega.{arith}
+use lib.ListN.{length, take, drop, getD, drop-of-length-le}
+use lib.Seq.{drop-cons, drop-drop}
+use Rattle.descent.specs.Buffer.{Buffer, emits, after}
+use Rattle.descent.proofs.Buffer.{emits-append}
+use Rattle.rules.specs.Letters.{value}
+use Rattle.rules.specs.Occurrence.{occurrences}
+use Rattle.rules.specs.Sequences.{split, sequences}
+use Rattle.rules.specs.Support.{rows-from, occurrence-rows}
+use Rattle.rules.specs.Template.{Part}
+use Rattle.ways.proofs.Bytes.{map-drop}
+
+-- the first of a list, each turned by f
+map-take : {A B : Type 0} (f : A → B) (n : ℕ) (l : List A) → take n (map f l) ≡ map f (take n l)
+map-take f zero l = refl
+map-take f (suc n) [] = refl
+map-take f (suc n) (x ∷ l) = ap (λ r. f x ∷ r) (map-take f n l)
+
+module _ (w : ℕ) (cs : List Part) (ns l : List ℕ) where
+  -- a buffer after the rows of the sequences from i on, whose letters begin at b
+  unfoldable pub going-through : ℕ → ℕ → Buffer → Buffer
+  going-through i b s = emits w (rows-from (i + 1) cs (split (drop i ns) (drop b (map value l)))) s
+
+  -- from the first on they are the whole list
+  pub through-all : (s : Buffer) → going-through 0 0 s ≡ emits w (occurrence-rows cs (sequences l ns)) s
+  unfolding going-through occurrence-rows sequences
+  through-all s = refl
+
+  -- past the last there are none
+  pub through-none : (i b : ℕ) (s : Buffer) → length ns ≤ i → going-through i b s ≡ s
+  unfolding going-through split rows-from emits
+  through-none i b s h = rw (drop-of-length-le ns {i = i} h)
+
+  -- first those of sequence i
+  through-on : (i b : ℕ) (s : Buffer) → i < length ns
+      → going-through i b s ≡ going-through (i + 1) (b + getD ns i 0) (emits w (after ((i + 1) ∷ []) (occurrences cs (map value (take (getD ns i 0) (drop b l))))) s)
+  unfolding going-through split rows-from after
+  through-on i b s h =
+      rw (add-one i, drop-cons ns i 0 h, drop-drop (getD ns i 0) b (map value l), add-one (suc i), map-drop value b l, map-take value (getD ns i 0) (drop b l))
+      (emits-append w _ _ s)
+
+  -- so after the turn of sequence i there is as much left to do
+  pub through-again : (i b e : ℕ) (s : Buffer) {s′ x : Buffer} → i < length ns → e ≡ b + getD ns i 0
+      → s′ ≡ emits w (after ((i + 1) ∷ []) (occurrences cs (map value (take (e - b) (drop b l))))) s → going-through i b s ≡ x → going-through (i + 1) e s′ ≡ x
+  through-again i b e s h q k r = let d : e - b ≡ getD ns i 0 = omega arith in rw (k, d, q) (sym (through-on i b s h) ∙ r)

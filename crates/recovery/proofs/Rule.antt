@@ -1,0 +1,116 @@
+-- The rule of a recovery, part by part: what 1 to 8 and 14 refuse is refused; else 15 is refused if the first row lies past the
+-- list, and else the rows that went out are a page of it, since each has a number for the sequence and one for each component.
+use mathlib.Core.Path.{_≡_, refl, sym, ap, _∙_}
+use mathlib.Core.Bool.{Bool, true, false}
+use mathlib.Core.List.{List, [], _∷_, _++_, List·Memᴰ}
+use Prim.Native.Nat.{ℕ, suc, _+_, _^_, _/_, _≤_, _<_}
+use native.Mathlib.Omega.{arith}
+use lib.Dec.{ltb}
+use lib.ListN.{length, take, drop, drop-of-length-le}
+use lib.Seq.{take-nil}
+use borrow.Author.Tests.{lt-ltb, le-ltb, le-leb, lt-leb, ltb-true, ltb-false}
+use Rattle.descent.specs.Buffer.{buffer, progress, emits}
+use Rattle.descent.specs.declared.Progress.{Progress}
+use Rattle.descent.proofs.Flags.{parts-count}
+use Rattle.recovery.specs.Rule.{first-checks, rows-rule}
+use Rattle.recovery.proofs.Page.{emits-page}
+use Rattle.rules.specs.Calls.{recover-rule}
+use Rattle.rules.specs.Limits.{Letter-BASES}
+use Rattle.rules.specs.Lists.{joined, put}
+use Rattle.rules.specs.Recovery.{whole-list}
+use Rattle.rules.specs.Recovery as list
+use Rattle.rules.specs.Refusals.{_else_, first, check14, check15, set-checks, recover-checks}
+use Rattle.rules.specs.Sequences.{sequences}
+use Rattle.rules.specs.Sound.{SoundSet, SoundTemplate}
+use Rattle.rules.specs.Support.{occurrence-rows, parts}
+use Rattle.rules.specs.Template.{size}
+use Rattle.rules.specs.Told.{Verdict, Told, fine, refused, gives, refuses, Counts}
+use Rattle.rules.specs.declared.Template.{Template}
+use Rattle.rules.proofs.Occurs.{parts-worded, rows-are}
+use Rattle.rules.proofs.Sound.{set-sound, template-sound}
+use Rattle.rules.proofs.Verdicts.{first-append, first-both, else-fine}
+use Rattle.checks.specs.Orders.{template-checks}
+
+-- ---- 14
+
+-- a number is a motif's exactly if the letters of one can spell it
+module _ (t : Template) (m : ℕ) {k : ℕ} {spelled : Bool} (letters : k ≡ size t) (test : spelled ≡ ltb m (Letter-BASES ^ k)) where
+  -- if they can, 14 passes
+  pub motif-passes : spelled ≡ true → fine ≡ check14 t m
+  unfolding check14
+  motif-passes e = rw (← letters, lt-leb (Letter-BASES ^ k) m (ltb-true m (Letter-BASES ^ k) (sym test ∙ e)))
+
+  -- and else it is refused
+  pub motif-refused : spelled ≡ false → refused 14 0 ≡ check14 t m
+  unfolding check14
+  motif-refused e = rw (← letters, le-leb (Letter-BASES ^ k) m (ltb-false m (Letter-BASES ^ k) (sym test ∙ e)))
+
+-- ---- 1 to 8 and 14
+
+-- what they pass is sound
+pub first-sound : (letters lengths : List ℕ) (t : Template) (m : ℕ) {v : Verdict} → v ≡ first (first-checks letters lengths t m) → v ≡ fine → SoundSet letters lengths × SoundTemplate t
+first-sound letters lengths t m found e =
+    let h = first-both (set-checks letters lengths) (template-checks t ++ (check14 t m ∷ [])) .0 (sym found ∙ e) in
+    let k = first-both (template-checks t) (check14 t m ∷ []) .0 (h .1) in
+    (set-sound letters lengths (h .0), template-sound t (k .0))
+
+module _ (letters lengths : List ℕ) (t : Template) (m f : ℕ) (out : List ℕ) where
+  -- the whole list, and the rows of it that are asked for and fit
+  abbrev whole : List (List ℕ)
+  whole = occurrence-rows (parts t (size t) m) (sequences letters lengths)
+
+  rows : List (List ℕ)
+  rows = take (length out / suc (t .count)) (drop f whole)
+
+  -- each row has a number for the sequence and one for each component
+  row-width : SoundTemplate t → (row : List ℕ) → List·Memᴰ row whole → length row ≡ suc (t .count)
+  row-width sound row h =
+      let k = parts-count sound m in
+      let r = rows-are (parts t (size t) m) (sequences letters lengths) (parts-worded t sound (size t) m) (rw k (sound .some)) row .0 h in
+      ap length (r .3) ∙ ap suc (r .4 .one-each ∙ k)
+
+  -- 15 comes last
+  then-15 : first (recover-checks letters lengths t m f) ≡ first (first-checks letters lengths t m) else check15 letters lengths t m f
+  unfolding recover-checks first
+  then-15 = first-append (first-checks letters lengths t m) (check15 letters lengths t m f ∷ []) ∙ ap (λ v. first (first-checks letters lengths t m) else v) (else-fine (check15 letters lengths t m f))
+
+  -- what 1 to 8 and 14 refuse is told, and the buffer stays
+  pub rule-refused : {v : Verdict} {n p : ℕ} → v ≡ first (first-checks letters lengths t m) → v ≡ refused n p
+      → (refuses n p ≡ recover-rule letters lengths t m f out .told) × (out ≡ recover-rule letters lengths t m f out .out)
+  unfolding recover-rule _else_
+  rule-refused found e = rw (then-15, ← found, e) (refl, refl)
+
+  -- what they pass is told by the rest of the rule
+  pub rule-fine : {v : Verdict} → v ≡ first (first-checks letters lengths t m) → v ≡ fine → {told : Told Counts} {out′ : List ℕ}
+      → told ≡ rows-rule letters lengths t m f out .told → out′ ≡ rows-rule letters lengths t m f out .out
+      → (told ≡ recover-rule letters lengths t m f out .told) × (out′ ≡ recover-rule letters lengths t m f out .out)
+  unfolding recover-rule rows-rule _else_
+  rule-fine found e k q = rw (then-15, ← found, e) (k, q)
+
+  -- ---- the rest: n is the length of the whole list
+  module _ {n : ℕ} (all : n ≡ length whole) where
+    -- a first row above it is refused
+    pub past-the-end : n < f → (refuses 15 0 ≡ rows-rule letters lengths t m f out .told) × (out ≡ rows-rule letters lengths t m f out .out)
+    unfolding rows-rule check15 whole-list
+    past-the-end h = rw (← all, lt-ltb n f h) (refl, refl)
+
+    -- a page, told by its rows and written to the front of the buffer
+    paged : f ≤ n → {k : ℕ} {out′ : List ℕ} → k ≡ length rows → out′ ≡ put (joined rows) out
+        → (gives (record { rows = k; length = n }) ≡ rows-rule letters lengths t m f out .told) × (out′ ≡ rows-rule letters lengths t m f out .out)
+    unfolding rows-rule check15 whole-list list.page rows
+    paged h e q = let l : f ≤ length whole = rw all at h in rw (e, q, all, le-ltb (length whole) f l) (refl, refl)
+
+    -- one equal to it gives no rows
+    pub at-the-end : f ≡ n → (gives (record { rows = 0; length = n }) ≡ rows-rule letters lengths t m f out .told) × (out ≡ rows-rule letters lengths t m f out .out)
+    unfolding rows put joined
+    at-the-end h =
+        let e : rows ≡ [] = rw (drop-of-length-le whole {i = f} (omega arith)) (take-nil {A = List ℕ} (length out / suc (t .count))) in
+        paged (omega arith) (rw e) (rw e)
+
+    -- and else what went out is the page
+    pub listed : f ≤ n → SoundTemplate t → {g : Progress} {out′ : List ℕ} → buffer g out′ ≡ emits (suc (t .count)) whole (buffer (progress f 0 0) out)
+        → (gives (record { rows = g .rows; length = n }) ≡ rows-rule letters lengths t m f out .told) × (out′ ≡ rows-rule letters lengths t m f out .out)
+    unfolding rows
+    listed h sound e =
+        let r = emits-page (suc (t .count)) whole (row-width sound) (omega arith) f out (rw all at h) e in
+        paged h (r .0) (r .1)

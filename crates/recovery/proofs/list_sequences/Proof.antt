@@ -1,0 +1,135 @@
+-- `list_sequences` meets its contract: at each turn the rows of the sequences that are left make of the buffer so far what all
+-- rows make of the buffer at the start.
+use borrow.Author.Needs.{needs}
+use mathlib.Core.Path.{_≡_, refl, sym, _∙_}
+use Prim.Native.Nat.{suc, _+_, _-_, _*_, _≤_, _<_}
+use native.Mathlib.Omega.{arith}
+use lib.ListN.{length, drop, length-take, length-drop}
+use Rattle.descent.specs.Buffer.{buffer, progress, Inside}
+use Rattle.recovery.proofs.Rows.{going-through, through-all, through-none, through-again}
+use Rattle.rules.specs.Limits.{SequenceSet-LETTERS, Template-COMPONENTS}
+use Rattle.rules.specs.Lists.{sum}
+use Rattle.rules.specs.Support.{parts}
+use Rattle.rules.specs.Template.{size}
+use Rattle.ways.proofs.Totals.{sum-step}
+use Rattle.recovery.proofs.list_sequences.Statement.{statement}
+use Rattle.recovery.proofs.list_sequences.Tie as tie
+
+abbrev Inv-loop : tie.InvT-loop
+Inv-loop letters lengths template motif first ways₀ flags₀ out₀ p₀ begin₀ i₀ ways flags out p begin i =
+    let through = going-through (suc (template .count)) (parts template (size template) motif) lengths letters in
+    (i ≤ length lengths)
+    × (length ways ≡ SequenceSet-LETTERS)
+    × (length flags ≡ Template-COMPONENTS * SequenceSet-LETTERS)
+    × (length out ≡ length out₀)
+    × Inside p (length out)
+    × (begin + sum (drop i lengths) ≡ length letters)
+    × (through i begin (buffer p out) ≡ through 0 0 (buffer p₀ out₀))
+
+abbrev μ-loop : tie.MeasureT-loop
+μ-loop letters lengths template motif first ways₀ flags₀ out₀ p₀ begin₀ i₀ ways flags out p begin i = length lengths - i
+
+loop-holds : tie.Need-loop-holds Inv-loop μ-loop
+loop-holds c = (omega arith, omega arith, omega arith, refl, record { ends = omega arith; some = omega arith }, omega arith, refl)
+
+mul-n : tie.Need-mul-n Inv-loop μ-loop
+mul-n c = search needs
+
+shared-slice-read-n : tie.Need-shared-slice-read-n Inv-loop μ-loop
+shared-slice-read-n c = search needs
+
+cast-n : tie.Need-cast-n Inv-loop μ-loop
+cast-n c = omega (arith, c .shared-slice-known3 .given (c .before .before .loop .i))
+
+add-end : tie.Need-add-end Inv-loop μ-loop
+add-end c =
+    let a = c .before .before .before .before .before .before .before .before .args in
+    let l = c .before .before .loop in
+    let h : l .i < length (a .lengths .now) = omega arith in
+    omega (arith, sum-step (a .lengths .now) (l .i) h)
+
+add-list-sequence : tie.Need-add-list-sequence Inv-loop μ-loop
+add-list-sequence c = search needs
+
+sub-list-sequence : tie.Need-sub-list-sequence Inv-loop μ-loop
+sub-list-sequence c = search needs
+
+part-list-sequence-start : tie.Need-part-list-sequence-start Inv-loop μ-loop
+part-list-sequence-start c = search needs
+
+part-list-sequence-end : tie.Need-part-list-sequence-end Inv-loop μ-loop
+part-list-sequence-end c =
+    let a = c .before .before .before .before .before .before .before .before .args in
+    let l = c .before .before .loop in
+    let h : l .i < length (a .lengths .now) = omega arith in
+    omega (arith, sum-step (a .lengths .now) (l .i) h)
+
+list-sequence-requires : tie.Need-list-sequence-requires Inv-loop μ-loop
+list-sequence-requires c κs =
+    let b = c .before .before .before .before .before .before .before .before .before .before .before .before in
+    let l = c .before .before .before .before .before .before .loop in
+    let short = b .pre .0 .short in
+    (b .pre .1 .0, ((omega (arith, b .pre .0 .few), simp (length-take, length-drop) (omega arith), search needs, search needs), l .inv .4))
+
+add-i : tie.Need-add-i Inv-loop μ-loop
+add-i c = search needs
+
+loop-less : tie.Need-loop-less Inv-loop μ-loop
+loop-less c = search needs
+
+loop-again : tie.Need-loop-again Inv-loop μ-loop
+loop-again c =
+    let a = c .before .before .before .before .before .before .before .before .before .before .before .before .before .before .before .before .before .before .before .args in
+    let l = c .before .before .before .before .before .before .before .before .before .before .before .before .before .loop in
+    let r = c .before .before .before .before .before .before .list-sequence .ensures in
+    let h : l .i < length (a .lengths .now) = c .before .before .before .before .before .before .before .before .before .before .before .before .loop-test .taken in
+    let cs = parts (a .template) (size (a .template)) (a .motif) in (
+      omega arith,
+      search needs,
+      search needs,
+      search needs,
+      r .0,
+      omega (arith, sum-step (a .lengths .now) (l .i) h),
+      through-again (suc (a .template .count)) cs (a .lengths .now) (a .letters .now) (l .i) (l .begin) _ (buffer (l .p) (l .out)) h refl (r .1) (l .inv .6),
+    )
+
+same-length : tie.Need-same-length Inv-loop μ-loop
+same-length c = omega arith
+
+same-length-2 : tie.Need-same-length-2 Inv-loop μ-loop
+same-length-2 c = omega arith
+
+same-length-3 : tie.Need-same-length-3 Inv-loop μ-loop
+same-length-3 c = search needs
+
+returns : tie.Need-returns Inv-loop μ-loop
+returns c =
+    let a = c .before .before .before .before .before .before .before .args in
+    let l = c .before .loop in
+    let cs = parts (a .template) (size (a .template)) (a .motif) in
+    sym (through-none (suc (a .template .count)) cs (a .lengths .now) (a .letters .now) (l .i) (l .begin) (buffer (l .p) (l .out)) (c .loop-test .left))
+    ∙ l .inv .6 ∙ through-all (suc (a .template .count)) cs (a .lengths .now) (a .letters .now) (buffer (progress (a .first) 0 0) (a .out .now))
+
+pub list-sequences-spec : {M : Type 1} → statement M
+list-sequences-spec =
+    tie.close
+    (tie.spec
+    Inv-loop
+    μ-loop
+    loop-holds
+    mul-n
+    shared-slice-read-n
+    cast-n
+    add-end
+    add-list-sequence
+    sub-list-sequence
+    part-list-sequence-start
+    part-list-sequence-end
+    list-sequence-requires
+    add-i
+    loop-less
+    loop-again
+    same-length
+    same-length-2
+    same-length-3
+    returns)
