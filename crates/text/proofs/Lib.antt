@@ -1,0 +1,12 @@
+pub mod Printed
+pub mod Decimal
+pub mod Letters
+pub mod Shape
+pub mod Line
+pub mod Bools
+pub mod Scan
+pub mod Numbers
+pub mod Components
+pub mod Slots
+pub mod Lines
+pub mod Sequences
