@@ -1,13 +1,12 @@
 -- When a search passes through a place: with no letter it must have ended there, and with letters the prefix that is one shorter
 -- must be frequent.
-use mathlib.Core.Path.{_≡_, refl, sym, _∙_}
-use mathlib.Core.Bool.{Bool, true, false, _&&_, _||_}
+use mathlib.Core.Path.{_≡_, refl, sym}
+use mathlib.Core.Bool.{Bool, true, false, _||_}
 use mathlib.Core.List.{List}
 use Prim.Native.Nat.{ℕ, zero, suc, _-_, _/_, _≤_}
-use native.Mathlib.Numerals.{sub-one}
 use native.Mathlib.Omega.{arith}
 use lib.Dec.{eqb, leb}
-use borrow.Author.Tests.{eq-eqb, ne-eqb, leb-true}
+use borrow.Author.Tests.{ne-eqb, leb-true}
 use Rattle.rules.specs.Limits.{Letter-BASES}
 use Rattle.rules.specs.Refusals.{passes?}
 use Rattle.rules.specs.Saved.{place-rule?}

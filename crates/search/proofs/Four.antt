@@ -1,12 +1,12 @@
 -- The step over four letters, as the code takes it: by the last digit of the number.
-use mathlib.Core.Path.{_≡_, refl, sym, _∙_}
+use mathlib.Core.Path.{_≡_, refl, sym}
 use mathlib.Core.Bool.{Bool, true, false, _&&_}
 use Prim.Native.Nat.{ℕ, zero, suc, _+_, _-_, _*_, _/_, _%_, _^_, _≤_, _<_}
 use native.Mathlib.Numerals.{add-one}
 use native.Mathlib.Omega.{arith}
 use borrow.Author.Tests.{lt-ltb, le-ltb, ltb-true, eq-eqb, ne-eqb}
 use lib.Dec.{ltb, eqb}
-use native.Mathlib.Nat.{pow-suc, mul-le-mul-right, div-lt-iff-lt-mul, pow-le-pow-right}
+use native.Mathlib.Nat.{pow-suc, pow-le-pow-right}
 use Rattle.rules.specs.Lists.{run, if, keep}
 use Rattle.rules.specs.Walk.{place, up, next, children, choose, motif}
 use Rattle.rules.specs.declared.Place.{Place}

@@ -1,9 +1,9 @@
 -- One round of a leg's loop over a search that the checks accept: what holds before it, and how each way through it goes on.
 use mathlib.Core.Path.{_≡_, refl, sym, ap, _∙_}
-use mathlib.Core.Logic.{_⊎_, inl, inr}
+use mathlib.Core.Logic.{inl, inr}
 use mathlib.Core.Bool.{Bool, true, false, _&&_, false≢true}
 use mathlib.Core.List.{List, map}
-use Prim.Native.Nat.{ℕ, _+_, _^_, _≤_, _<_, min}
+use Prim.Native.Nat.{ℕ, _+_, _^_, _≤_, _<_}
 use native.Mathlib.Omega.{arith}
 use lib.ListN.{length, set, drop, length-append, length-drop, length-map}
 use borrow.Author.Tests.{eqb-true, eqb-false}
@@ -16,7 +16,7 @@ use Rattle.rules.specs.Sequences.{sequences}
 use Rattle.rules.specs.Support.{support, weight, frequent, parts}
 use Rattle.rules.specs.Template.{size}
 use Rattle.rules.specs.Told.{gives, toldAnswer, toldLeg}
-use Rattle.rules.specs.Walk.{Walk, place, exact, next, motif, ended-place}
+use Rattle.rules.specs.Walk.{Walk, place, exact, next, motif}
 use Rattle.rules.specs.declared.Leg.{Leg}
 use Rattle.rules.specs.declared.LegAnswer.{LegAnswer}
 use Rattle.rules.specs.declared.Place.{Place}

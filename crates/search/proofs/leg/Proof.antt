@@ -1,5 +1,5 @@
 -- A leg is refused where its checks refuse, and else runs, as its rule has it.
-use mathlib.Core.Path.{refl, sym, ap, _∙_}
+use mathlib.Core.Path.{sym, ap, _∙_}
 use native.Mathlib.Omega.{arith}
 use Rattle.rules.specs.Told.{toldChecked}
 use Rattle.search.proofs.Ruled.{declined, accepted}

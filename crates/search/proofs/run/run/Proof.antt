@@ -1,6 +1,6 @@
 -- A leg's loop. Whenever its test is reached, what the leg comes to is what has been passed so far and then the leg from where
 -- it stands (`Running`); each turn is one round of that.
-use mathlib.Core.Path.{_≡_, refl, sym, ap, _∙_}
+use mathlib.Core.Path.{_≡_, refl, sym, _∙_}
 use Prim.Native.Nat.{_-_}
 use native.Mathlib.Omega.{arith}
 use lib.ListN.{length}
@@ -16,16 +16,6 @@ use Rattle.search.proofs.Round.{Running, run-start, run-depth, run-belo
 use borrow.Author.Needs.{needs}
 use Rattle.search.proofs.run.run.Statement.{statement}
 use Rattle.search.proofs.run.run.Tie as tie
-use Rattle.search.proofs.run.run.Reads as reads
-use Rattle.search.proofs.run.run.Lts as lts
-use Rattle.matching.proofs.support.Reads as support-reads
-use Rattle.rules.proofs.Template.letters.Reads as letters-reads
-use Rattle.search.proofs.run.least.Reads as least-reads
-use Rattle.search.proofs.run.list.Reads as list-reads
-use Rattle.search.proofs.run.reaches.Reads as reaches-reads
-use Rattle.search.proofs.run.stopped.Reads as stopped-reads
-use Rattle.search.proofs.step.listed.Reads as listed-reads
-use Rattle.search.proofs.step.next_place.Reads as next-place-reads
 
 abbrev Inv-loop : tie.InvT-loop
 Inv-loop letters lengths s budget motifs₀ supports₀ weights₀ flags₀ spare₀ ways₀ template quorum depth room j₀ m₀ steps₀ rows₀ motifs supports weights flags spare ways j m steps rows =

@@ -1,5 +1,5 @@
 -- A row is three stores, of which the last has the weighted support that was tallied.
-use mathlib.Core.Path.{refl, ap}
+use mathlib.Core.Path.{refl}
 use borrow.Author.Needs.{needs}
 use Rattle.search.proofs.run.write.Statement.{statement}
 use Rattle.search.proofs.run.write.Tie as tie

@@ -1,8 +1,6 @@
 use Rattle.search.proofs.Four.{hit-yes, hit-no}
 use Rattle.search.proofs.step.listed.Statement.{statement}
 use Rattle.search.proofs.step.listed.Tie as tie
-use Rattle.search.proofs.step.listed.Reads as reads
-use Rattle.search.proofs.step.listed.Lts as lts
 
 returns : tie.Need-returns
 returns c = hit-yes _ _ _ (c .if1 .taken)
