@@ -1,0 +1,107 @@
+-- `check_saved`: each check is the one of its number, and the first of two, grouped either way, is the first of the list.
+use Rattle.saved.proofs.Before.{then-next}
+use borrow.Author.Needs.{needs}
+use Rattle.saved.proofs.check_saved.Statement.{statement}
+use Rattle.saved.proofs.check_saved.Tie as tie
+
+check-set-requires : tie.Need-check-set-requires
+check-set-requires c κs = search needs
+
+check-sized-requires : tie.Need-check-sized-requires
+check-sized-requires c κs = search needs
+
+then-requires : tie.Need-then-requires
+then-requires c κs = search needs
+
+check-count-requires : tie.Need-check-count-requires
+check-count-requires c κs = search needs
+
+then-requires-2 : tie.Need-then-requires-2
+then-requires-2 c κs = search needs
+
+check-layout-requires : tie.Need-check-layout-requires
+check-layout-requires c κs = search needs
+
+then-requires-3 : tie.Need-then-requires-3
+then-requires-3 c κs = search needs
+
+check-lengths-requires : tie.Need-check-lengths-requires
+check-lengths-requires c κs = search needs
+
+then-requires-4 : tie.Need-then-requires-4
+then-requires-4 c κs = search needs
+
+check-size-requires : tie.Need-check-size-requires
+check-size-requires c κs = search needs
+
+then-requires-5 : tie.Need-then-requires-5
+then-requires-5 c κs = search needs
+
+check-gaps-requires : tie.Need-check-gaps-requires
+check-gaps-requires c κs = search needs
+
+then-requires-6 : tie.Need-then-requires-6
+then-requires-6 c κs = search needs
+
+check-same-set-requires : tie.Need-check-same-set-requires
+check-same-set-requires c κs = search needs
+
+then-requires-7 : tie.Need-then-requires-7
+then-requires-7 c κs = search needs
+
+check-quorum-requires : tie.Need-check-quorum-requires
+check-quorum-requires c κs = search needs
+
+then-requires-8 : tie.Need-then-requires-8
+then-requires-8 c κs = search needs
+
+returns : tie.Need-returns
+returns c =
+    let b = c .before .before in
+    let d = b .before .before in
+    let e = d .before .before in
+    let f = e .before .before in
+    let g = f .before .before in
+    let h = g .before .before in
+    let i = h .before .before in
+    let j = i .before .before in
+    let s = j .before .before .before .before .before in
+    rw (← s .pre)
+    (then-next _ (c .then8 .ensures)
+    (then-next _ (b .then7 .ensures)
+    (then-next _ (d .then6 .ensures)
+    (then-next _ (e .then5 .ensures)
+    (then-next _ (f .then4 .ensures)
+    (then-next _ (g .then3 .ensures)
+    (then-next _ (h .then2 .ensures)
+    (then-next _ (i .then .ensures) (j .check-set .ensures) (i .before .check-sized .ensures))
+    (h .before .check-count .ensures))
+    (g .before .check-layout .ensures))
+    (f .before .check-lengths .ensures))
+    (e .before .check-size .ensures))
+    (d .before .check-gaps .ensures))
+    (b .before .check-same-set .ensures))
+    (c .before .check-quorum .ensures))
+
+pub check-saved-spec : {M : Type 1} → statement M
+check-saved-spec =
+    tie.close
+    (tie.spec
+    check-set-requires
+    check-sized-requires
+    then-requires
+    check-count-requires
+    then-requires-2
+    check-layout-requires
+    then-requires-3
+    check-lengths-requires
+    then-requires-4
+    check-size-requires
+    then-requires-5
+    check-gaps-requires
+    then-requires-6
+    check-same-set-requires
+    then-requires-7
+    check-quorum-requires
+    then-requires-8
+    returns)

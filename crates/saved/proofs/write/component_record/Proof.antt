@@ -1,0 +1,51 @@
+-- `component_record`: each field is the low bytes of its number.
+use Rattle.rules.specs.Saved.{low-first, component-record}
+use borrow.Author.Needs.{needs}
+use Rattle.saved.proofs.write.component_record.Statement.{statement}
+use Rattle.saved.proofs.write.component_record.Tie as tie
+
+cast-length : tie.Need-cast-length
+cast-length c = search needs
+
+cast-low-first : tie.Need-cast-low-first
+cast-low-first c = search needs
+
+low-first-requires : tie.Need-low-first-requires
+low-first-requires c κs = search needs
+
+cast-low-first-2 : tie.Need-cast-low-first-2
+cast-low-first-2 c = search needs
+
+low-first-requires-2 : tie.Need-low-first-requires-2
+low-first-requires-2 c κs = search needs
+
+array-read-t11 : tie.Need-array-read-t11
+array-read-t11 c = search needs
+
+array-read-t14 : tie.Need-array-read-t14
+array-read-t14 c = search needs
+
+array-read-t17 : tie.Need-array-read-t17
+array-read-t17 c = search needs
+
+array-read-t20 : tie.Need-array-read-t20
+array-read-t20 c = search needs
+
+returns : tie.Need-returns
+unfolding low-first component-record
+returns c = rw (c .low-first2 .ensures, c .before .before .low-first .ensures)
+
+pub component-record-spec : {M : Type 1} → statement M
+component-record-spec =
+    tie.close
+    (tie.spec
+    cast-length
+    cast-low-first
+    low-first-requires
+    cast-low-first-2
+    low-first-requires-2
+    array-read-t11
+    array-read-t14
+    array-read-t17
+    array-read-t20
+    returns)

@@ -1,0 +1,131 @@
+// Save and restore: a search as bytes, and bytes as a search. Both check all that they are given, in the paper's order.
+mod layout;
+mod read;
+mod write;
+
+ghost use mathlib.Core.Bool.{true};
+ghost use mathlib.Core.Path.{_≡_};
+ghost use Rattle.rules.specs.Calls.{save-rule, restore-rule, unless};
+ghost use Rattle.rules.specs.Refusals.{first, check10, check11, check13, search-checks, restore-checks};
+ghost use Rattle.rules.specs.Saved.{read-search, place-rule?};
+ghost use Rattle.rules.specs.Sound.{SoundSet, SoundTemplate};
+ghost use Rattle.rules.specs.Told.{toldChecked, toldSaved, toldBegun};
+ghost use Rattle.saved.specs.Orders.{restore-checks-before-13};
+use checks::check_count;
+use checks::check_gaps;
+use checks::check_lengths;
+use checks::check_quorum;
+use checks::check_same_set;
+use checks::check_set;
+use checks::check_size;
+use layout::laid_out;
+use layout::sized;
+use places::check_passes;
+use read::read_search;
+use rules::Begun;
+use rules::Checked;
+use rules::Refusal;
+use rules::Saved;
+use rules::Search;
+use rules::SequenceSet;
+use write::write;
+
+// 10: bytes that are not as long as the records that they count.
+fn check_sized(bytes: &[u8]) -> Checked
+    ensures { λ r. ⌜ toldChecked r ≡ check10 (now (bytes .entry)) ⌝ }
+{
+    Checked::refuse_if(!sized(bytes), Refusal::SavedSize)
+}
+
+// 11: bytes of a search that do not keep their layout.
+fn check_layout(bytes: &[u8], s: Search) -> Checked
+    requires { ⌜ s ≡ read-search (now bytes) ⌝ }
+    ensures { λ r. ⌜ toldChecked r ≡ check11 (now (bytes .entry)) ⌝ }
+{
+    Checked::refuse_if(!laid_out(bytes, s), Refusal::SavedLayout)
+}
+
+// 1 to 4, 10, 5, 11, 6, 7, 8, 12, 9: a restore's order before 13.
+fn check_saved(letters: &[u8], lengths: &[u32], bytes: &[u8], s: Search) -> Checked
+    requires { ⌜ s ≡ read-search (now bytes) ⌝ }
+    ensures { λ r. ⌜ toldChecked r ≡ first (restore-checks-before-13 (now (letters .entry)) (now (lengths .entry)) (now (bytes .entry))) ⌝ }
+{
+    let t = s.template;
+    let quorum = s.quorum;
+    check_set(letters, lengths)
+        .then(check_sized(bytes))
+        .then(check_count(t))
+        .then(check_layout(bytes, s))
+        .then(check_lengths(t))
+        .then(check_size(t))
+        .then(check_gaps(t))
+        .then(check_same_set(letters, lengths, s))
+        .then(check_quorum(lengths, quorum))
+}
+
+// 13. The two tables are for the work.
+fn check_candidate(letters: &[u8], lengths: &[u32], s: Search) -> Checked
+    requires { ⌜ SoundSet (now letters) (now lengths) ⌝ }
+    requires { ⌜ SoundTemplate (s .template) ⌝ }
+    requires { ⌜ place-rule? (s .template) (s .place) ≡ true ⌝ }
+    ensures { λ r. ⌜ toldChecked r ≡ check13 (now (letters .entry)) (now (lengths .entry)) s ⌝ }
+{
+    let mut flags = [0u8; SequenceSet::LETTERS];
+    let mut spare = [0u8; SequenceSet::LETTERS];
+    check_passes(letters, lengths, s, &mut flags, &mut spare)
+}
+
+// A restore's whole order: 13 is checked last, and only where nothing was found before.
+fn check_last(letters: &[u8], lengths: &[u32], bytes: &[u8], s: Search, earlier: Checked) -> Checked
+    requires { ⌜ s ≡ read-search (now bytes) ⌝ }
+    requires { ⌜ toldChecked earlier ≡ first (restore-checks-before-13 (now letters) (now lengths) (now bytes)) ⌝ }
+    ensures { λ r. ⌜ toldChecked r ≡ first (restore-checks (now (letters .entry)) (now (lengths .entry)) (now (bytes .entry))) ⌝ }
+{
+    match earlier {
+        Checked::Fine => check_candidate(letters, lengths, s),
+        Checked::Refused(why) => Checked::Refused(why),
+    }
+}
+
+// The search, unless something was found.
+fn begun(s: Search, found: Checked) -> Begun
+    ensures { λ r. ⌜ toldBegun r ≡ unless (toldChecked found) s ⌝ }
+{
+    match found {
+        Checked::Fine => Begun::Search(s),
+        Checked::Refused(why) => Begun::Refused(why),
+    }
+}
+
+// Restores a search from saved bytes, over the same sequences: it stands where it stood when it was saved, an ended one as
+// ended. Any other bytes are refused, by the first check that they fail.
+pub fn restore(letters: &[u8], lengths: &[u32], bytes: &[u8]) -> Begun
+    ensures { λ r. ⌜ toldBegun r ≡ restore-rule (now (letters .entry)) (now (lengths .entry)) (now (bytes .entry)) ⌝ }
+{
+    let s = read_search(bytes);
+    let before = check_saved(letters, lengths, bytes, s);
+    let found = check_last(letters, lengths, bytes, s, before);
+    begun(s, found)
+}
+
+// 1 to 4, 5, 11, 6, 7, 8, 12, 9, 13: a save's order before 17. The two tables are for the work.
+fn check_search(letters: &[u8], lengths: &[u32], s: Search) -> Checked
+    ensures { λ r. ⌜ toldChecked r ≡ first (search-checks (now (letters .entry)) (now (lengths .entry)) s) ⌝ }
+{
+    let mut flags = [0u8; SequenceSet::LETTERS];
+    let mut spare = [0u8; SequenceSet::LETTERS];
+    places::check_search(letters, lengths, s, &mut flags, &mut spare)
+}
+
+// Saves a search over its sequences: writes its bytes to the front of `out`, the rest of which stays, and answers how many they
+// are. Refused, with nothing written: sequences or a search that fail their checks, and a buffer shorter than the save.
+pub fn save(letters: &[u8], lengths: &[u32], search: Search, out: &mut [u8]) -> Saved
+    ensures { λ r. ⌜ toldSaved r ≡ (save-rule (now (letters .entry)) (now (lengths .entry)) search (now (out .entry))) .told ⌝ }
+    ensures { λ r. ⌜ now (out .exit) ≡ (save-rule (now (letters .entry)) (now (lengths .entry)) search (now (out .entry))) .out ⌝ }
+{
+    let found = check_search(letters, lengths, search);
+    match found {
+        Checked::Fine => write(search, out),
+        Checked::Refused(why) => Saved::Refused(why),
+    }
+}
