@@ -1,0 +1,2 @@
+-- The laws of the program that compares.
+pub mod Counting

@@ -1,0 +1,14 @@
+-- `wire::room32` counts elements of its list, since it is at most the list's length.
+use borrow.Author.Needs.{needs}
+use Rattle.calls.proofs.Counting.{counts}
+use Rattle.calls.proofs.wire.room32.Statement.{statement}
+use Rattle.calls.proofs.wire.room32.Tie as tie
+
+least-requires : tie.Need-least-requires
+least-requires c κs = search needs
+
+returns : tie.Need-returns
+returns c = counts _ (c .least .ensures)
+
+pub room32-spec : {M : Type 1} → statement M
+room32-spec = tie.close (tie.spec least-requires returns)

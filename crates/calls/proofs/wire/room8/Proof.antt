@@ -1,0 +1,14 @@
+-- `wire::room8` counts elements of its list, since it is at most the list's length.
+use borrow.Author.Needs.{needs}
+use Rattle.calls.proofs.Counting.{counts}
+use Rattle.calls.proofs.wire.room8.Statement.{statement}
+use Rattle.calls.proofs.wire.room8.Tie as tie
+
+least-requires : tie.Need-least-requires
+least-requires c κs = search needs
+
+returns : tie.Need-returns
+returns c = counts _ (c .least .ensures)
+
+pub room8-spec : {M : Type 1} → statement M
+room8-spec = tie.close (tie.spec least-requires returns)

@@ -1,0 +1,157 @@
+// What an answer tells, in 29 numbers of eight bytes:
+//
+//   0       how the call came out: refused 0, done 1; of a leg, ended 1, spent 2, full 3
+//   1, 2    a refusal's number and place, and else 0
+//   3, 4    the counts: a leg's steps and rows, a save's bytes, a recovery's rows and whole length, a join's positions
+//   5 - 28  the search of a new search, a restore or a leg, laid out as in a request
+//
+// What an answer does not have is 0.
+use crate::wire::wide8;
+use crate::wire::wide16;
+use crate::wire::wide32;
+use rules::Begun;
+use rules::Component;
+use rules::Joined;
+use rules::Leg;
+use rules::LegAnswer;
+use rules::Place;
+use rules::Recovered;
+use rules::Refusal;
+use rules::Saved;
+use rules::Search;
+use rules::SequenceSet;
+use rules::Template;
+
+pub struct Told {
+    pub outcome: u64,
+    pub number: u64,
+    pub place: u64,
+    pub count: u64,
+    pub total: u64,
+    pub search: Search,
+}
+
+// The search of an answer that has none.
+fn no_search() -> Search {
+    let none = Component::none();
+    let template = Template {
+        count: 0,
+        c1: none,
+        c2: none,
+        c3: none,
+        c4: none,
+        c5: none,
+        c6: none,
+    };
+    Search {
+        template,
+        quorum: 0,
+        set: SequenceSet::new(0, 0),
+        place: Place::ended(),
+    }
+}
+
+impl Told {
+    fn done(outcome: u64, count: u64, total: u64, search: Search) -> Told {
+        Told {
+            outcome,
+            number: 0,
+            place: 0,
+            count,
+            total,
+            search,
+        }
+    }
+
+    fn refused(why: Refusal, count: u64, total: u64, search: Search) -> Told {
+        Told {
+            outcome: 0,
+            number: why.number(),
+            place: why.place(),
+            count,
+            total,
+            search,
+        }
+    }
+
+    pub fn begun(answer: Begun) -> Told {
+        match answer {
+            Begun::Search(search) => Told::done(1, 0, 0, search),
+            Begun::Refused(why) => Told::refused(why, 0, 0, no_search()),
+        }
+    }
+
+    pub fn leg(answer: Leg) -> Told {
+        let stop = answer.answer;
+        let search = answer.search;
+        let rows = answer.rows as u64;
+        match stop {
+            LegAnswer::Ended => Told::done(1, answer.steps, rows, search),
+            LegAnswer::Spent => Told::done(2, answer.steps, rows, search),
+            LegAnswer::Full => Told::done(3, answer.steps, rows, search),
+            LegAnswer::Refused(why) => Told::refused(why, answer.steps, rows, search),
+        }
+    }
+
+    pub fn saved(answer: Saved) -> Told {
+        match answer {
+            Saved::Bytes(n) => Told::done(1, n as u64, 0, no_search()),
+            Saved::Refused(why) => Told::refused(why, 0, 0, no_search()),
+        }
+    }
+
+    pub fn recovered(answer: Recovered) -> Told {
+        match answer {
+            Recovered::Rows { written, length } => Told::done(
+                1,
+                written as u64,
+                length,
+                no_search(),
+            ),
+            Recovered::Refused(why) => Told::refused(why, 0, 0, no_search()),
+        }
+    }
+
+    pub fn joined(answer: Joined) -> Told {
+        match answer {
+            Joined::Kept(n) => Told::done(1, n as u64, 0, no_search()),
+            Joined::Refused(why) => Told::refused(why, 0, 0, no_search()),
+        }
+    }
+
+    pub fn words(self) -> [u64; 29] {
+        let s = self.search;
+        let t = s.template;
+        [
+            self.outcome,
+            self.number,
+            self.place,
+            self.count,
+            self.total,
+            wide16(t.count),
+            wide16(t.c1.length),
+            wide16(t.c1.low),
+            wide16(t.c1.high),
+            wide16(t.c2.length),
+            wide16(t.c2.low),
+            wide16(t.c2.high),
+            wide16(t.c3.length),
+            wide16(t.c3.low),
+            wide16(t.c3.high),
+            wide16(t.c4.length),
+            wide16(t.c4.low),
+            wide16(t.c4.high),
+            wide16(t.c5.length),
+            wide16(t.c5.low),
+            wide16(t.c5.high),
+            wide16(t.c6.length),
+            wide16(t.c6.low),
+            wide16(t.c6.high),
+            s.quorum,
+            wide32(s.set.sequences),
+            wide32(s.set.letters),
+            wide8(s.place.letters),
+            s.place.number,
+        ]
+    }
+}

@@ -1,0 +1,17 @@
+#!/bin/sh
+# Compares the proved library with the second program, by thousands of calls of both (src/bin/compare). The library is called
+# through the program `calls`, which `rt ci` or `rt check` leaves in target/bin. Programs are built for x86-64 and run under the
+# kit's own loader and C library; on another processor the kit has an emulator beside its compiler, and that goes before.
+set -eu
+cd "$(dirname "$0")/.."
+
+# The kit's folder: rt names a page that stands in it, KIT/docs/START-HERE.md.
+kit=$(dirname "$(dirname "$(rt doc)")")
+tools=$kit/on/$(uname -m)/toolchain
+set -- "$tools/lib/ld-linux-x86-64.so.2" --library-path "$tools/lib" target/bin/calls
+if [ -x "$tools/bin/qemu-x86_64" ]; then
+    set -- "$tools/bin/qemu-x86_64" "$@"
+fi
+
+cargo build --release --offline --quiet --manifest-path second/Cargo.toml --bin compare
+exec second/target/release/compare "$@"

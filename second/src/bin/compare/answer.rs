@@ -1,0 +1,273 @@
+//! What a call answers: the numbers told and every lent table afterwards. The
+//! program's answers are read, the second program's are worked out.
+
+use crate::request::{Kind, Request, Slot, Value};
+use second::{Answer as Stop, Component, Place, Refusal, Search, Template};
+
+/// How a call came out, as the program's file told.rt lays it out.
+pub const REFUSED: u64 = 0;
+pub const DONE: u64 = 1;
+const SPENT: u64 = 2;
+const FULL: u64 = 3;
+
+/// The numbers told before the search's 24.
+const NAMES: [&str; 5] = ["outcome", "refusal", "place of the refusal", "count", "total"];
+const TOLD: usize = NAMES.len() + 24;
+
+#[derive(Clone, Debug, PartialEq, Eq)]
+pub struct Answer {
+    /// Outcome, refusal number and place, two counts, and the search.
+    pub told: Vec<u64>,
+    pub motifs: Vec<u64>,
+    pub supports: Vec<u32>,
+    pub weights: Vec<u64>,
+    pub rows: Vec<u32>,
+    pub saved: Vec<u8>,
+}
+
+impl Answer {
+    /// What the program answered to a request, from the front of what it
+    /// wrote; none if that is cut short.
+    pub fn read(request: &Request, from: &mut &[u8]) -> Option<Answer> {
+        Some(Answer {
+            told: take_wide(TOLD, from)?,
+            motifs: take_wide(request.motifs.len(), from)?,
+            supports: take_narrow(request.supports.len(), from)?,
+            weights: take_wide(request.weights.len(), from)?,
+            rows: take_narrow(request.rows.len(), from)?,
+            saved: take(request.saved.len(), from)?.to_vec(),
+        })
+    }
+
+    /// What the second program answers.
+    pub fn expected(request: &Request) -> Answer {
+        let mut answer = Answer {
+            told: Vec::new(),
+            motifs: request.motifs.clone(),
+            supports: request.supports.clone(),
+            weights: request.weights.clone(),
+            rows: request.rows.clone(),
+            saved: request.saved.clone(),
+        };
+        let (letters, lengths) = (&request.set.letters[..], &request.set.lengths[..]);
+        let value = &request.value;
+        answer.told = match request.kind {
+            Kind::Begin => told_begun(second::begin(
+                letters,
+                lengths,
+                &template(value),
+                value.quorum,
+            )),
+            Kind::Restore => told_begun(second::restore(letters, lengths, &request.saved)),
+            Kind::Leg => {
+                let leg = second::leg(
+                    letters,
+                    lengths,
+                    &search(value),
+                    request.budget,
+                    &mut answer.motifs,
+                    &mut answer.supports,
+                    &mut answer.weights,
+                );
+                // The search comes back with another place and all else as
+                // it was given, slots that its template does not count too.
+                let moved = Value {
+                    place: leg.search.place.letters,
+                    number: leg.search.place.number,
+                    ..*value
+                };
+                let outcome = match leg.answer {
+                    Stop::Ended => Ok(DONE),
+                    Stop::Spent => Ok(SPENT),
+                    Stop::Full => Ok(FULL),
+                    Stop::Refused(refusal) => Err(refusal),
+                };
+                match outcome {
+                    Ok(outcome) => told(outcome, leg.steps, leg.rows as u64, &moved),
+                    Err(refusal) => told_refusal(refusal, value),
+                }
+            }
+            Kind::Save => {
+                match second::save(letters, lengths, &search(value), &mut answer.saved) {
+                    Ok(bytes) => told(DONE, bytes as u64, 0, &Value::default()),
+                    Err(refusal) => told_refusal(refusal, &Value::default()),
+                }
+            }
+            Kind::Recover => {
+                match second::recover(
+                    letters,
+                    lengths,
+                    &template(value),
+                    request.motif,
+                    request.first_row,
+                    &mut answer.rows,
+                ) {
+                    Ok(rows) => told(DONE, rows.rows as u64, rows.length, &Value::default()),
+                    Err(refusal) => told_refusal(refusal, &Value::default()),
+                }
+            }
+            Kind::Join => {
+                match second::join(
+                    lengths,
+                    &request.partners,
+                    byte(request.head),
+                    request.low,
+                    request.high,
+                    &mut answer.rows,
+                ) {
+                    Ok(kept) => told(DONE, kept as u64, 0, &Value::default()),
+                    Err(refusal) => told_refusal(refusal, &Value::default()),
+                }
+            }
+        };
+        answer
+    }
+
+    pub fn outcome(&self) -> u64 {
+        self.told[0]
+    }
+
+    pub fn refusal(&self) -> u64 {
+        self.told[1]
+    }
+
+    pub fn count(&self) -> u64 {
+        self.told[3]
+    }
+
+    /// The search that is told.
+    pub fn search(&self) -> Value {
+        let words = &self.told[NAMES.len()..];
+        let slot = |at: usize| Slot::new(words[at] as u16, words[at + 1] as u16, words[at + 2] as u16);
+        Value {
+            count: words[0] as u16,
+            slots: [1, 4, 7, 10, 13, 16].map(slot),
+            quorum: words[19],
+            sequences: words[20] as u32,
+            letters: words[21] as u32,
+            place: words[22] as u8,
+            number: words[23],
+        }
+    }
+
+    /// The first thing in which this answer differs from another.
+    pub fn difference(&self, other: &Answer) -> Option<String> {
+        let name = |at: usize| match NAMES.get(at) {
+            Some(name) => name.to_string(),
+            None => format!("number {} of the search", at - NAMES.len()),
+        };
+        first_difference(&self.told, &other.told)
+            .map(|(at, how)| format!("{}: {how}", name(at)))
+            .or_else(|| in_table("motifs", &self.motifs, &other.motifs))
+            .or_else(|| in_table("supports", &self.supports, &other.supports))
+            .or_else(|| in_table("weights", &self.weights, &other.weights))
+            .or_else(|| in_table("rows", &self.rows, &other.rows))
+            .or_else(|| in_table("saved bytes", &self.saved, &other.saved))
+    }
+}
+
+fn first_difference<T: PartialEq + std::fmt::Display>(
+    one: &[T],
+    other: &[T],
+) -> Option<(usize, String)> {
+    (0..one.len())
+        .find(|at| one[*at] != other[*at])
+        .map(|at| (at, format!("{}, and not {}", one[at], other[at])))
+}
+
+fn in_table<T: PartialEq + std::fmt::Display>(
+    name: &str,
+    one: &[T],
+    other: &[T],
+) -> Option<String> {
+    first_difference(one, other).map(|(at, how)| format!("{name} at {at}: {how}"))
+}
+
+fn told(outcome: u64, count: u64, total: u64, value: &Value) -> Vec<u64> {
+    let mut told = vec![outcome, 0, 0, count, total];
+    told.extend(value.words());
+    told
+}
+
+fn told_refusal(refusal: Refusal, value: &Value) -> Vec<u64> {
+    let mut told = vec![REFUSED, u64::from(refusal.number), refusal.place, 0, 0];
+    told.extend(value.words());
+    told
+}
+
+/// A new search and a restore give a search whose template has nothing in the
+/// slots that it does not count.
+fn told_begun(begun: Result<Search, Refusal>) -> Vec<u64> {
+    match begun {
+        Ok(search) => told(DONE, 0, 0, &value_of(&search)),
+        Err(refusal) => told_refusal(refusal, &Value::default()),
+    }
+}
+
+/// The second program's search as a value of the library's.
+pub fn value_of(search: &Search) -> Value {
+    let slots: Vec<Slot> = search
+        .template
+        .components
+        .iter()
+        .map(|c| Slot::new(u16::from(c.length), c.low, c.high))
+        .collect();
+    Value {
+        quorum: search.quorum,
+        sequences: search.sequences,
+        letters: search.letters,
+        place: search.place.letters,
+        number: search.place.number,
+        ..Value::of(&slots)
+    }
+}
+
+/// A length as the second program holds it, in a byte. A longer one is told
+/// as 255. Both are refused by 6; and the place rule (11), which a leg and a
+/// save check before, finds K at least 255 either way, which no place, itself
+/// a byte, exceeds. So the two programs have to say the same.
+fn byte(length: u16) -> u8 {
+    u8::try_from(length).unwrap_or(u8::MAX)
+}
+
+/// The template's components. Where it counts more than there are slots for,
+/// what stands in them is not looked at: that is refused by 5 first.
+fn template(value: &Value) -> Template {
+    let component = |slot: &Slot| Component {
+        length: byte(slot.length),
+        low: slot.low,
+        high: slot.high,
+    };
+    let mut components: Vec<Component> = value.slots.iter().map(component).collect();
+    components.resize(value.count as usize, component(&Slot::default()));
+    Template { components }
+}
+
+pub fn search(value: &Value) -> Search {
+    Search {
+        template: template(value),
+        quorum: value.quorum,
+        sequences: value.sequences,
+        letters: value.letters,
+        place: Place {
+            letters: value.place,
+            number: value.number,
+        },
+    }
+}
+
+fn take<'a>(length: usize, from: &mut &'a [u8]) -> Option<&'a [u8]> {
+    let (taken, rest) = from.split_at_checked(length)?;
+    *from = rest;
+    Some(taken)
+}
+
+fn take_wide(length: usize, from: &mut &[u8]) -> Option<Vec<u64>> {
+    let numbers = take(8 * length, from)?.chunks_exact(8);
+    Some(numbers.map(|b| u64::from_le_bytes(b.try_into().unwrap())).collect())
+}
+
+fn take_narrow(length: usize, from: &mut &[u8]) -> Option<Vec<u32>> {
+    let numbers = take(4 * length, from)?.chunks_exact(4);
+    Some(numbers.map(|b| u32::from_le_bytes(b.try_into().unwrap())).collect())
+}

@@ -1,0 +1,228 @@
+//! Legs laid end to end, with a save and a restore between them, and legs and
+//! saves of search values that no call gave.
+
+use crate::answer::{Answer, DONE, REFUSED};
+use crate::begins::{faulty_set, faulty_value};
+use crate::random::Random;
+use crate::request::{Kind, Request, Set, Slot, Value};
+use std::rc::Rc;
+
+/// The most rows that the program has tables for.
+const ROOM: u64 = 4_096;
+
+/// A leg with three tables of these lengths.
+fn leg(set: &Rc<Set>, value: Value, budget: u64, rooms: [u64; 3], random: &mut Random) -> Request {
+    Request {
+        budget,
+        motifs: random.wide(rooms[0] as usize),
+        supports: random.narrow(rooms[1] as usize),
+        weights: random.wide(rooms[2] as usize),
+        ..Request::new(Kind::Leg, set, value)
+    }
+}
+
+/// The save of a search, to a buffer with some room over, and the restore of
+/// what it wrote.
+pub fn save_and_restore(set: &Rc<Set>, value: Value, random: &mut Random) -> [Request; 2] {
+    let room = 128 + random.below(20) as usize;
+    let save = Request {
+        saved: random.bytes(room),
+        ..Request::new(Kind::Save, set, value)
+    };
+    let answer = Answer::expected(&save);
+    let restore = Request {
+        saved: answer.saved[..answer.count() as usize].to_vec(),
+        ..Request::new(Kind::Restore, set, Value::default())
+    };
+    [save, restore]
+}
+
+/// How much each leg of a relay may use.
+#[derive(Clone, Copy)]
+enum Grants {
+    /// One step and one row, always.
+    Single,
+    /// Budgets and rooms from nothing to a few.
+    Few,
+    /// The same, and now and then very many.
+    Any,
+}
+
+impl Grants {
+    fn next(self, random: &mut Random) -> (u64, [u64; 3]) {
+        let (budget, room) = match self {
+            Grants::Single => return (1, [1; 3]),
+            Grants::Few => (random.below(40), random.below(4)),
+            Grants::Any => (
+                random.pick(&[0, 1, 2, 10, 60, 400, 3_000, u64::MAX]),
+                random.pick(&[0, 1, 2, 10, 100, ROOM - 3]),
+            ),
+        };
+        // The shortest table is the room, whichever it is.
+        let mut rooms = [room + random.below(3), room + random.below(3), room];
+        rooms.rotate_left(random.below(3) as usize);
+        (budget, rooms)
+    }
+}
+
+/// A new search and its legs until one ends, or at most so many; each leg
+/// starts from what the restore of the one before gave.
+fn relay(set: Set, value: Value, most: usize, grants: Grants, random: &mut Random) -> Vec<Request> {
+    let set = Rc::new(set);
+    let begin = Request::new(Kind::Begin, &set, value);
+    let begun = Answer::expected(&begin);
+    let mut requests = vec![begin];
+    if begun.outcome() == REFUSED {
+        return requests;
+    }
+    let mut value = begun.search();
+    for turn in 0..most {
+        // The last leg may use as much as there is.
+        let (budget, rooms) = match turn + 1 < most {
+            true => grants.next(random),
+            false => (u64::MAX, [ROOM; 3]),
+        };
+        let leg = leg(&set, value, budget, rooms, random);
+        let answer = Answer::expected(&leg);
+        requests.push(leg);
+        requests.extend(save_and_restore(&set, answer.search(), random));
+        // A leg from the ended place takes no step and ends again.
+        if value.place == 0 {
+            break;
+        }
+        value = answer.search();
+    }
+    requests
+}
+
+/// Sequences that all hold one stretch of letters, each somewhere else.
+fn shared(stretch: &[u8], sequences: u64, random: &mut Random) -> Set {
+    let sequences: Vec<Vec<u8>> = (0..sequences)
+        .map(|_| {
+            let (before, after) = (random.below(8), random.below(8));
+            let mut letters = random.letters(before, 4);
+            letters.extend(stretch);
+            letters.extend(random.letters(after, 4));
+            letters
+        })
+        .collect();
+    Set::of(&sequences)
+}
+
+/// A template of 32 letters.
+pub fn deepest(high: u16) -> Value {
+    Value::of(&[Slot::new(12, 0, 0), Slot::new(12, 0, high), Slot::new(8, 0, high)])
+}
+
+pub fn relays(random: &mut Random) -> Vec<Request> {
+    let three = [Slot::new(3, 0, 0), Slot::new(2, 0, 3), Slot::new(4, 1, 3)];
+    let mut requests = Vec::new();
+    for quorum in 1..=4 {
+        let e = Value::pair().with_quorum(quorum);
+        requests.extend(relay(Set::e(), e, 200, Grants::Single, random));
+        requests.extend(relay(Set::e(), e, 200, Grants::Few, random));
+    }
+    for quorum in [2, 3] {
+        let example = Value::of(&three).with_quorum(quorum);
+        requests.extend(relay(Set::worked_example(), example, 60, Grants::Few, random));
+    }
+    // 32 letters: the last motif of all is the run of Ts, the largest number.
+    let stretches = [vec![b'T'; 40], vec![b'A'; 40], random.letters(40, 4), random.letters(40, 4)];
+    for stretch in &stretches {
+        for high in [0, 2] {
+            let set = shared(stretch, 4, random);
+            requests.extend(relay(set, deepest(high).with_quorum(4), 60, Grants::Few, random));
+        }
+    }
+    // Only empty sequences, and some among others.
+    for sequences in [1, 3, 1_024] {
+        let (set, value) = (Set::of(&vec![""; sequences]), Value::pair().with_quorum(1));
+        requests.extend(relay(set, value, 9, Grants::Single, random));
+    }
+    let gaps = Set::of(&["", "ACGT", "", "", "GTAC", ""]);
+    requests.extend(relay(gaps, Value::pair().with_quorum(2), 60, Grants::Few, random));
+    // As many sequences and letters as there may be.
+    let full: Vec<Vec<u8>> = (0..1_024).map(|_| random.letters(64, 3)).collect();
+    let one = Value::of(&[Slot::new(2, 0, 0), Slot::new(1, 0, 255)]);
+    requests.extend(relay(Set::of(&full), one.with_quorum(1_000), 4, Grants::Few, random));
+
+    for round in 0..40 {
+        let (alphabet, longest) = (random.within(2, 4), random.pick(&[10, 30, 80]));
+        let set = random.set(8, longest, alphabet);
+        let (most, widest) = (random.within(1, 6), random.pick(&[0, 2, 10, 255]));
+        let quorum = random.within(1, set.lengths.len() as u64);
+        let value = random.template(most, widest).with_quorum(quorum);
+        let grants = if round % 2 == 0 { Grants::Few } else { Grants::Any };
+        requests.extend(relay(set, value, 25, grants, random));
+    }
+    requests
+}
+
+/// A search that was begun and has gone a random number of steps, or the ended
+/// one.
+pub fn underway(set: &Rc<Set>, value: Value, random: &mut Random) -> Option<Value> {
+    let begun = Answer::expected(&Request::new(Kind::Begin, set, value));
+    if begun.outcome() != DONE {
+        return None;
+    }
+    let budget = random.pick(&[0, 1, 5, 20, 90, 100_000]);
+    let gone = Answer::expected(&leg(set, begun.search(), budget, [ROOM; 3], random));
+    Some(gone.search())
+}
+
+/// A search value with up to three faults.
+fn forged(mut value: Value, random: &mut Random) -> Value {
+    let letters = value.slots.iter().map(|slot| u32::from(slot.length)).sum::<u32>() as u8;
+    for _ in 0..random.below(4) {
+        let at = random.below(6) as usize;
+        match random.below(12) {
+            0 => value.count = random.pick(&[0, 1, 2, 6, 7, 65_535]),
+            1 => value.slots[at].length = random.pick(&[0, 1, 12, 13, 255, 256, 65_535]),
+            2 => value.slots[at].low = random.pick(&[0, 1, 255, 256]),
+            3 => value.slots[at].high = random.pick(&[0, 1, 255, 256]),
+            4 => value.quorum = random.edge(),
+            5 => value.sequences = value.sequences.wrapping_add(random.pick(&[1, u32::MAX, 65_536])),
+            6 => value.letters = value.letters.wrapping_add(random.pick(&[1, u32::MAX, 65_536])),
+            7 => value.place = random.pick(&[0, 1, letters, letters.wrapping_add(1), 32, 33, 255]),
+            8 => value.number = random.edge(),
+            // The place rule's edge: the last number below 4 to the power of
+            // the place, and the first that is not.
+            9 => value.number = 4u64.checked_pow(value.place.into()).unwrap_or(0).wrapping_sub(1),
+            10 => value.number = 4u64.checked_pow(value.place.into()).unwrap_or(u64::MAX),
+            _ => value.number = random.below(4u64.saturating_pow(value.place.into())),
+        }
+    }
+    value
+}
+
+/// Legs and saves of forged values, over sets that keep the rules or break
+/// one.
+pub fn forgeries(random: &mut Random) -> Vec<Request> {
+    let mut requests = Vec::new();
+    while requests.len() < 12_000 {
+        let set = Rc::new(match random.below(12) {
+            0 => faulty_set(random),
+            1 => shared(&[b'T'; 40], 3, random),
+            _ => random.set(4, 25, 3),
+        });
+        let value = match random.below(8) {
+            0 => faulty_value(random, &set),
+            1 => deepest(1),
+            _ => random.template(5, 4),
+        };
+        let value = value.with_quorum(random.within(1, set.lengths.len().max(1) as u64));
+        let start = underway(&set, value, random).unwrap_or(value);
+        for _ in 0..4 {
+            let forged = forged(start, random);
+            let budget = random.pick(&[0, 1, 3, 50]);
+            let rooms = [(); 3].map(|()| random.below(5));
+            requests.push(leg(&set, forged, budget, rooms, random));
+            let room = random.pick(&[0, 16, 47, 48, 63, 64, 127, 128, 140]);
+            requests.push(Request {
+                saved: random.bytes(room),
+                ..Request::new(Kind::Save, &set, forged)
+            });
+        }
+    }
+    requests
+}

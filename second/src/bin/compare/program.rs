@@ -1,0 +1,86 @@
+//! The program `calls`, run on requests, and the comparison of its answers
+//! with the second program's.
+
+use crate::answer::{Answer, REFUSED};
+use crate::request::{Kind, Request};
+use std::io::{Read, Write};
+use std::process::{Command, Stdio};
+use std::thread;
+
+/// Requests to one run of the program, so that neither side holds too much.
+const BATCH: usize = 20_000;
+
+/// How often each refusal, by its number, was given by each kind of call; 0
+/// stands for no refusal.
+#[derive(Default)]
+pub struct Seen([[u64; 19]; 7]);
+
+impl Seen {
+    pub fn of(&self, kind: Kind, refusal: u64) -> u64 {
+        self.0[kind as usize][refusal as usize]
+    }
+}
+
+pub struct Program {
+    /// The program and what it is run with: an emulator and a loader before
+    /// it, where the machine wants them.
+    pub command: Vec<String>,
+    pub seen: Seen,
+}
+
+impl Program {
+    /// What the program writes when it reads these requests.
+    fn run(&self, requests: &[Request]) -> Result<Vec<u8>, String> {
+        let mut input = (requests.len() as u64).to_le_bytes().to_vec();
+        for request in requests {
+            request.encode(&mut input);
+        }
+        let mut child = Command::new(&self.command[0])
+            .args(&self.command[1..])
+            .stdin(Stdio::piped())
+            .stdout(Stdio::piped())
+            .spawn()
+            .map_err(|error| format!("{} did not start: {error}", self.command[0]))?;
+        // Written from a thread of its own: the program answers as it reads.
+        let mut to = child.stdin.take().expect("standard input is a pipe");
+        let writer = thread::spawn(move || to.write_all(&input));
+        let mut output = Vec::new();
+        let mut from = child.stdout.take().expect("standard output is a pipe");
+        let read = from.read_to_end(&mut output);
+        let status = child.wait().map_err(|error| error.to_string())?;
+        // A write fails where the program ended early, which its answers show.
+        let _ = writer.join();
+        read.map_err(|error| format!("its answers could not be read: {error}"))?;
+        if status.success() {
+            Ok(output)
+        } else {
+            Err(format!("the program ended with {status}"))
+        }
+    }
+
+    /// Makes the requests of the program and of the second one, and compares
+    /// the answers; at the first difference, says what it is.
+    pub fn compare(&mut self, requests: &[Request]) -> Result<(), String> {
+        for batch in requests.chunks(BATCH) {
+            let output = self.run(batch)?;
+            let mut rest = &output[..];
+            for request in batch {
+                let expected = Answer::expected(request);
+                let Some(answer) = Answer::read(request, &mut rest) else {
+                    return Err(format!("no answer to this request:\n{request}"));
+                };
+                if let Some(difference) = answer.difference(&expected) {
+                    return Err(format!(
+                        "the program differs from the second one in {difference}\n{request}"
+                    ));
+                }
+                let refusal = if answer.outcome() == REFUSED { answer.refusal() } else { 0 };
+                self.seen.0[request.kind as usize][refusal as usize] += 1;
+            }
+            if !rest.is_empty() {
+                return Err(format!("{} bytes after the last answer", rest.len()));
+            }
+        }
+        Ok(())
+    }
+}

@@ -1,0 +1,179 @@
+//! Saves into buffers of any length, and restores: of saves that are whole,
+//! cut, changed in a byte or two, or made over other sequences, and of random
+//! bytes.
+
+use crate::answer::Answer;
+use crate::begins::faulty_set;
+use crate::legs::{deepest, save_and_restore, underway};
+use crate::random::Random;
+use crate::request::{Kind, Request, Set, Slot, Value};
+use std::rc::Rc;
+
+fn restore(set: &Rc<Set>, saved: Vec<u8>) -> Request {
+    Request {
+        saved,
+        ..Request::new(Kind::Restore, set, Value::default())
+    }
+}
+
+/// The bytes of a search's save.
+fn saved(set: &Rc<Set>, value: Value, random: &mut Random) -> Vec<u8> {
+    let [_, restore] = save_and_restore(set, value, random);
+    restore.saved
+}
+
+/// Searches of one to six components at their first place, on their way and
+/// ended, into buffers just short and just long enough, and restored.
+pub fn saves(random: &mut Random) -> Vec<Request> {
+    let mut requests = Vec::new();
+    for _ in 0..120 {
+        let set = Rc::new(random.set(6, 30, 3));
+        let most = random.within(1, 10);
+        let value = random.template(most, 5);
+        let quorum = random.within(1, set.lengths.len() as u64);
+        let Some(value) = underway(&set, value.with_quorum(quorum), random) else {
+            continue;
+        };
+        let length = 16 * (usize::from(value.count) + 2);
+        for room in [0, 1, 16, length - 16, length - 1, length, length + 1, 1_024] {
+            requests.push(Request {
+                saved: random.bytes(room),
+                ..Request::new(Kind::Save, &set, value)
+            });
+        }
+        requests.extend(save_and_restore(&set, value, random));
+    }
+    requests
+}
+
+/// The search at its first place and after so many steps; the ended one is
+/// reached by very many.
+fn after(set: &Rc<Set>, value: Value, steps: u64) -> Value {
+    let begun = Answer::expected(&Request::new(Kind::Begin, set, value)).search();
+    let leg = Request {
+        budget: steps,
+        motifs: vec![0; 4_096],
+        supports: vec![0; 4_096],
+        weights: vec![0; 4_096],
+        ..Request::new(Kind::Leg, set, begun)
+    };
+    Answer::expected(&leg).search()
+}
+
+/// Every truncation and every change of a single byte of saves at several
+/// places, over E and over a larger set, down to a place of 32 letters.
+pub fn damaged(random: &mut Random) -> Vec<Request> {
+    let e = Rc::new(Set::e());
+    let stretch = random.letters(44, 4);
+    let sequences: Vec<Vec<u8>> = (0..8)
+        .map(|_| [random.letters(9, 4), stretch.clone(), random.letters(7, 4)].concat())
+        .collect();
+    let larger = Rc::new(Set::of(&sequences));
+    let pair = Value::pair().with_quorum(2);
+    let deep = deepest(2).with_quorum(8);
+    let mut saves = Vec::new();
+    for steps in [0, 4, 11, u64::MAX] {
+        saves.push((Rc::clone(&e), after(&e, pair, steps)));
+    }
+    for steps in [0, 50, u64::MAX] {
+        saves.push((Rc::clone(&larger), after(&larger, deep, steps)));
+    }
+    // A place of 32 letters: the walk over the shared stretch comes by one
+    // when it has gone down all the way.
+    let depth_32 = (1..400)
+        .map(|steps| after(&larger, deep, steps))
+        .find(|value| value.place == 32)
+        .expect("a place of 32 letters");
+    saves.push((larger, depth_32));
+
+    let mut requests = Vec::new();
+    for (set, value) in saves {
+        let bytes = saved(&set, value, random);
+        for length in 0..=bytes.len() {
+            requests.push(restore(&set, bytes[..length].to_vec()));
+        }
+        for at in 0..bytes.len() {
+            for change in 1..=u8::MAX {
+                let mut changed = bytes.clone();
+                changed[at] ^= change;
+                requests.push(restore(&set, changed));
+            }
+        }
+    }
+    requests
+}
+
+/// A byte of a save that names something, or any.
+fn a_byte(bytes: &[u8], random: &mut Random) -> usize {
+    let record = 16 * random.below(bytes.len() as u64 / 16) as usize;
+    let named = random.pick(&[0, 1, 2, 3, 4, 5, 6, 7, 8, 9, 10, 11, 15]);
+    if random.once_in(4) {
+        random.below(bytes.len() as u64) as usize
+    } else {
+        record + named
+    }
+}
+
+/// Saves changed at two or three places, with small numbers as often as not,
+/// records left out or added, saves over other sequences, and random bytes.
+pub fn restores(random: &mut Random) -> Vec<Request> {
+    let mut requests = Vec::new();
+    while requests.len() < 15_000 {
+        let set = Rc::new(random.set(5, 25, 3));
+        let most = random.pick(&[2, 6, 32]);
+        let value = random.template(most, 6);
+        let quorum = random.within(1, set.lengths.len() as u64);
+        let Some(value) = underway(&set, value.with_quorum(quorum), random) else {
+            continue;
+        };
+        let bytes = saved(&set, value, random);
+        for _ in 0..6 {
+            let mut changed = bytes.clone();
+            for _ in 0..random.within(1, 3) {
+                let at = a_byte(&changed, random);
+                changed[at] = if random.once_in(2) { random.below(14) as u8 } else { random.any() as u8 };
+            }
+            requests.push(restore(&set, changed));
+        }
+        // A record more or fewer, with the count that says so or not, and
+        // with K changed so that it is the sum of lengths.
+        let slot = Slot::new(random.below(14) as u16, 0, random.below(300) as u16);
+        let mut more = bytes.clone();
+        let records = bytes.len() / 16;
+        let mut added = vec![0; 16];
+        added[..8].copy_from_slice(&[
+            2,
+            records as u8 - 1,
+            slot.length as u8,
+            0,
+            0,
+            0,
+            slot.high as u8,
+            (slot.high / 256) as u8,
+        ]);
+        more.splice(bytes.len() - 16..bytes.len() - 16, added);
+        requests.push(restore(&set, more.clone()));
+        more[1] += 1;
+        requests.push(restore(&set, more.clone()));
+        more[6] += slot.length as u8;
+        requests.push(restore(&set, more));
+        let mut fewer = bytes.clone();
+        fewer.drain(16..32);
+        fewer[1] -= 1;
+        requests.push(restore(&set, fewer));
+        // Other sequences: of other counts, of the same, and with a fault.
+        requests.push(restore(&Rc::new(random.set(5, 25, 3)), bytes.clone()));
+        let lengths = set.lengths.clone();
+        let letters = random.letters(set.letters.len() as u64, 2);
+        requests.push(restore(&Rc::new(Set { letters, lengths }), bytes.clone()));
+        requests.push(restore(&Rc::new(faulty_set(random)), bytes));
+        // Random bytes, of a length that is a number of records or not.
+        let length = random.pick(&[0, 15, 16, 32, 48, 64, 128, 144, 160, 1_024]);
+        let mut bytes = random.bytes(length);
+        if random.once_in(2) && length > 16 {
+            bytes[1] = (length / 16) as u8;
+        }
+        requests.push(restore(&set, bytes));
+    }
+    requests
+}
