@@ -11,7 +11,13 @@ const SPENT: u64 = 2;
 const FULL: u64 = 3;
 
 /// The numbers told before the search's 24.
-const NAMES: [&str; 5] = ["outcome", "refusal", "place of the refusal", "count", "total"];
+const NAMES: [&str; 5] = [
+    "outcome",
+    "refusal",
+    "place of the refusal",
+    "count",
+    "total",
+];
 const TOLD: usize = NAMES.len() + 24;
 
 #[derive(Clone, Debug, PartialEq, Eq)]
@@ -87,12 +93,10 @@ impl Answer {
                     Err(refusal) => told_refusal(refusal, value),
                 }
             }
-            Kind::Save => {
-                match second::save(letters, lengths, &search(value), &mut answer.saved) {
-                    Ok(bytes) => told(DONE, bytes as u64, 0, &Value::default()),
-                    Err(refusal) => told_refusal(refusal, &Value::default()),
-                }
-            }
+            Kind::Save => match second::save(letters, lengths, &search(value), &mut answer.saved) {
+                Ok(bytes) => told(DONE, bytes as u64, 0, &Value::default()),
+                Err(refusal) => told_refusal(refusal, &Value::default()),
+            },
             Kind::Recover => {
                 match second::recover(
                     letters,
@@ -138,7 +142,8 @@ impl Answer {
     /// The search that is told.
     pub fn search(&self) -> Value {
         let words = &self.told[NAMES.len()..];
-        let slot = |at: usize| Slot::new(words[at] as u16, words[at + 1] as u16, words[at + 2] as u16);
+        let slot =
+            |at: usize| Slot::new(words[at] as u16, words[at + 1] as u16, words[at + 2] as u16);
         Value {
             count: words[0] as u16,
             slots: [1, 4, 7, 10, 13, 16].map(slot),
@@ -264,10 +269,18 @@ fn take<'a>(length: usize, from: &mut &'a [u8]) -> Option<&'a [u8]> {
 
 fn take_wide(length: usize, from: &mut &[u8]) -> Option<Vec<u64>> {
     let numbers = take(8 * length, from)?.chunks_exact(8);
-    Some(numbers.map(|b| u64::from_le_bytes(b.try_into().unwrap())).collect())
+    Some(
+        numbers
+            .map(|b| u64::from_le_bytes(b.try_into().unwrap()))
+            .collect(),
+    )
 }
 
 fn take_narrow(length: usize, from: &mut &[u8]) -> Option<Vec<u32>> {
     let numbers = take(4 * length, from)?.chunks_exact(4);
-    Some(numbers.map(|b| u32::from_le_bytes(b.try_into().unwrap())).collect())
+    Some(
+        numbers
+            .map(|b| u32::from_le_bytes(b.try_into().unwrap()))
+            .collect(),
+    )
 }

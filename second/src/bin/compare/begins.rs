@@ -78,7 +78,13 @@ fn values() -> Vec<Request> {
             }
         }
     }
-    for (a, b, c) in [(12, 12, 8), (12, 12, 9), (12, 8, 12), (8, 12, 12), (12, 12, 12)] {
+    for (a, b, c) in [
+        (12, 12, 8),
+        (12, 12, 9),
+        (12, 8, 12),
+        (8, 12, 12),
+        (12, 12, 12),
+    ] {
         let slots = [a, b, c].map(|length| Slot::new(length, 0, 0));
         values.push(Value::of(&slots).with_quorum(2));
     }
@@ -86,10 +92,25 @@ fn values() -> Vec<Request> {
         let slots = [5, 5, 5, 5, 5, last].map(|length| Slot::new(length, 0, 0));
         values.push(Value::of(&slots).with_quorum(2));
     }
-    for quorum in [0, 1, 2, 3, 4, 1_024, 65_536, 65_537, 1 << 32, (1 << 32) + 1, u64::MAX] {
+    for quorum in [
+        0,
+        1,
+        2,
+        3,
+        4,
+        1_024,
+        65_536,
+        65_537,
+        1 << 32,
+        (1 << 32) + 1,
+        u64::MAX,
+    ] {
         values.push(Value::pair().with_quorum(quorum));
     }
-    values.into_iter().map(|value| begin(Set::e(), value)).collect()
+    values
+        .into_iter()
+        .map(|value| begin(Set::e(), value))
+        .collect()
 }
 
 /// A set with a fault in it, as often as not.

@@ -68,7 +68,10 @@ fn limits(random: &mut Random) -> Vec<Request> {
             }
         }
     }
-    joins.into_iter().map(|join| request(join, random)).collect()
+    joins
+        .into_iter()
+        .map(|join| request(join, random))
+        .collect()
 }
 
 /// A list that rises by steps of 1 to `step`.
@@ -124,7 +127,11 @@ fn random_join(random: &mut Random) -> Join {
         first,
         second,
         head: random.within(least, 13) as u16,
-        range: if random.once_in(20) { (high, low) } else { (low, high) },
+        range: if random.once_in(20) {
+            (high, low)
+        } else {
+            (low, high)
+        },
         room,
     }
 }

@@ -111,7 +111,11 @@ fn shared(stretch: &[u8], sequences: u64, random: &mut Random) -> Set {
 
 /// A template of 32 letters.
 pub fn deepest(high: u16) -> Value {
-    Value::of(&[Slot::new(12, 0, 0), Slot::new(12, 0, high), Slot::new(8, 0, high)])
+    Value::of(&[
+        Slot::new(12, 0, 0),
+        Slot::new(12, 0, high),
+        Slot::new(8, 0, high),
+    ])
 }
 
 pub fn relays(random: &mut Random) -> Vec<Request> {
@@ -124,14 +128,31 @@ pub fn relays(random: &mut Random) -> Vec<Request> {
     }
     for quorum in [2, 3] {
         let example = Value::of(&three).with_quorum(quorum);
-        requests.extend(relay(Set::worked_example(), example, 60, Grants::Few, random));
+        requests.extend(relay(
+            Set::worked_example(),
+            example,
+            60,
+            Grants::Few,
+            random,
+        ));
     }
     // 32 letters: the last motif of all is the run of Ts, the largest number.
-    let stretches = [vec![b'T'; 40], vec![b'A'; 40], random.letters(40, 4), random.letters(40, 4)];
+    let stretches = [
+        vec![b'T'; 40],
+        vec![b'A'; 40],
+        random.letters(40, 4),
+        random.letters(40, 4),
+    ];
     for stretch in &stretches {
         for high in [0, 2] {
             let set = shared(stretch, 4, random);
-            requests.extend(relay(set, deepest(high).with_quorum(4), 60, Grants::Few, random));
+            requests.extend(relay(
+                set,
+                deepest(high).with_quorum(4),
+                60,
+                Grants::Few,
+                random,
+            ));
         }
     }
     // Only empty sequences, and some among others.
@@ -140,11 +161,23 @@ pub fn relays(random: &mut Random) -> Vec<Request> {
         requests.extend(relay(set, value, 9, Grants::Single, random));
     }
     let gaps = Set::of(&["", "ACGT", "", "", "GTAC", ""]);
-    requests.extend(relay(gaps, Value::pair().with_quorum(2), 60, Grants::Few, random));
+    requests.extend(relay(
+        gaps,
+        Value::pair().with_quorum(2),
+        60,
+        Grants::Few,
+        random,
+    ));
     // As many sequences and letters as there may be.
     let full: Vec<Vec<u8>> = (0..1_024).map(|_| random.letters(64, 3)).collect();
     let one = Value::of(&[Slot::new(2, 0, 0), Slot::new(1, 0, 255)]);
-    requests.extend(relay(Set::of(&full), one.with_quorum(1_000), 4, Grants::Few, random));
+    requests.extend(relay(
+        Set::of(&full),
+        one.with_quorum(1_000),
+        4,
+        Grants::Few,
+        random,
+    ));
 
     for round in 0..40 {
         let (alphabet, longest) = (random.within(2, 4), random.pick(&[10, 30, 80]));
@@ -152,7 +185,11 @@ pub fn relays(random: &mut Random) -> Vec<Request> {
         let (most, widest) = (random.within(1, 6), random.pick(&[0, 2, 10, 255]));
         let quorum = random.within(1, set.lengths.len() as u64);
         let value = random.template(most, widest).with_quorum(quorum);
-        let grants = if round % 2 == 0 { Grants::Few } else { Grants::Any };
+        let grants = if round % 2 == 0 {
+            Grants::Few
+        } else {
+            Grants::Any
+        };
         requests.extend(relay(set, value, 25, grants, random));
     }
     requests
@@ -172,7 +209,11 @@ pub fn underway(set: &Rc<Set>, value: Value, random: &mut Random) -> Option<Valu
 
 /// A search value with up to three faults.
 fn forged(mut value: Value, random: &mut Random) -> Value {
-    let letters = value.slots.iter().map(|slot| u32::from(slot.length)).sum::<u32>() as u8;
+    let letters = value
+        .slots
+        .iter()
+        .map(|slot| u32::from(slot.length))
+        .sum::<u32>() as u8;
     for _ in 0..random.below(4) {
         let at = random.below(6) as usize;
         match random.below(12) {
@@ -181,13 +222,26 @@ fn forged(mut value: Value, random: &mut Random) -> Value {
             2 => value.slots[at].low = random.pick(&[0, 1, 255, 256]),
             3 => value.slots[at].high = random.pick(&[0, 1, 255, 256]),
             4 => value.quorum = random.edge(),
-            5 => value.sequences = value.sequences.wrapping_add(random.pick(&[1, u32::MAX, 65_536])),
-            6 => value.letters = value.letters.wrapping_add(random.pick(&[1, u32::MAX, 65_536])),
+            5 => {
+                value.sequences = value
+                    .sequences
+                    .wrapping_add(random.pick(&[1, u32::MAX, 65_536]))
+            }
+            6 => {
+                value.letters = value
+                    .letters
+                    .wrapping_add(random.pick(&[1, u32::MAX, 65_536]))
+            }
             7 => value.place = random.pick(&[0, 1, letters, letters.wrapping_add(1), 32, 33, 255]),
             8 => value.number = random.edge(),
             // The place rule's edge: the last number below 4 to the power of
             // the place, and the first that is not.
-            9 => value.number = 4u64.checked_pow(value.place.into()).unwrap_or(0).wrapping_sub(1),
+            9 => {
+                value.number = 4u64
+                    .checked_pow(value.place.into())
+                    .unwrap_or(0)
+                    .wrapping_sub(1)
+            }
             10 => value.number = 4u64.checked_pow(value.place.into()).unwrap_or(u64::MAX),
             _ => value.number = random.below(4u64.saturating_pow(value.place.into())),
         }

@@ -74,7 +74,11 @@ impl Program {
                         "the program differs from the second one in {difference}\n{request}"
                     ));
                 }
-                let refusal = if answer.outcome() == REFUSED { answer.refusal() } else { 0 };
+                let refusal = if answer.outcome() == REFUSED {
+                    answer.refusal()
+                } else {
+                    0
+                };
                 self.seen.0[request.kind as usize][refusal as usize] += 1;
             }
             if !rest.is_empty() {

@@ -88,7 +88,11 @@ impl Random {
             let length = self.within(1, longest);
             let low = self.below(3).min(widest);
             let high = self.within(low, widest);
-            let range = if slots.is_empty() { (0, 0) } else { (low, high) };
+            let range = if slots.is_empty() {
+                (0, 0)
+            } else {
+                (low, high)
+            };
             slots.push(Slot::new(length as u16, range.0 as u16, range.1 as u16));
             left -= length;
         }

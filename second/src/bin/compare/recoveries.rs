@@ -45,7 +45,17 @@ fn around(set: &Rc<Set>, value: Value, motif: u64, random: &mut Random) -> Vec<R
     for first_row in first_rows {
         let all = length.saturating_sub(first_row).min(50) * row;
         let rooms = match first_row {
-            0 => vec![0, 1, row - 1, row, row + 1, 2 * row - 1, 2 * row, all, all + 7],
+            0 => vec![
+                0,
+                1,
+                row - 1,
+                row,
+                row + 1,
+                2 * row - 1,
+                2 * row,
+                all,
+                all + 7,
+            ],
             1 => vec![row - 1, row, all],
             _ => vec![all],
         };
@@ -80,7 +90,10 @@ fn motifs(set: &Set, value: &Value, random: &mut Random) -> Vec<u64> {
             let (m, s, w) = (&mut found[..], &mut supports[..], &mut weights[..]);
             let leg = second::leg(lent, lengths, &begun, 5_000, m, s, w);
             found.truncate(leg.rows);
-            (0..4).filter(|_| leg.rows > 0).map(|_| random.pick(&found)).collect()
+            (0..4)
+                .filter(|_| leg.rows > 0)
+                .map(|_| random.pick(&found))
+                .collect()
         }
         Err(_) => Vec::new(),
     };
@@ -95,7 +108,12 @@ fn motifs(set: &Set, value: &Value, random: &mut Random) -> Vec<u64> {
 /// written; with six components at the widest gaps, about 10 to the 15th.
 fn long_lists(random: &mut Random) -> Vec<Request> {
     let mut requests = Vec::new();
-    for (letters, components, widest) in [(300, 3, 100), (2_000, 3, 255), (2_000, 6, 255), (60_000, 2, 255)] {
+    for (letters, components, widest) in [
+        (300, 3, 100),
+        (2_000, 3, 255),
+        (2_000, 6, 255),
+        (60_000, 2, 255),
+    ] {
         let set = Rc::new(Set::of(&[vec![b'A'; letters], vec![b'A'; 40]]));
         let mut slots = vec![Slot::new(1, 0, widest); components];
         slots[0].high = 0;
@@ -133,7 +151,11 @@ pub fn requests(random: &mut Random) -> Vec<Request> {
         let set = Rc::new(faulty_set(random));
         let value = faulty_value(random, &set);
         let asked = Recovery {
-            motif: if random.once_in(3) { random.edge() } else { random.below(20) },
+            motif: if random.once_in(3) {
+                random.edge()
+            } else {
+                random.below(20)
+            },
             first_row: random.below(6),
             room: random.below(30),
         };

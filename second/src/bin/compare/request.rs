@@ -252,7 +252,11 @@ impl fmt::Display for Request {
         if self.kind == Kind::Join {
             writeln!(out, "  first list {}", listed(&self.set.lengths))?;
             writeln!(out, "  second list {}", listed(&self.partners))?;
-            writeln!(out, "  head {}, range {}, {}", self.head, self.low, self.high)?;
+            writeln!(
+                out,
+                "  head {}, range {}, {}",
+                self.head, self.low, self.high
+            )?;
             return writeln!(out, "  table {}", listed(&self.rows));
         }
         write!(out, "{}{}", self.set, self.value)?;

@@ -131,7 +131,11 @@ pub fn restores(random: &mut Random) -> Vec<Request> {
             let mut changed = bytes.clone();
             for _ in 0..random.within(1, 3) {
                 let at = a_byte(&changed, random);
-                changed[at] = if random.once_in(2) { random.below(14) as u8 } else { random.any() as u8 };
+                changed[at] = if random.once_in(2) {
+                    random.below(14) as u8
+                } else {
+                    random.any() as u8
+                };
             }
             requests.push(restore(&set, changed));
         }

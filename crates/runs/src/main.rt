@@ -1,24 +1,10 @@
-// What a new search answers on each side of every limit: accepted, or a refusal's number and place.
+// The facts that are run: each side of every limit, every byte as a letter, only empty sequences, and the worked example of
+// Zhang and Zaki. What each new search answers is printed, and where it is accepted a first leg of it.
+mod tell;
+
 use libc::STDOUT_FILENO;
-use rules::Begun;
 use rules::Component;
 use rules::Template;
-
-// Writes one answer on a line.
-fn tell(answer: Begun) {
-    match answer {
-        Begun::Search(_) => {
-            io::write_all(STDOUT_FILENO, b": accepted\n");
-        }
-        Begun::Refused(why) => {
-            io::write_all(STDOUT_FILENO, b": refused ");
-            io::print_decimal(STDOUT_FILENO, why.number());
-            io::write_all(STDOUT_FILENO, b" ");
-            io::print_decimal(STDOUT_FILENO, why.place());
-            io::write_all(STDOUT_FILENO, b"\n");
-        }
-    }
-}
 
 // A template of the first of six components, of which the last three have one letter and no gap.
 fn template(count: u16, c1: Component, c2: Component, c3: Component) -> Template {
@@ -43,27 +29,29 @@ fn pair() -> Template {
 // So many empty sequences.
 fn sequences(what: &[u8], lengths: &[u32]) {
     io::write_all(STDOUT_FILENO, what);
-    tell(search::begin(b"", lengths, pair(), 1));
+    tell::begun(b"", lengths, search::begin(b"", lengths, pair(), 1));
 }
 
 // One sequence of these letters.
 fn letters(what: &[u8], buffer: &[u8], length: u32) {
     io::write_all(STDOUT_FILENO, what);
     let lengths = [length];
-    tell(search::begin(buffer, &lengths, pair(), 1));
+    tell::begun(buffer, &lengths, search::begin(buffer, &lengths, pair(), 1));
 }
 
 // Three sequences, of the lengths given.
 fn lengths(what: &[u8], a: u32, b: u32, c: u32) {
     io::write_all(STDOUT_FILENO, what);
     let lengths = [a, b, c];
-    tell(search::begin(b"ACGTACAGGTAT", &lengths, pair(), 2));
+    let answer = search::begin(b"ACGTACAGGTAT", &lengths, pair(), 2);
+    tell::begun(b"ACGTACAGGTAT", &lengths, answer);
 }
 
 fn quorum(what: &[u8], quorum: u64) {
     io::write_all(STDOUT_FILENO, what);
     let lengths = [5, 5, 2];
-    tell(search::begin(b"ACGTACAGGTAT", &lengths, pair(), quorum));
+    let answer = search::begin(b"ACGTACAGGTAT", &lengths, pair(), quorum);
+    tell::begun(b"ACGTACAGGTAT", &lengths, answer);
 }
 
 // Three components of the lengths given, with no gap.
@@ -76,7 +64,8 @@ fn components(what: &[u8], count: u16, a: u16, b: u16, c: u16) {
         Component::new(b, 0, 0),
         Component::new(c, 0, 0),
     );
-    tell(search::begin(b"ACGTACAGGTAT", &lengths, t, 2));
+    let answer = search::begin(b"ACGTACAGGTAT", &lengths, t, 2);
+    tell::begun(b"ACGTACAGGTAT", &lengths, answer);
 }
 
 // Two components of one letter, with the range before each.
@@ -89,7 +78,8 @@ fn gap(what: &[u8], l1: u16, u1: u16, l2: u16, u2: u16) {
         Component::new(1, l2, u2),
         Component::none(),
     );
-    tell(search::begin(b"ACGTACAGGTAT", &lengths, t, 2));
+    let answer = search::begin(b"ACGTACAGGTAT", &lengths, t, 2);
+    tell::begun(b"ACGTACAGGTAT", &lengths, answer);
 }
 
 // Each byte, after a letter.
@@ -99,7 +89,11 @@ fn bytes() {
         io::write_all(STDOUT_FILENO, b"A and byte ");
         io::print_decimal(STDOUT_FILENO, b as u64);
         let buffer = [b'A', b];
-        tell(search::begin(&buffer, &lengths, pair(), 1));
+        tell::begun(
+            &buffer,
+            &lengths,
+            search::begin(&buffer, &lengths, pair(), 1),
+        );
     }
 }
 
@@ -117,6 +111,26 @@ fn many_sequences() {
     sequences(b"1025 sequences", &more);
     let none = [0u32; 0];
     sequences(b"0 sequences", &none);
+}
+
+// Zhang and Zaki's example, their Table 1: four sequences, NNN[0,3]NN[1,3]NNNN, quorum 2; and every occurrence of its motif
+// CCG[0,3]TA[1,3]GAAC, whose number is 93313.
+fn example() {
+    let letters = b"CCGTACCGAACCTCAAACCGTTATAGGAACCATTTATGGAACCATCTTTAACGGATCCCTTT";
+    let lengths = [17, 17, 14, 14];
+    let t = template(
+        3,
+        Component::new(3, 0, 0),
+        Component::new(2, 0, 3),
+        Component::new(4, 1, 3),
+    );
+    io::write_all(STDOUT_FILENO, b"example");
+    let answer = search::begin(letters, &lengths, t, 2);
+    tell::begun(letters, &lengths, answer);
+    let mut out = [0u32; 16];
+    io::write_all(STDOUT_FILENO, b"example, motif 93313");
+    let recovered = recovery::recover(letters, &lengths, t, 93313, 0, &mut out);
+    tell::recovered(recovered, &out);
 }
 
 fn main() {
@@ -150,4 +164,5 @@ fn main() {
     quorum(b"quorum 3 of 3", 3);
     quorum(b"quorum 4 of 3", 4);
     bytes();
+    example();
 }

@@ -1,8 +1,8 @@
 -- `bytes` goes up through the bytes, and so ends.
 use Prim.Native.Nat.{_-_, _≤_}
 use borrow.Author.Needs.{needs}
-use Rattle.begins.proofs.bytes.Statement.{statement}
-use Rattle.begins.proofs.bytes.Tie as tie
+use Rattle.runs.proofs.bytes.Statement.{statement}
+use Rattle.runs.proofs.bytes.Tie as tie
 
 abbrev Inv-loop : tie.InvT-loop
 Inv-loop lengths b₀ t4 b = b ≤ 255
@@ -25,6 +25,12 @@ cast-print-decimal c = search needs
 print-decimal-requires : tie.Need-print-decimal-requires Inv-loop μ-loop
 print-decimal-requires c κs = search needs
 
+slice-aggregate-begun : tie.Need-slice-aggregate-begun Inv-loop μ-loop
+slice-aggregate-begun c = search needs
+
+slice-aggregate-begun-2 : tie.Need-slice-aggregate-begun-2 Inv-loop μ-loop
+slice-aggregate-begun-2 c = search needs
+
 slice-aggregate-begin : tie.Need-slice-aggregate-begin Inv-loop μ-loop
 slice-aggregate-begin c = search needs
 
@@ -37,8 +43,8 @@ pair-requires c κs = search needs
 begin-requires : tie.Need-begin-requires Inv-loop μ-loop
 begin-requires c κs = search needs
 
-tell-requires : tie.Need-tell-requires Inv-loop μ-loop
-tell-requires c κs = search needs
+begun-requires : tie.Need-begun-requires Inv-loop μ-loop
+begun-requires c κs = search needs
 
 add-b : tie.Need-add-b Inv-loop μ-loop
 add-b c = search needs
@@ -66,11 +72,13 @@ bytes-spec =
     write-all-requires
     cast-print-decimal
     print-decimal-requires
+    slice-aggregate-begun
+    slice-aggregate-begun-2
     slice-aggregate-begin
     slice-aggregate-begin-2
     pair-requires
     begin-requires
-    tell-requires
+    begun-requires
     add-b
     loop-less
     loop-again
