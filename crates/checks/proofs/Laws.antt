@@ -1,33 +1,23 @@
 -- Laws that the checks' loops lean on: a sum from one index to the next, a power of the base one letter at a time, and how
 -- far the search for a bad component is.
 use mathlib.Core.Bool.{Bool, true, false}
-use mathlib.Core.List.{List, [], _∷_}
+use mathlib.Core.List.{List}
 use mathlib.Core.Path.{_≡_, _∙_, refl, sym}
 use Prim.Native.Nat.{ℕ, zero, suc, _+_, _-_, _/_, _^_, _≤_, _<_, min}
-use native.Mathlib.Nat.{pow-suc, zero-min, min-zero, suc-min-suc}
-use native.Mathlib.Numerals.{add-one, sub-one}
+use native.Mathlib.Nat.{pow-suc}
+use native.Mathlib.Numerals.{sub-one}
 use native.Mathlib.Omega.{arith}
 use lib.Dec.{ltb, eqb}
-use lib.ListN.{length, getD, take, drop, drop-of-length-le}
-use lib.Seq.{drop-cons}
+use lib.ListN.{length, getD, take, drop}
 use borrow.Author.Tests.{ltb-true, ltb-false, lt-ltb, le-ltb, eq-eqb, ne-eqb}
 use Rattle.rules.specs.Limits.{Letter-BASES, Template-COMPONENTS}
-use Rattle.rules.specs.Lists.{sum}
 use Rattle.rules.specs.Refusals.{first-bad}
 use Rattle.rules.specs.Template.{slots, none, components}
 use Rattle.rules.specs.Told.{fine, refused}
 use Rattle.rules.specs.declared.Component.{Component}
 use Rattle.rules.specs.declared.Template.{Template}
+use Rattle.rules.proofs.Tables.{take-min}
 use Rattle.rules.proofs.Verdicts.{here-in, later-in, over-in}
-
--- SUMS, from index i on
-pub sum-more : (xs : List ℕ) (i : ℕ) → i < length xs → sum (drop i xs) ≡ getD xs i 0 + sum (drop (i + 1) xs)
-unfolding sum
-sum-more xs i h = rw (add-one, drop-cons xs i 0 h)
-
-pub sum-over : (xs : List ℕ) (i : ℕ) → length xs ≤ i → sum (drop i xs) ≡ 0
-unfolding sum
-sum-over xs i h = rw (drop-of-length-le xs h)
 
 -- what is left of a number once another is taken away says whether they are the same
 pub same-left : (a s l : ℕ) → a + s ≡ l → eqb s l ≡ eqb a 0
@@ -48,10 +38,6 @@ none-left zero j e = rw e
 none-left (suc x) j e = rw e (le-ltb (suc x) 1 (omega arith) ∙ sym (ne-eqb (suc x) 0 (λ f. omega arith)))
 
 -- A TEMPLATE'S COMPONENTS: as many slots as it counts, and no more than there are
-take-least : {A : Type 0} (n : ℕ) (l : List A) → take (min n (length l)) l ≡ take n l
-take-least zero l = rw zero-min
-take-least (suc n) [] = rw min-zero
-take-least (suc n) (x ∷ l) = rw (suc-min-suc, take-least n l)
 
 -- how far a search for the first bad component is: of the first h slots, i are not bad
 pub record Passed (n : ℕ) (bad : ℕ → Component → Bool) (cs : List Component) (h i : ℕ) : Type 0 where
@@ -66,7 +52,7 @@ module _ (n : ℕ) (bad : ℕ → Component → Bool) (t : Template) {cs : List 
 
   all : first-bad n bad 1 (take h cs) ≡ first-bad n bad 1 (components t)
   unfolding components
-  all = rw (s, e, take-least (t .count) (slots t))
+  all = rw (s, e, take-min (t .count) (slots t))
 
   pub found : (d : Component) (i : ℕ) → Passed n bad cs h i → i < h → bad (i + 1) (getD cs i d) ≡ true → refused n (i + 1) ≡ first-bad n bad 1 (components t)
   found d i p l b =

@@ -14,7 +14,8 @@ use Rattle.descent.specs.Buffer.{Buffer, buffer, emit, emits}
 use Rattle.descent.specs.Paths.{flag, handed}
 use Rattle.descent.specs.declared.Progress.{Progress}
 use Rattle.descent.proofs.Buffer.{emits-none, emits-one, emits-full, after-none, after-one, after-more}
-use Rattle.descent.proofs.Paths.{paths-closed, paths-last, paths-more, left-cons, left-none, going, going-done}
+use Rattle.rules.proofs.Components.{components-more, components-none}
+use Rattle.descent.proofs.Paths.{paths-closed, paths-last, paths-more, going, going-done}
 use Rattle.rules.specs.Limits.{Template-COMPONENTS}
 use Rattle.rules.specs.Occurrence.{reach}
 use Rattle.rules.specs.Template.{slots, none, components}
@@ -48,7 +49,7 @@ module _ (t : Template) (few : t .count ≤ Template-COMPONENTS) (n : ℕ) (flag
     last {r} {row′} q k l =
         let z : row′ ≡ take (suc c) row ++ (p ∷ []) = q ∙ rw (← l, add-one (c + 1)) (row-more row c p h) in
         let w : length row′ ≡ suc (t .count) = rw q (length-take-le (t .count + 1) (set row (c + 1) p) (rw (length-set row (c + 1) p) (omega arith)) ∙ add-one (t .count)) in
-        let f : drop c (components t) ≡ getD (slots t) c none ∷ [] = left-cons t few c (omega arith) ∙ ap (λ l. getD (slots t) c none ∷ l) (left-none t few (suc c) (omega arith)) in
+        let f : drop c (components t) ≡ getD (slots t) c none ∷ [] = components-more t few c (omega arith) ∙ ap (λ l. getD (slots t) c none ∷ l) (components-none t few (suc c) (omega arith)) in
         k ∙ rw (w, z, paths-last n flags c p (getD (slots t) c none) f flagged, after-one (take (suc c) row) (p ∷ [])) (sym (emits-one (suc (t .count)) (take (suc c) row ++ (p ∷ [])) s))
 
     -- of any other component, what stands under the next starts, which lie from one position to another
@@ -68,8 +69,8 @@ module _ (t : Template) (few : t .count ≤ Template-COMPONENTS) (n : ℕ) (flag
           let x = getD (slots t) c none in
           let y = getD (slots t) (c + 1) none in
           let k : to + 1 - from ≡ y .high + 1 - y .low = omega arith in
-          let q : drop c (components t) ≡ x ∷ drop (c + 1) (components t) = rw (add-one c) (left-cons t few c (omega arith)) in
-          rw (k, row-more row c p h, paths-more n flags c p x y (drop (suc (c + 1)) (components t)) q (left-cons t few (c + 1) l) flagged, after-more (take (suc c) row) p, add-one c)
+          let q : drop c (components t) ≡ x ∷ drop (c + 1) (components t) = rw (add-one c) (components-more t few c (omega arith)) in
+          rw (k, row-more row c p h, paths-more n flags c p x y (drop (suc (c + 1)) (components t)) q (components-more t few (c + 1) l) flagged, after-more (take (suc c) row) p, add-one c)
 
       -- once each of them has had its turn, all is handed out
       pub ended : {q₀ q end : ℕ} {s′ : Buffer} → q₀ ≡ from → end ≡ min n to + 1 → end ≤ q → on q (to + 1) s′ ≡ on q₀ (to + 1) s → s′ ≡ handed t n flags row c p s

@@ -11,7 +11,8 @@ use lib.ListN.{length, drop, getD, length-take, length-drop}
 use borrow.Author.Tests.{ltb-true, ltb-false}
 use Rattle.descent.specs.Buffer.{Buffer, emits, after}
 use Rattle.descent.specs.Paths.{flag, paths, listed, Flagged}
-use Rattle.descent.proofs.Paths.{flag-zero, flag-past, components-count, components-at}
+use Rattle.rules.proofs.Components.{components-length, components-some}
+use Rattle.descent.proofs.Paths.{flag-zero, flag-past}
 use Rattle.rules.specs.Limits.{Letter-BASES}
 use Rattle.rules.specs.Lists.{run, if, each, some?, sum}
 use Rattle.rules.specs.Motif.{spell}
@@ -23,7 +24,7 @@ use Rattle.rules.specs.declared.Component.{Component}
 use Rattle.rules.specs.declared.Template.{Template}
 use Rattle.rules.proofs.Lists.{each-same}
 use Rattle.rules.proofs.Occurs.{Worded, parts-worded}
-use Rattle.rules.proofs.Prefix.{length-spell}
+use Rattle.rules.proofs.Spelling.{length-spell}
 use Rattle.rules.proofs.Stands.{stands-is}
 
 -- ---- the parts of a motif have the lengths and ranges of the components
@@ -119,14 +120,11 @@ module _ (s flags : List ℕ) where
 module _ {t : Template} (sound : SoundTemplate t) (m : ℕ) where
   parts-shaped : Shaped (components t) (parts t (size t) m)
   unfolding parts size
-  parts-shaped = cut-shaped (components t) (spell Letter-BASES (size t) m) some (sym (length-spell Letter-BASES (size t) m))
-    where
-      some : (i : ℕ) → i < length (components t) → 1 ≤ (getD (components t) i none) .length
-      some i h = let l : i < t .count = rw (components-count t (sound .few)) at h in rw (components-at t (sound .few) i l) (sound .each i l .some)
+  parts-shaped = cut-shaped (components t) (spell Letter-BASES (size t) m) (components-some sound) (sym (length-spell Letter-BASES (size t) m))
 
   -- a part for each component
   pub parts-count : length (parts t (size t) m) ≡ t .count
-  parts-count = shaped-length (components t) (parts t (size t) m) parts-shaped ∙ components-count t (sound .few)
+  parts-count = shaped-length (components t) (parts t (size t) m) parts-shaped ∙ components-length t (sound .few)
 
   module _ (s flags : List ℕ) (flagged : Flagged (parts t (size t) m) s flags 0) where
     -- under each first start stand the occurrences that begin there

@@ -7,18 +7,15 @@ use Prim.Native.Nat.{ℕ, zero, suc, min, _+_, _-_, _*_, _≤_, _<_}
 use native.Mathlib.Numerals.{add-one}
 use native.Mathlib.Omega.{arith}
 use lib.Dec.{ltb, eqb}
-use lib.ListN.{length, drop, getD, drop-of-length-le}
-use lib.Seq.{drop-cons, getD-take, length-take-le}
+use lib.ListN.{length, getD}
 use borrow.Author.Tests.{le-leb, lt-leb, ltb-true, ltb-false}
 use Rattle.descent.specs.Buffer.{Buffer, emits, after}
 use Rattle.descent.specs.Paths.{flag, paths}
 use Rattle.descent.proofs.Buffer.{emits-append, after-none, after-append}
-use Rattle.rules.specs.Limits.{SequenceSet-LETTERS, Template-COMPONENTS}
+use Rattle.rules.specs.Limits.{SequenceSet-LETTERS}
 use Rattle.rules.specs.Lists.{run, each}
 use Rattle.rules.specs.Occurrence.{reach}
-use Rattle.rules.specs.Template.{slots, none, components}
 use Rattle.rules.specs.declared.Component.{Component}
-use Rattle.rules.specs.declared.Template.{Template}
 
 -- ---- flags
 
@@ -59,26 +56,6 @@ each-past : (n : ℕ) (flags : List ℕ) (xs : List Component) (c q m : ℕ) →
 unfolding each run
 each-past n flags xs c q zero h = refl
 each-past n flags xs c q (suc m) h = rw (paths-closed n flags c q xs (flag-past n flags c q h)) (each-past n flags xs c (suc q) m (omega arith))
-
--- ---- the components that are left
-
-module _ (t : Template) (few : t .count ≤ Template-COMPONENTS) where
-  -- as many as the template counts, those of the slots
-  pub components-count : length (components t) ≡ t .count
-  unfolding components
-  components-count = length-take-le (t .count) (slots t) few
-
-  pub components-at : (c : ℕ) → c < t .count → getD (components t) c none ≡ getD (slots t) c none
-  unfolding components
-  components-at c l = getD-take (t .count) (slots t) c none l
-
-  -- from c on: that one and those after it
-  pub left-cons : (c : ℕ) → c < t .count → drop c (components t) ≡ getD (slots t) c none ∷ drop (suc c) (components t)
-  left-cons c l = rw (drop-cons (components t) c none (rw components-count l), components-at c l)
-
-  -- past the last there is none
-  pub left-none : (c : ℕ) → t .count ≤ c → drop c (components t) ≡ []
-  left-none c l = drop-of-length-le (components t) {i = c} (rw components-count l)
 
 -- ---- one start after the other
 

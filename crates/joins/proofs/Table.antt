@@ -1,14 +1,15 @@
 -- A table that positions are written to, one after another: it holds those kept so far, and past them what was there.
 use mathlib.Core.Path.{_≡_, refl, sym, ap, _∙_}
 use mathlib.Core.Bool.{Bool, true, false}
-use mathlib.Core.List.{List, [], _∷_, _++_, append-assoc, append-nil}
+use mathlib.Core.List.{List, [], _∷_, _++_, append-nil}
 use Prim.Native.Nat.{ℕ, suc, _+_, _≤_, _<_}
 use native.Mathlib.Numerals.{add-one}
 use native.Mathlib.Omega.{arith}
 use lib.ListN.{length, take, getD, set, length-append}
-use lib.Seq.{drop-cons, take-suc, take-all, set-append-seam, length-take-le}
+use lib.Seq.{take-suc, take-all, length-take-le}
 use Rattle.rules.specs.Lists.{if, keep, put}
 use Rattle.rules.proofs.Lists.{keep-append}
+use Rattle.rules.proofs.Tables.{put-more}
 
 -- no more are kept than there are
 keep-few : (f : ℕ → Bool) (xs : List ℕ) → length (keep f xs) ≤ length xs
@@ -19,12 +20,6 @@ keep-few f (x ∷ xs) = go (f x) (keep-few f xs)
     go : (b : Bool) → length (keep f xs) ≤ length xs → length (if b (x ∷ keep f xs) (keep f xs)) ≤ suc (length xs)
     go true h = omega arith
     go false h = omega arith
-
--- one more, written next to those that stand in a table
-put-next : (ks out : List ℕ) (v : ℕ) → length ks < length out → set (put ks out) (length ks) v ≡ put (ks ++ (v ∷ [])) out
-unfolding put
-put-next ks out v h =
-    rw (drop-cons out (length ks) 0 h, length-append ks (v ∷ []), add-one) (set-append-seam ks _ _ v ∙ sym (append-assoc ks (v ∷ []) _))
 
 -- of the first i of a list n pass a test, and a table that was `out` holds these
 pub record Kept (f : ℕ → Bool) (xs : List ℕ) (i : ℕ) (out table : List ℕ) (n : ℕ) : Type 0 where
@@ -54,7 +49,7 @@ module _ (f : ℕ → Bool) (xs : List ℕ) (i : ℕ) (out : List ℕ) where
       go : (b : Bool) → keep f (take (i + 1) xs) ≡ keep f (take i xs) ++ if b (p ∷ []) [] → m ≡ if b (n + 1) n → later ≡ if b (set table n p) table → Kept f xs (i + 1) out later m
       go true e em el =
           let l : length (keep f (take i xs)) < length out = omega (arith, keep-few f (take i xs), length-take-le i xs (omega arith)) in
-          record { number = rw (e, length-append) (omega (arith, k .number)); written = rw e (el ∙ rw (k .written, k .number) (put-next (keep f (take i xs)) out p l)) }
+          record { number = rw (e, length-append) (omega (arith, k .number)); written = rw e (el ∙ rw (k .written, k .number) (put-more (keep f (take i xs)) out p l)) }
       go false e em el = record { number = rw (e, append-nil) (em ∙ k .number); written = rw (e, append-nil) (el ∙ k .written) }
 
   -- past the end of the list, all that pass the test are kept

@@ -1,6 +1,6 @@
 -- Whether a test holds somewhere on a run of numbers, and so whether the lists made of such a run have a member.
 use mathlib.Core.Bool.{Bool, true, false, false≢true}
-use mathlib.Core.List.{List, [], _∷_, _++_, map}
+use mathlib.Core.List.{List, [], _∷_, _++_}
 use mathlib.Core.Logic.{_⊎_, inl, inr, ⊎-elim}
 use mathlib.Core.Path.{_≡_, refl, sym, ap, _∙_}
 use Prim.Native.Nat.{ℕ, zero, suc, _+_, _<_}
@@ -74,12 +74,6 @@ some-append : {A : Type 0} (xs ys : List A) → some? (xs ++ ys) ≡ if (some? x
 unfolding some?
 some-append [] ys = refl
 some-append (x ∷ xs) ys = refl
-
--- what is made of each member is a member
-pub some-map : {A B : Type 0} (f : A → B) (xs : List A) → some? (map f xs) ≡ some? xs
-unfolding some?
-some-map f [] = refl
-some-map f (x ∷ xs) = refl
 
 -- a list that is there only if a test holds
 pub some-if : {A : Type 0} (b : Bool) (xs : List A) → some? (if b xs []) ≡ if b (some? xs) false

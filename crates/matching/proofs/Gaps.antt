@@ -10,9 +10,9 @@ use native.Mathlib.Omega.{arith}
 use lib.Dec.{eqb, leb, leb·suc-suc, leb·suc-zero}
 use lib.ListN.{length, take, drop, getD, drop-of-length-le}
 use lib.Seq.{take-length}
-use Rattle.rules.specs.Lists.{run, if, sum}
-use Rattle.matching.specs.Flags.{over, ago, recent, near, opened}
-use Rattle.matching.proofs.Over.{over-all}
+use Rattle.rules.specs.Lists.{run, if, sum, over}
+use Rattle.matching.specs.Flags.{ago, recent, near, opened}
+use Rattle.rules.proofs.Over.{over-all}
 
 module _ (ks : List ℕ) where
   ago-next : (o d : ℕ) → ago ks (suc o) (suc d) ≡ ago ks o d

@@ -11,6 +11,7 @@ use lib.Count.{ones, onesIn, ones-step}
 use lib.ListN.{length, getD, set, drop, length-append, drop-of-length-le}
 use lib.Pow.{shl-exact}
 use lib.Seq.{drop-cons, set-append-left, set-getD}
+use Rattle.rules.proofs.Tables.{sum-append}
 use Rattle.rules.specs.Lists.{sum}
 use Rattle.matching.specs.Flags.{bit}
 use Rattle.matching.specs.Marks.{digits, held}
@@ -74,11 +75,6 @@ module _ (ws : List ℕ) (i : ℕ) (h : i < 64 * length ws) (free : getD (held w
       rw (z, or-zero-r, set-getD) (sym (ap (set (held ws) i) (sym free) ∙ set-getD (held ws) i 0))
 
 -- COUNTING
-pub sum-append : (xs ys : List ℕ) → sum (xs ++ ys) ≡ sum xs + sum ys
-unfolding sum
-sum-append [] ys = omega arith
-sum-append (x ∷ xs) ys = omega (arith, sum-append xs ys)
-
 ones-zero : 0 ≡ ones 0
 unfolding ones onesIn
 ones-zero = refl

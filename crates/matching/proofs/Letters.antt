@@ -10,10 +10,10 @@ use lib.ListN.{length, take, drop, getD, replicate, length-take, drop-of-length-
 use lib.Seq.{drop-cons, drop-at, drop-length, getD-take, length-take-le}
 use borrow.Rule.Slice.PartMut.{midOf, putMid, mid-len, post-is}
 use Rattle.rules.proofs.Lists.{run-append}
-use Rattle.rules.specs.Lists.{run, if}
+use Rattle.rules.specs.Lists.{run, if, over}
 use Rattle.rules.specs.Occurrence.{front, stands}
-use Rattle.matching.specs.Flags.{over, kept-at, kept, matched}
-use Rattle.matching.proofs.Over.{map-same, map-one}
+use Rattle.matching.specs.Flags.{kept-at, kept, matched}
+use Rattle.rules.proofs.Over.{map-agree, map-one}
 
 module _ (x j : ℕ) (s ks : List ℕ) (o : ℕ) where
   letter-in : o + j < length s → stands (x ∷ []) s (suc (o + j)) ≡ eqb x (getD s (o + j) 0)
@@ -57,7 +57,7 @@ module _ (x j n : ℕ) (s ks : List ℕ) (e : n ≡ length s - j) (l : length ks
       let parts : run 0 n ++ run (0 + n) m ≡ run 0 (length s) = run-append 0 n m ∙ ap (run 0) (omega arith) in
       q
       ∙ rw (cleared, drop-at (take n ks) (replicate m 0) n (length-take-le n ks h))
-      (ap (λ (t : List ℕ). t ++ replicate m 0) (map-same _ f 0 n (λ o _ h. kept-front _ o (omega arith)))
+      (ap (λ (t : List ℕ). t ++ replicate m 0) (map-agree _ f 0 n (λ o _ h. kept-front _ o (omega arith)))
       ∙ ap (λ (t : List ℕ). map f (run 0 n) ++ t) (sym (map-one f 0 (0 + n) m (λ o h. sym (kept-out x j s ks o (omega arith)))))
       ∙ sym (map-append f (run 0 n) (run (0 + n) m))
       ∙ ap (map f) parts)

@@ -1,4 +1,3 @@
-pub mod Over
 pub mod Letters
 pub mod Gaps
 pub mod Left

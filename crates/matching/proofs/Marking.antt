@@ -8,14 +8,15 @@ use native.Mathlib.Numerals.{add-one}
 use native.Mathlib.Omega.{arith}
 use lib.ListN.{length, take, drop, getD, replicate}
 use lib.Seq.{drop-cons, drop-drop}
+use Rattle.rules.proofs.Tables.{sum-append}
 use Rattle.rules.proofs.Bound.{split-count}
-use Rattle.rules.specs.Lists.{run, keep, sum}
+use Rattle.rules.specs.Lists.{run, keep, sum, over}
 use Rattle.rules.specs.Sequences.{split}
 use Rattle.rules.specs.Template.{Part}
-use Rattle.matching.specs.Flags.{bit, over, last-starts, left?}
+use Rattle.matching.specs.Flags.{bit, last-starts, left?}
 use Rattle.matching.specs.Marks.{digits, held, left-marks, left-count}
-use Rattle.matching.proofs.Held.{sum-append}
-use Rattle.matching.proofs.Over.{over-keeps}
+use Rattle.matching.proofs.Held.{}
+use Rattle.rules.proofs.Over.{over-keeps}
 
 -- THE NEXT SEQUENCE. The sequences from number i on, from 0, are what the lengths from i on split off the letters from an offset on
 module _ (ns l : List ℕ) (i from : ℕ) (h : i < length ns) where

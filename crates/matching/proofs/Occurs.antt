@@ -12,11 +12,12 @@ use lib.Dec.{leb}
 use lib.ListN.{length, drop, drop-of-length-le}
 use borrow.Author.Tests.{le-leb, leb-true}
 use Rattle.rules.proofs.Occurs.{Worded}
+use Rattle.rules.proofs.Lists.{some-map}
 use Rattle.rules.specs.Lists.{if, run, each, some?}
 use Rattle.rules.specs.Occurrence.{front, stands, reach, starts, occurrences}
 use Rattle.rules.specs.Template.{Part}
 use Rattle.matching.specs.Flags.{matched, following, last-starts, left?}
-use Rattle.matching.proofs.Any.{any, both-true, true-both, both-one, same-truth, any-true, true-any, any-same, any-suc, some-map, some-if, some-each}
+use Rattle.matching.proofs.Any.{any, both-true, true-both, both-one, same-truth, any-true, true-any, any-same, any-suc, some-if, some-each}
 use Rattle.matching.proofs.Passes.{flagged, before, flagged-all, matched-flagged, opened-flagged, left-flagged}
 
 module _ (s : List ℕ) where

@@ -2,13 +2,14 @@
 -- leaves goes to the components after it.
 use mathlib.Core.List.{List, [], _∷_}
 use mathlib.Core.Path.{_≡_, refl, sym, ap, _∙_}
-use Prim.Native.Nat.{ℕ, zero, suc, _+_, _-_, _≤_, _<_, min}
-use native.Mathlib.Nat.{min-zero, suc-min-suc}
-use native.Mathlib.Numerals.{add-one, unary-clauses}
+use Prim.Native.Nat.{ℕ, suc, _+_, _-_, _≤_, _<_, min}
+use native.Mathlib.Numerals.{add-one}
 use native.Mathlib.Omega.{arith}
 use lib.ListN.{length, take, drop, getD, replicate, length-take, length-drop, drop-of-length-le}
 use lib.Seq.{drop-cons, drop-drop, length-take-le, getD-take}
-use Rattle.rules.specs.Template.{part, none, cut}
+use Rattle.rules.proofs.Components.{cut-some}
+use Rattle.rules.proofs.Tables.{take-min, drop-min}
+use Rattle.rules.specs.Template.{none, cut}
 use Rattle.rules.specs.declared.Component.{Component}
 use Rattle.matching.specs.Flags.{matched, opened, following, last-starts}
 
@@ -18,22 +19,6 @@ unfolding cut
 cut-none [] w h = refl
 cut-none (c ∷ cs) [] h = refl
 cut-none (c ∷ cs) (x ∷ w) h = absurd (omega arith)
-
-cut-cons : (c : Component) (cs : List Component) (w : List ℕ) → 0 < length w → cut (c ∷ cs) w ≡ part (c .low) (c .high) (take (c .length) w) ∷ cut cs (drop (c .length) w)
-unfolding cut
-cut-cons c cs [] h = absurd (omega arith)
-cut-cons c cs (x ∷ w) h = refl
-
--- of as many letters as a component has room for, as many as there are
-take-min : (n : ℕ) (w : List ℕ) → take (min n (length w)) w ≡ take n w
-take-min zero w = simp unary-clauses
-take-min (suc n) [] = rw min-zero
-take-min (suc n) (x ∷ w) = rw suc-min-suc (ap (λ (l : List ℕ). x ∷ l) (take-min n w))
-
-drop-min : (n : ℕ) (w : List ℕ) → drop (min n (length w)) w ≡ drop n w
-drop-min zero w = simp unary-clauses
-drop-min (suc n) [] = rw min-zero
-drop-min (suc n) (x ∷ w) = rw suc-min-suc (drop-min n w)
 
 -- what a component takes of the letters v, and what it leaves
 module _ (room : ℕ) (v : List ℕ) (n : ℕ) (e : n ≡ min room (length v)) where
@@ -56,7 +41,7 @@ unfolding last-starts
 first-cut [] w s n h l e q = absurd (omega arith)
 first-cut (c ∷ cs) w s n h l e q =
     let v = take (c .length) w in
-    rw (cut-cons c cs w l, q, taken (c .length) w n e, left (c .length) w n e)
+    rw (cut-some c cs w l, q, taken (c .length) w n e, left (c .length) w n e)
     (ap (λ (i : ℕ). following i (cut cs (drop (c .length) w)) s (matched v 0 s (replicate (length s) 1))) (as-long (c .length) w n e))
 
 -- the steps of a prefix w in a sequence s, for the first `count` of the components
@@ -86,7 +71,7 @@ module _ (all : List Component) (count : ℕ) (fits : count ≤ length all) (w s
         let e' : m ≡ min (c .length) (length v) = e ∙ ap (min (c .length)) (sym (length-drop from w)) in
         let p : 0 < length v = simp length-drop (omega arith) in
         let d : drop k (take count all) ≡ c ∷ rest = drop-cons (take count all) k none (rw counted h) ∙ rw (getD-take count all k none h) in
-        rw (q, ← (drop-drop m from w), add-one k, d, cut-cons c rest v p, taken (c .length) v m e', left (c .length) v m e')
+        rw (q, ← (drop-drop m from w), add-one k, d, cut-some c rest v p, taken (c .length) v m e', left (c .length) v m e')
         (ap (λ (i : ℕ). following i (cut rest (drop (c .length) v)) s (matched (take (c .length) v) 0 s (opened n (c .low) (c .high) ks))) (as-long (c .length) v m e'))
 
     -- after the last letter no part follows

@@ -14,7 +14,7 @@ use Rattle.rules.specs.Lists.{if, run, sum}
 use Rattle.rules.specs.Occurrence.{front, stands}
 use Rattle.matching.specs.Flags.{bit, kept-at, kept, matched, ago, recent, near, opened, left?}
 use Rattle.matching.proofs.Any.{any}
-use Rattle.matching.proofs.Over.{map-same, map-one, getD-map-run, length-map-run}
+use Rattle.rules.proofs.Over.{map-agree, map-one, getD-map-run, length-map-run}
 
 -- the flags of n places, set where A says
 unfoldable pub flagged : (ℕ → Bool) → ℕ → List ℕ
@@ -34,7 +34,7 @@ length-flagged A n = length-map-run _ 0 n
 
 flagged-same : (A B : ℕ → Bool) (n : ℕ) → ((o : ℕ) → A o ≡ B o) → flagged A n ≡ flagged B n
 unfolding flagged
-flagged-same A B n h = map-same _ _ 0 n (λ o _ _. ap bit (h o))
+flagged-same A B n h = map-agree _ _ 0 n (λ o _ _. ap bit (h o))
 
 -- every flag set
 pub flagged-all : (n : ℕ) → replicate n 1 ≡ flagged (λ _. true) n
@@ -70,7 +70,7 @@ module _ (s : List ℕ) where
   kept-flagged : (x j : ℕ) (A : ℕ → Bool) → kept x j s (flagged A (length s)) ≡ flagged (λ o. if (stands (x ∷ []) s (suc (o + j))) (A o) false) (length s)
   unfolding kept kept-at flagged
   kept-flagged x j A =
-      map-same _ _ 0 (length s)
+      map-agree _ _ 0 (length s)
       (λ o _ l. ap (λ (k : ℕ). if (stands (x ∷ []) s (suc (o + j))) k 0) (flagged-at A (length s) o (omega arith)) ∙ bit-if (stands (x ∷ []) s (suc (o + j))) (A o))
 
   -- so a word keeps those at which it stands
@@ -103,7 +103,7 @@ module _ (A : ℕ → Bool) (n : ℕ) where
   unfolding opened flagged
   opened-flagged l low high =
       ap (λ (k : ℕ). map (near (flagged A n) (l + low) (high + 1 - low)) (run 0 k)) (length-flagged A n)
-      ∙ map-same _ _ 0 n (λ o _ k. near-flagged o (omega arith) (l + low) (high + 1 - low))
+      ∙ map-agree _ _ 0 n (λ o _ k. near-flagged o (omega arith) (l + low) (high + 1 - low))
 
 -- A FLAG LEFT
 left-run : (A : ℕ → Bool) (a n : ℕ) → left? (map (λ o. bit (A o)) (run a n)) ≡ any A a n

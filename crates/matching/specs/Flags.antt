@@ -1,10 +1,10 @@
 -- Flags: one for each letter of a sequence, 1 where the last part of a prefix can start, the parts before it placed. Here is
 -- what each pass over the flags makes of them. The flag at o, from 0, is that of position o + 1.
 use mathlib.Core.Bool.{Bool, true, false}
-use mathlib.Core.List.{List, [], _∷_, _++_, map}
+use mathlib.Core.List.{List, [], _∷_, map}
 use Prim.Native.Nat.{ℕ, suc, _+_, _-_}
 use lib.Dec.{eqb, leb}
-use lib.ListN.{length, drop, getD, replicate}
+use lib.ListN.{length, getD, replicate}
 use Rattle.rules.specs.Lists.{if, run, sum}
 use Rattle.rules.specs.Occurrence.{stands}
 use Rattle.rules.specs.Template.{Part}
@@ -12,10 +12,6 @@ use Rattle.rules.specs.Template.{Part}
 -- 1 of true
 abbrev pub bit : Bool → ℕ
 bit b = if b 1 0
-
--- f at the first n places of a list, and past them what was there
-unfoldable pub over : (ℕ → ℕ) → ℕ → List ℕ → List ℕ
-over f n l = map f (run 0 n) ++ drop n l
 
 -- A LETTER MORE. The flag at o, where the letter x stands j places on, and else 0
 unfoldable pub kept-at : ℕ → ℕ → List ℕ → List ℕ → ℕ → ℕ

@@ -5,8 +5,8 @@ ghost use Prim.Native.Nat.{_+_, _-_, _≤_, _<_};
 ghost use lib.Dec.{eqb};
 ghost use lib.ListN.{length, replicate};
 ghost use Rattle.rules.specs.Limits.{Template-LENGTH, Template-GAP};
-ghost use Rattle.rules.specs.Lists.{if};
-ghost use Rattle.matching.specs.Flags.{over, kept-at, kept, matched, ago, near, opened, left?};
+ghost use Rattle.rules.specs.Lists.{if, over};
+ghost use Rattle.matching.specs.Flags.{kept-at, kept, matched, ago, near, opened, left?};
 
 // Writes `value` to each of some flags.
 pub fn fill(flags: &mut [u8], value: u8)

@@ -9,8 +9,7 @@ ghost use mathlib.Core.Path.{_≡_};
 ghost use mathlib.Core.List.{_++_};
 ghost use Prim.Native.Nat.{_-_, _≤_, min};
 ghost use lib.ListN.{length, take, drop, replicate};
-ghost use Rattle.rules.specs.Letters.{letter};
-ghost use Rattle.rules.specs.Limits.{Template-LETTERS, Template-LENGTH, Template-GAP};
+ghost use Rattle.rules.specs.Limits.{Template-LENGTH};
 ghost use Rattle.rules.specs.Lists.{sum};
 ghost use Rattle.rules.specs.Sequences.{split};
 ghost use Rattle.rules.specs.Sound.{SoundComponent, SoundSet, SoundTemplate};
@@ -19,30 +18,12 @@ ghost use Rattle.matching.specs.Flags.{matched, opened, last-starts, lef
 ghost use Rattle.matching.specs.Marks.{unmarked, held, left-count};
 ghost use Rattle.matching.specs.Prefix.{bytes};
 
-// The letter that has this value, as a byte.
-fn letter(value: u64) -> u8
-    ensures { λ r. ⌜ r ≡ letter value ⌝ }
-{
-    if value == 0 {
-        return b'A';
-    }
-    if value == 1 {
-        return b'C';
-    }
-    if value == 2 { b'G' } else { b'T' }
-}
-
-// Writes the `size` letters of a prefix's number, as bytes, to the front of a table. A letter is two binary digits.
+// Writes the `size` letters of a prefix's number, as bytes, to the front of a table.
 pub fn spell(number: u64, size: usize, word: &mut [u8])
-    requires { ⌜ (size ≤ length (now word)) × (size ≤ Template-LETTERS) ⌝ }
+    requires { ⌜ size ≤ length (now word) ⌝ }
     ensures { λ _. ⌜ now (word .exit) ≡ bytes size number ++ drop size (now (word .entry)) ⌝ }
 {
-    let mut i = 0;
-    while i < size {
-        let value = (number >> (2 * (size - 1 - i))) % Letter::BASES;
-        word[i] = letter(value);
-        i += 1;
-    }
+    Letter::spell(number, &mut word[..size]);
 }
 
 // The smaller of two numbers.

@@ -24,7 +24,7 @@ use Rattle.rules.specs.declared.Template.{Template}
 use Rattle.rules.proofs.Ways.{ways-count}
 use Rattle.ways.specs.Counts.{counts}
 use Rattle.ways.proofs.Counting.{length-counts}
-use Rattle.ways.proofs.Tables.{getD-over}
+use Rattle.rules.proofs.Over.{getD-map-run}
 
 -- ---- a table with m in the place of those from b on
 
@@ -59,7 +59,7 @@ front-counts cs s table e =
 module _ (cs : List Part) (s : List ℕ) (p : ℕ) (some : 1 ≤ p) (inside : p ≤ length s) where
   counts-at : getD (counts cs s) (p - 1) 0 ≡ length (starts cs s p)
   unfolding counts
-  counts-at = let e : 1 + (p - 1) ≡ p = omega arith in getD-over (ways cs s) 1 (length s) (p - 1) (omega arith) ∙ ap (ways cs s) e ∙ ways-count cs s p
+  counts-at = let e : 1 + (p - 1) ≡ p = omega arith in getD-map-run (ways cs s) 1 (length s) (p - 1) (omega arith) ∙ ap (ways cs s) e ∙ ways-count cs s p
 
   put-at : (table : List ℕ) → getD (put (counts cs s) table) (p - 1) 0 ≡ length (starts cs s p)
   unfolding put

@@ -1,8 +1,8 @@
 -- One sequence after the other: the whole list is the rows of the first sequence, with its number in front, and then those of
 -- the later ones.
-use mathlib.Core.Path.{_≡_, refl, sym, ap, _∙_}
+use mathlib.Core.Path.{_≡_, refl, sym, _∙_}
 use mathlib.Core.List.{List, [], _∷_, map}
-use Prim.Native.Nat.{ℕ, zero, suc, _+_, _-_, _≤_, _<_}
+use Prim.Native.Nat.{ℕ, suc, _+_, _-_, _≤_, _<_}
 use native.Mathlib.Numerals.{add-one}
 use native.Mathlib.Omega.{arith}
 use lib.ListN.{length, take, drop, getD, drop-of-length-le}
@@ -14,13 +14,7 @@ use Rattle.rules.specs.Occurrence.{occurrences}
 use Rattle.rules.specs.Sequences.{split, sequences}
 use Rattle.rules.specs.Support.{rows-from, occurrence-rows}
 use Rattle.rules.specs.Template.{Part}
-use Rattle.ways.proofs.Bytes.{map-drop}
-
--- the first of a list, each turned by f
-map-take : {A B : Type 0} (f : A → B) (n : ℕ) (l : List A) → take n (map f l) ≡ map f (take n l)
-map-take f zero l = refl
-map-take f (suc n) [] = refl
-map-take f (suc n) (x ∷ l) = ap (λ r. f x ∷ r) (map-take f n l)
+use Rattle.rules.proofs.Tables.{map-take, map-drop}
 
 module _ (w : ℕ) (cs : List Part) (ns l : List ℕ) where
   -- a buffer after the rows of the sequences from i on, whose letters begin at b

@@ -37,9 +37,9 @@ use Rattle.rules.proofs.Occurs.{parts-worded, parts-some, rows-are}
 use Rattle.rules.proofs.Passing.{passing-from, from-passing}
 use Rattle.rules.proofs.Places.{walk-of, sound-passing, passing-rule, passing-passes, place-deep}
 use Rattle.rules.proofs.Prefix.{size-some, exact-anti, exact-root, exact-pos, exact-deep}
-use Rattle.rules.proofs.Relayed.{put-front}
 use Rattle.rules.proofs.Saves.{restore-exactly, restore-saved, save-restored, cut-refused}
 use Rattle.rules.proofs.Sound.{SoundSearch, SoundBytes, search-sound}
+use Rattle.rules.proofs.Tables.{put-front}
 use Rattle.rules.proofs.Ways.{support-counts, support-sequences}
 
 -- ---- DEMAND 1: a call refuses exactly what its checks refuse, with the number and place of the first that applies. A refused

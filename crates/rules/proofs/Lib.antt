@@ -1,11 +1,16 @@
 -- The laws of the definitions, in the order in which they build on each other. `Demands` is the file to read first.
 pub mod Tests
 pub mod Lists
+pub mod Tables
+pub mod Over
 pub mod Members
 pub mod Stands
 pub mod Occurs
 pub mod OccurrenceOrder
 pub mod Ways
+pub mod Spelling
+pub mod Components
+pub mod Bytes
 pub mod Prefix
 pub mod Bound
 pub mod Step

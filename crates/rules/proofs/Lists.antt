@@ -1,12 +1,12 @@
--- `keep`, `each` and `run`.
+-- `keep`, `each`, `run` and `some?`.
 use mathlib.Core.Path.{_≡_, refl, sym, ap, _∙_}
 use mathlib.Core.Bool.{Bool, true, false, _&&_}
-use mathlib.Core.List.{List, [], _∷_, _++_, append-assoc}
+use mathlib.Core.List.{List, [], _∷_, _++_, map, append-assoc}
 use Prim.Native.Nat.{ℕ, zero, suc, _+_, _-_, _*_, _≤_, _<_}
 use native.Mathlib.Nat.{zero-mul, add-zero, zero-add}
 use native.Mathlib.Omega.{arith}
 use lib.ListN.{length}
-use Rattle.rules.specs.Lists.{run, if, keep, each}
+use Rattle.rules.specs.Lists.{run, if, keep, each, some?}
 
 pub keep-append : {A : Type 0} (f : A → Bool) (xs ys : List A) → keep f (xs ++ ys) ≡ keep f xs ++ keep f ys
 unfolding keep
@@ -108,3 +108,9 @@ pub length-run : (a n : ℕ) → length (run a n) ≡ n
 unfolding run
 length-run a zero = refl
 length-run a (suc n) = ap suc (length-run (suc a) n)
+
+-- f makes something of something, and of nothing nothing
+pub some-map : {A B : Type 0} (f : A → B) (xs : List A) → some? (map f xs) ≡ some? xs
+unfolding some?
+some-map f [] = refl
+some-map f (x ∷ xs) = refl

@@ -1,19 +1,17 @@
 -- "Frequent" is closed under taking prefixes. An occurrence of a prefix, cut short by a letter, is one of the shorter prefix:
 -- the last part loses its last letter, or goes whole if that was its only one, or the letter stood past the last part.
-use mathlib.Core.Path.{_≡_, refl, sym, ap, _∙_}
+use mathlib.Core.Path.{_≡_, refl, sym, _∙_}
 use mathlib.Core.Bool.{Bool, true, false, _||_, false≢true}
 use mathlib.Core.List.{List, [], _∷_, _++_, map}
-use Prim.Native.Nat.{ℕ, zero, suc, _+_, _*_, _/_, _%_, _^_, _≤_, _<_}
-use native.Mathlib.Nat.{pow-zero, pow-suc, pow-succ', div-one, div-div-eq-div-mul, div-add-mod', div-lt-iff-lt-mul, mod-lt, mod-eq-of-lt, one-le-pow, mul-add-div-right, mul-add-mod-self-right, div-eq-of-lt, mul-le-mul-right}
-use native.Mathlib.Numerals.{add-one}
+use Prim.Native.Nat.{ℕ, zero, suc, _/_, _%_, _≤_}
 use native.Mathlib.Omega.{arith}
 use lib.Dec.{leb, eqb}
-use lib.ListN.{length, getD, take, drop, length-append, drop-of-length-le}
+use lib.ListN.{length, take, drop, length-append, drop-of-length-le}
 use lib.Seq.{take-all, take-append-le, drop-append-le}
 use borrow.Author.Tests.{leb-true, leb-false, le-leb}
 use Rattle.rules.specs.Limits.{Letter-BASES}
 use Rattle.rules.specs.Lists.{run, if, keep, each, some?, sum}
-use Rattle.rules.specs.Motif.{number, spell}
+use Rattle.rules.specs.Motif.{spell}
 use Rattle.rules.specs.Occurrence.{front, stands, reach, starts, occurrences}
 use Rattle.rules.specs.Sound.{SoundTemplate}
 use Rattle.rules.specs.Support.{marks, support, parts, frequent}
@@ -21,67 +19,8 @@ use Rattle.rules.specs.Template.{Part, part, slots, components, size, cu
 use Rattle.rules.specs.Walk.{exact}
 use Rattle.rules.specs.declared.Component.{Component}
 use Rattle.rules.specs.declared.Template.{Template}
-
--- ---- letters and numbers
-
--- a letter more is the lowest digit
-pub spell-more : (base j m : ℕ) → spell base (suc j) m ≡ spell base j (m / base) ++ (m % base ∷ [])
-unfolding spell
-spell-more base zero m = rw (pow-zero, div-one)
-spell-more base (suc j) m = rw (pow-succ', ← (div-div-eq-div-mul m base (base ^ j))) (ap (λ w. (m / base / base ^ j) % base ∷ w) (spell-more base j m))
-
--- a number is spelt in as many letters as are asked for
-pub length-spell : (base j m : ℕ) → length (spell base j m) ≡ j
-unfolding spell
-length-spell base zero m = refl
-length-spell base (suc j) m = ap suc (length-spell base j m)
-
--- each letter lies below the base
-pub spell-below : (base j m : ℕ) → 1 ≤ base → (i : ℕ) → getD (spell base j m) i 0 < base
-unfolding spell
-spell-below base zero m h i = h
-spell-below base (suc j) m h zero = mod-lt (m / base ^ j) h
-spell-below base (suc j) m h (suc i) = spell-below base j m h i
-
--- with a letter more the number goes up a digit
-pub number-more : (base : ℕ) (w : List ℕ) (x : ℕ) → number base (w ++ (x ∷ [])) ≡ number base w * base + x
-unfolding number
-number-more base [] x = rw pow-zero (omega arith)
-number-more base (y ∷ w) x =
-    let e : base ^ length (w ++ (x ∷ [])) ≡ base ^ length w * base = ap (λ n. base ^ n) (length-append w (x ∷ []) ∙ add-one (length w)) ∙ pow-suc base (length w) in
-    omega (arith, ap (λ n. y * n) e, number-more base w x)
-
--- the letters of a number have that number
-pub number-spell : (base j m : ℕ) → 1 ≤ base → m < base ^ j → number base (spell base j m) ≡ m
-unfolding spell number
-number-spell base zero m h l = omega (arith, pow-zero base)
-number-spell base (suc j) m h l =
-    let ih = number-spell base j (m / base) h (div-lt-iff-lt-mul {x = m} {y = base ^ j} h .1 (rw pow-suc at l)) in
-    ap (number base) (spell-more base j m) ∙ number-more base (spell base j (m / base)) (m % base) ∙ rw ih (div-add-mod' m base)
-
--- n letters below the base have a number below base ^ n
-pub number-below : (base : ℕ) (w : List ℕ) → ((i : ℕ) → i < length w → getD w i 0 < base) → number base w < base ^ length w
-unfolding number
-number-below base [] h = omega (arith, pow-zero base)
-number-below base (x ∷ w) h = rw pow-suc (omega (arith, mul-le-mul-right (base ^ length w) (h 0 (omega arith)), number-below base w (λ i l. h (suc i) (omega arith))))
-
--- what stands above the j lowest letters does not show in them
-spell-skip : (base j c m : ℕ) → 1 ≤ base → spell base j (c * base ^ j + m) ≡ spell base j m
-unfolding spell
-spell-skip base zero c m h = refl
-spell-skip base (suc j) c m h =
-    let e : c * base ^ suc j + m ≡ c * base * base ^ j + m = rw pow-suc (omega arith) in
-    rw (e, mul-add-div-right (one-le-pow j base h) (c * base) m, mul-add-mod-self-right c base (m / base ^ j), spell-skip base j (c * base) m h)
-
--- and the letters of their number are they themselves
-pub spell-number : (base : ℕ) (w : List ℕ) → ((i : ℕ) → i < length w → getD w i 0 < base) → spell base (length w) (number base w) ≡ w
-unfolding spell number
-spell-number base [] h = refl
-spell-number base (x ∷ w) h =
-    let p : 1 ≤ base = omega (arith, h 0 (omega arith)) in
-    let tail : (i : ℕ) → i < length w → getD w i 0 < base = λ i l. h (suc i) (omega arith) in
-    let top : (x * base ^ length w + number base w) / base ^ length w ≡ x = mul-add-div-right (one-le-pow (length w) base p) x (number base w) ∙ omega (arith, div-eq-of-lt (number-below base w tail)) in
-    rw (top, mod-eq-of-lt (h 0 (omega arith)), spell-skip base (length w) x (number base w) p, spell-number base w tail)
+use Rattle.rules.proofs.Lists.{some-map}
+use Rattle.rules.proofs.Spelling.{spell-more, length-spell}
 
 -- ---- some? of lists
 
@@ -90,11 +29,6 @@ some-if : {A : Type 0} (b : Bool) (xs : List A) → some? (if b xs []) ≡ true 
 unfolding some?
 some-if true xs e = (refl, e)
 some-if false xs e = absurd (false≢true e)
-
-some-map : {A B : Type 0} (f : A → B) (xs : List A) → some? (map f xs) ≡ some? xs
-unfolding some?
-some-map f [] = refl
-some-map f (x ∷ xs) = refl
 
 some-append : {A : Type 0} (xs ys : List A) → some? (xs ++ ys) ≡ some? xs || some? ys
 unfolding some?

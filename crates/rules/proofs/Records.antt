@@ -7,7 +7,7 @@ use Prim.Native.Nat.{ℕ, zero, suc, _+_, _*_, _≤_, _<_}
 use native.Mathlib.Nat.{mul-zero, mul-suc, add-zero, zero-add, add-suc, suc-add}
 use native.Mathlib.Omega.{arith}
 use lib.ListN.{length, getD, take, drop, length-append, List·getD-append}
-use lib.Seq.{take-at, drop-append-add, getD-take, getD-at, length-take-le, drop-drop, take-add, take-all}
+use lib.Seq.{take-at, drop-append-add, getD-at, drop-drop, take-add, take-all}
 use lib.Dec.{eqb, leb}
 use borrow.Author.Tests.{leb-true, eqb-true}
 use Rattle.rules.specs.Limits.{Record-BYTES, Record-EXTRA, Template-COMPONENTS}
@@ -17,9 +17,9 @@ use Rattle.rules.specs.Template.{components, slots, none}
 use Rattle.rules.specs.declared.Component.{Component}
 use Rattle.rules.specs.declared.Place.{Place}
 use Rattle.rules.specs.declared.Search.{Search}
-use Rattle.rules.specs.declared.Template.{Template}
 use Rattle.rules.proofs.Lists.{run-append}
 use Rattle.rules.proofs.Tests.{both}
+use Rattle.rules.proofs.Components.{components-length, components-at}
 
 -- P holds of each of a list
 abbrev pub All : {A : Type 0} → (A → Type 0) → List A → Type 0
@@ -102,16 +102,6 @@ component-records-length i (c ∷ cs) = ap suc (component-records-length (suc i)
 pub records-length : (s : Search) → length (records s) ≡ length (components (s .template)) + Record-EXTRA
 unfolding records
 records-length s = omega (arith, length-append (component-records 1 (components (s .template))) (place-record (s .place) ∷ []), component-records-length 1 (components (s .template)))
-
--- a template within the limit has as many components as it counts
-pub components-length : (t : Template) → t .count ≤ Template-COMPONENTS → length (components t) ≡ t .count
-unfolding components
-components-length t h = length-take-le (t .count) (slots t) h
-
--- and each stands in its slot
-pub components-at : (t : Template) (k : ℕ) → k < t .count → getD (components t) k none ≡ getD (slots t) k none
-unfolding components
-components-at t k h = getD-take (t .count) (slots t) k none h
 
 -- a saved search has 16 bytes for each component, and 32
 pub bytes-length : (s : Search) → length (bytes s) ≡ Record-BYTES * (length (components (s .template)) + Record-EXTRA)

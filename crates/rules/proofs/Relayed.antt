@@ -5,12 +5,11 @@ use mathlib.Core.Bool.{Bool, true, false}
 use mathlib.Core.List.{List, [], _∷_, map, map-append}
 use Prim.Native.Nat.{ℕ, _+_, _*_, _≤_, min}
 use native.Mathlib.Omega.{arith}
-use lib.ListN.{length, take, length-map}
-use lib.Seq.{take-append-seam}
+use lib.ListN.{length, length-map}
 use Rattle.rules.specs.Calls.{LegRule, moved, stretch, supports-of, weights-of, leg-rule, Written, save-rule}
 use Rattle.rules.specs.Legs.{Stop, ended, spent, full, ended?, Stretch, on, Grant, grant, leg, legs}
 use Rattle.rules.specs.Limits.{Record-BYTES, Record-EXTRA, Template-COMPONENTS}
-use Rattle.rules.specs.Lists.{if, put}
+use Rattle.rules.specs.Lists.{if}
 use Rattle.rules.specs.Refusals.{first, search-checks}
 use Rattle.rules.specs.Relay.{Lent, Roomy, Relayed, alone, followed, go-on, restored, after, relay}
 use Rattle.rules.specs.Saved.{bytes}
@@ -25,11 +24,7 @@ use Rattle.rules.proofs.Prefix.{exact-anti, exact-root, exact-pos, exac
 use Rattle.rules.proofs.Records.{bytes-counted}
 use Rattle.rules.proofs.Saves.{restore-saved}
 use Rattle.rules.proofs.Sound.{SoundSearch, search-fine, save-fine}
-
--- a table's front is what was written to it
-pub put-front : {A : Type 0} (n : ℕ) (xs table : List A) → length xs ≡ n → take n (put xs table) ≡ xs
-unfolding put
-put-front n xs table e = rw (← e) (take-append-seam xs _)
+use Rattle.rules.proofs.Tables.{put-front}
 
 -- what a leg may use of what it is lent
 abbrev pub granted : Lent → Grant

@@ -19,7 +19,8 @@ use Rattle.rules.specs.declared.Place.{Place}
 use Rattle.rules.specs.declared.Search.{Search}
 use Rattle.rules.proofs.LowFirst.{Bytes, read-written}
 use Rattle.rules.proofs.Tests.{both}
-use Rattle.rules.proofs.Records.{All, all-at, all-joined, records-are, components-length, components-at, bytes-counted, size-at, component-at, place-at}
+use Rattle.rules.proofs.Components.{components-length, components-at}
+use Rattle.rules.proofs.Records.{All, all-at, all-joined, records-are, bytes-counted, size-at, component-at, place-at}
 
 -- a component fits the fields of its record
 pub record FitsComponent (c : Component) : Type 0 where

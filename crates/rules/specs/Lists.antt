@@ -1,6 +1,6 @@
 -- Small functions on lists that the rules are written with.
 use mathlib.Core.Bool.{Bool, true, false, _&&_}
-use mathlib.Core.List.{List, [], _∷_, _++_}
+use mathlib.Core.List.{List, [], _∷_, _++_, map}
 use Prim.Native.Nat.{ℕ, zero, suc, _+_}
 use lib.ListN.{length, drop}
 use lib.Dec.{eqb}
@@ -49,3 +49,7 @@ sum (x ∷ xs) = x + sum xs
 -- what a table holds once a list has been written to its front: the list, and past it what was there
 unfoldable pub put : {A : Type 0} → List A → List A → List A
 put xs table = xs ++ drop (length xs) table
+
+-- f at the first n places of a list, and past them what was there: how far a loop is that fills it from the front
+unfoldable pub over : (ℕ → ℕ) → ℕ → List ℕ → List ℕ
+over f n l = map f (run 0 n) ++ drop n l

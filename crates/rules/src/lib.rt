@@ -1,11 +1,15 @@
 // The paper's types, with their limits and constructors. An inner crate: what it defines stands in specs/, and the laws
 // about that in proofs/.
+ghost use mathlib.Core.List.{map};
 ghost use mathlib.Core.Path.{_≡_};
 ghost use Prim.Native.Nat.{min};
+ghost use lib.ListN.{length};
+ghost use Rattle.rules.specs.Letters.{letter};
 ghost use Rattle.rules.specs.Limits.{Letter-BASES, Letter-MARK, Template-COMPONENTS, Template-LENGTH, Template-LETTERS, Template-GAP, SequenceSet-SEQUENCES, SequenceSet-LETTERS, Record-BYTES, Record-SIZE, Record-COMPONENT, Record-PLACE, Record-EXTRA, Text-BYTES, Text-GAP-DIGITS, Text-QUORUM-DIGITS};
 ghost use Rattle.rules.specs.Refusals.{_else_};
 ghost use Rattle.rules.specs.Template.{slots, component, none, kept, trimmed, size};
 ghost use Rattle.rules.specs.Lists.{if};
+ghost use Rattle.rules.specs.Motif.{spell};
 ghost use Rattle.rules.specs.Told as told;
 ghost use Rattle.rules.specs.Told.{fine, refused, number, toldChecked};
 ghost use Rattle.rules.specs.Walk.{place, first-place, ended-place};
@@ -25,6 +29,32 @@ impl Letter {
     pub const BASES: u64 = 4;
 
     pub const MARK: u8 = 4;
+
+    // The letter that has a value, as a byte.
+    pub fn byte(value: u64) -> u8
+        ensures { λ r. ⌜ r ≡ letter value ⌝ }
+    {
+        if value == 0 {
+            return b'A';
+        }
+        if value == 1 {
+            return b'C';
+        }
+        if value == 2 { b'G' } else { b'T' }
+    }
+
+    // Writes the last letters of a number as bytes, as many as there is room for.
+    pub fn spell(number: u64, word: &mut [u8])
+        ensures { λ _. ⌜ now (word .exit) ≡ map letter (spell Letter-BASES (length (now (word .entry))) number) ⌝ }
+    {
+        let mut rest = number;
+        let mut i = word.len();
+        while 0 < i {
+            i -= 1;
+            word[i] = Letter::byte(rest % Letter::BASES);
+            rest = rest / Letter::BASES;
+        }
+    }
 }
 
 // A component of a template: its length, and the gap range before it.

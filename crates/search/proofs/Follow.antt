@@ -2,24 +2,17 @@
 -- the stretch from where it stands; and each table holds its column of the rows listed so far, before what it held.
 use mathlib.Core.Path.{_≡_, refl, sym, ap, _∙_}
 use mathlib.Core.Bool.{true, false}
-use mathlib.Core.List.{List, [], _∷_, _++_, map, map-append, append-nil, append-assoc}
+use mathlib.Core.List.{List, [], _∷_, _++_, map, map-append, append-nil}
 use Prim.Native.Nat.{ℕ, suc, _+_, _-_, _≤_, _<_}
 use native.Mathlib.Numerals.{add-one}
 use native.Mathlib.Omega.{arith}
-use lib.ListN.{length, drop, set, length-append, length-map}
-use lib.Seq.{drop-cons, set-append-seam}
+use lib.ListN.{length, set, length-append, length-map}
+use Rattle.rules.proofs.Tables.{put-more}
 use Rattle.rules.specs.Legs.{Stop, ended, spent, full, Stretch, halt, then, on, leg}
 use Rattle.rules.specs.Lists.{put}
 use Rattle.rules.specs.Walk.{Walk, next, motif}
 use Rattle.rules.specs.declared.Place.{Place}
 use Rattle.rules.proofs.Legs.{so-far, so-far-start, so-far-step, so-far-stop, leg-ended, leg-spent, leg-full, leg-lists, leg-passes}
-
--- a row more in a table
-pub put-more : (xs table : List ℕ) (v : ℕ) → length xs < length table → set (put xs table) (length xs) v ≡ put (xs ++ (v ∷ [])) table
-unfolding put
-put-more xs table v h =
-    let e : length (xs ++ (v ∷ [])) ≡ suc (length xs) = rw length-append (omega arith) in
-    rw (drop-cons table (length xs) 0 h, set-append-seam xs _ _ v, e, append-assoc)
 
 module _ (W : Walk) (budget room : ℕ) (p : Place) (support weight : ℕ → ℕ) (motifs₀ supports₀ weights₀ : List ℕ) where
   -- s steps are taken, k rows listed, and q is the place

@@ -1,31 +1,31 @@
 -- A component's text in its pieces, and a template's line in its components.
 use mathlib.Core.Path.{_≡_, refl, sym}
-use mathlib.Core.Bool.{Bool, true, false, _&&_}
+use mathlib.Core.Bool.{Bool, true, false, _&&_, false≢true}
 use mathlib.Core.List.{List, [], _∷_}
 use Prim.Native.Nat.{ℕ, _+_, _-_, _^_, _≤_, _<_}
 use native.Mathlib.Omega.{arith}
 use lib.ListN.{length, take, drop, length-drop}
 use lib.Seq.{take-all}
+use Rattle.rules.proofs.Tests.{and-true}
 use Rattle.rules.specs.Text.{Parsed, parsed, malformed, well-formed?, pieces, cons, ranged, parse-number, parse-pair, parse-ranged, parse-component, parse-first, parse-rest, parse-components}
 use Rattle.text.specs.Parsed.{Below}
 use Rattle.text.specs.Pieces.{find, others, two?}
 use Rattle.text.specs.declared.parse.Number.{Number}
 use Rattle.text.specs.declared.parse.Number.the-variants as number-text
-use Rattle.text.proofs.Bools.{false-true}
 use Rattle.text.proofs.Scan.{pieces-cut, scan-cut, scan-others, scan-none}
 
 -- a text that is not in two pieces is no component
 pub not-pair : (ps : List (List ℕ)) → two? ps ≡ false → parse-pair ps ≡ malformed
 not-pair [] e = refl
 not-pair (x ∷ []) e = refl
-not-pair (x ∷ y ∷ []) e = absurd (false-true (sym e))
+not-pair (x ∷ y ∷ []) e = absurd (false≢true (sym e))
 not-pair (x ∷ y ∷ z ∷ zs) e = refl
 
 -- nor is a rest after the comma
 pub not-ranged : (l : List ℕ) (ps : List (List ℕ)) → two? ps ≡ false → parse-ranged l ps ≡ malformed
 not-ranged l [] e = refl
 not-ranged l (x ∷ []) e = refl
-not-ranged l (x ∷ y ∷ []) e = absurd (false-true (sym e))
+not-ranged l (x ∷ y ∷ []) e = absurd (false≢true (sym e))
 not-ranged l (x ∷ y ∷ z ∷ zs) e = refl
 
 -- a part from a place on, up to the end
@@ -58,10 +58,6 @@ well-cons malformed xs = refl
 and-assoc : (a b c : Bool) → a && (b && c) ≡ (a && b) && c
 and-assoc true b c = refl
 and-assoc false b c = refl
-
-and-true : (a : Bool) → a && true ≡ a
-and-true true = refl
-and-true false = refl
 
 -- the test of a line is that of its first piece and that of the others
 pub well-first : (l : List ℕ) → well-formed? (parse-components l) ≡ well-formed? (parse-first (take (find 91 l) l)) && well-formed? (parse-rest (others 91 l))

@@ -1,36 +1,15 @@
 -- The letters of a motif, read off its number.
-use mathlib.Core.Path.{_≡_, refl, ap}
+use mathlib.Core.Path.{_≡_, refl}
 use mathlib.Core.List.{[], _∷_, _++_, map-append}
 use Prim.Native.Nat.{ℕ, zero, suc, _+_, _-_, _*_, _/_, _%_, _^_, _≤_, _<_}
-use native.Mathlib.Nat.{zero-add, suc-add}
 use native.Mathlib.Numerals.{add-one}
 use native.Mathlib.Omega.{arith}
-use lib.ListN.{length, drop, getD, length-take, length-map}
+use lib.ListN.{length, length-take, length-map}
 use lib.Seq.{take-suc}
 use Rattle.rules.specs.Letters.{letter}
 use Rattle.rules.specs.Motif.{spell}
+use Rattle.rules.proofs.Spelling.{length-spell, spell-at}
 use Rattle.text.specs.Printed.{letters}
-
--- the table of letters
-pub letter-at : (v : ℕ) → v < 4 → getD (65 ∷ 67 ∷ 71 ∷ 84 ∷ []) v 0 ≡ letter v
-unfolding letter
-letter-at zero h = refl
-letter-at (suc zero) h = refl
-letter-at (suc (suc zero)) h = refl
-letter-at (suc (suc (suc zero))) h = refl
-letter-at (suc (suc (suc (suc v)))) h = absurd (omega arith)
-
--- a motif has as many letters as are spelled
-pub length-spell : (b j m : ℕ) → length (spell b j m) ≡ j
-unfolding spell
-length-spell b zero m = refl
-length-spell b (suc j) m = ap suc (length-spell b j m)
-
-spell-at : (b j m i : ℕ) → i < j → getD (spell b j m) i 0 ≡ (m / b ^ (j - 1 - i)) % b
-unfolding spell
-spell-at b zero m i h = absurd (omega arith)
-spell-at b (suc j) m zero h = let e : suc j - 1 - 0 ≡ j = omega arith in rw e
-spell-at b (suc j) m (suc i) h = let e : suc j - 1 - suc i ≡ j - 1 - i = omega arith in rw e (spell-at b j m i (omega arith))
 
 -- four to the power of k as a shift
 fours : (k : ℕ) → 4 ^ k ≡ 2 ^ (2 * k)
@@ -53,9 +32,3 @@ letters-more i j m {b} h e =
 pub length-letters : (i j m : ℕ) → i ≤ j → length (letters i j m) ≡ i
 unfolding letters
 length-letters i j m h = simp (length-map, length-take, length-spell) (omega arith)
-
--- past its first n letters stand the others
-pub drop-spell : (b n j m : ℕ) → drop n (spell b (n + j) m) ≡ spell b j m
-unfolding spell
-drop-spell b zero j m = rw zero-add
-drop-spell b (suc n) j m = rw suc-add (drop-spell b n j m)

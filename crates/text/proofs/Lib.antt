@@ -3,7 +3,6 @@ pub mod Decimal
 pub mod Letters
 pub mod Shape
 pub mod Line
-pub mod Bools
 pub mod Scan
 pub mod Numbers
 pub mod Components

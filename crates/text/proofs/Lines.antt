@@ -9,6 +9,7 @@ use lib.Dec.{ltb}
 use lib.ListN.{length, take, drop, getD, drop-of-length-le}
 use lib.Seq.{drop-cons, getD-drop}
 use borrow.Author.Tests.{lt-ltb, le-ltb, ltb-true, ltb-false, not-false}
+use Rattle.rules.proofs.Verdicts.{else-fine}
 use Rattle.rules.specs.Limits.{Text-BYTES, Text-QUORUM-DIGITS}
 use Rattle.rules.specs.Lists.{some?}
 use Rattle.rules.specs.Refusals.{_else_, first}
@@ -60,11 +61,6 @@ unended-some start l e = rw (← e) (go (ltb start (length l)) refl)
     go false q = rw (q, drop-of-length-le l {i = start} (ltb-false _ _ q))
 
 -- ---- the checks in order
-
-else-fine : (v : Verdict) → v else fine ≡ v
-unfolding _else_
-else-fine fine = refl
-else-fine (refused n p) = refl
 
 else-first : (v w : Verdict) → v else w ≡ fine → v ≡ fine
 unfolding _else_

@@ -10,11 +10,11 @@ use lib.Dec.{leb, ltb, eqb}
 use lib.ListN.{length, drop, getD, length-drop, length-map, drop-of-length-le}
 use lib.Seq.{drop-cons}
 use borrow.Author.Tests.{leb-true, leb-false, eq-eqb, ne-eqb, lt-ltb}
+use Rattle.rules.proofs.Tests.{both}
 use Rattle.rules.specs.Lists.{all?, some?}
 use Rattle.rules.specs.Motif.{number}
 use Rattle.rules.specs.Text.{run?, parsed, malformed, well-formed?, parse-number}
 use Rattle.text.specs.Parsed.{between, number?, digits}
-use Rattle.text.proofs.Bools.{and-left, and-right}
 
 -- ---- every byte
 
@@ -37,8 +37,8 @@ module _ (f : ℕ → Bool) where
   all-at : (i : ℕ) (l : List ℕ) → i < length l → all? f l ≡ true → f (getD l i 0) ≡ true
   unfolding all?
   all-at i [] h e = absurd (omega arith)
-  all-at zero (x ∷ xs) h e = and-left (f x) (all? f xs) e
-  all-at (suc i) (x ∷ xs) h e = all-at i xs (omega arith) (and-right (f x) (all? f xs) e)
+  all-at zero (x ∷ xs) h e = both (f x) (all? f xs) .0 e .0
+  all-at (suc i) (x ∷ xs) h e = all-at i xs (omega arith) (both (f x) (all? f xs) .0 e .1)
 
   all-same : (g : ℕ → Bool) → ((x : ℕ) → f x ≡ g x) → (l : List ℕ) → all? f l ≡ all? g l
   unfolding all?
@@ -84,11 +84,11 @@ module _ (i v : ℕ) (l : List ℕ) (h : i < length l) where
 
   -- a digit is from 0 to 9
   pub digit-low : all? (between 48 57) l ≡ true → 48 ≤ getD l i 0
-  digit-low e = leb-true 48 (getD l i 0) (and-left _ (leb (getD l i 0) 57) (all-at (between 48 57) i l h e))
+  digit-low e = leb-true 48 (getD l i 0) (both _ (leb (getD l i 0) 57) .0 (all-at (between 48 57) i l h e) .0)
 
   -- and at most 9
   pub digit-high : all? (between 48 57) l ≡ true → getD l i 0 ≤ 57
-  digit-high e = leb-true (getD l i 0) 57 (and-right (leb 48 (getD l i 0)) _ (all-at (between 48 57) i l h e))
+  digit-high e = leb-true (getD l i 0) 57 (both (leb 48 (getD l i 0)) _ .0 (all-at (between 48 57) i l h e) .1)
 
   -- five digits are below a hundred thousand
   pub digits-small : length l ≤ 5 → v < 10 ^ i → v < 100000
@@ -112,17 +112,14 @@ module _ (most : ℕ) (l : List ℕ) where
     pub number-digits : all? (between 48 57) l ≡ true
     unfolding number?
     number-digits =
-        and-right (leb 1 (length l) && leb (length l) most) (all? (between 48 57) l)
-        (and-left (leb 1 (length l) && leb (length l) most && all? (between 48 57) l) (eqb (length l) 1 || not (eqb (getD l 0 0) 48)) e)
+        both (leb 1 (length l) && leb (length l) most) (all? (between 48 57) l) .0 (both (leb 1 (length l) && leb (length l) most && all? (between 48 57) l) (eqb (length l) 1 || not (eqb (getD l 0 0) 48)) .0 e .0) .1
 
     -- it has no more digits than it may
     pub number-long : length l ≤ most
     unfolding number?
     number-long =
         leb-true (length l) most
-        (and-right (leb 1 (length l)) (leb (length l) most)
-        (and-left (leb 1 (length l) && leb (length l) most) (all? (between 48 57) l)
-        (and-left (leb 1 (length l) && leb (length l) most && all? (between 48 57) l) (eqb (length l) 1 || not (eqb (getD l 0 0) 48)) e)))
+        (both (leb 1 (length l)) (leb (length l) most) .0 (both (leb 1 (length l) && leb (length l) most) (all? (between 48 57) l) .0 (both (leb 1 (length l) && leb (length l) most && all? (between 48 57) l) (eqb (length l) 1 || not (eqb (getD l 0 0) 48)) .0 e .0) .0) .1)
 
     -- so what the digits make is below ten to that power
     pub number-below : {v : ℕ} → v < 10 ^ length l → v < 10 ^ most

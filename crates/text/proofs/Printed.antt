@@ -5,8 +5,8 @@ use Prim.Native.Nat.{ℕ, suc, _+_, _≤_, _<_}
 use native.Mathlib.Nat.{add-zero, zero-add}
 use native.Mathlib.Numerals.{add-one}
 use native.Mathlib.Omega.{arith}
-use lib.ListN.{length, take, drop, set, getD, length-append}
-use lib.Seq.{sets, sets-eq, length-sets, take-suc, take-at}
+use lib.ListN.{length, take, set, getD, length-append}
+use lib.Seq.{sets, sets-eq, length-sets, take-suc}
 use Rattle.rules.specs.Lists.{put}
 use Rattle.rules.specs.Text.{decimal}
 use Rattle.text.specs.Printed.{write, Wrote, pair}
@@ -62,11 +62,6 @@ wrote-length {at} {next} {xs} {a} {b} w = ap length (w .out) ∙ length-write at
 -- what there was room for besides a text has room after it
 pub room : (n : ℕ) {at next : ℕ} {xs a b : List ℕ} → Wrote at xs a b next → at + (length xs + n) ≤ length a → next + n ≤ length b
 room n w h = omega (arith, w .end, wrote-length w)
-
--- what was put to the front of a table stands there
-pub put-front : {A : Type 0} (n : ℕ) (xs table : List A) → n ≡ length xs → take n (put xs table) ≡ xs
-unfolding put
-put-front n xs table e = take-at xs (drop (length xs) table) n (sym e)
 
 -- at the front of a buffer that has room it is all that changes
 pub wrote-put : {r : ℕ} {xs a b : List ℕ} → length xs ≤ length a → Wrote 0 xs a b r → b ≡ put xs a

@@ -1,6 +1,6 @@
 -- Where a scan finds the byte, the first piece ends and the others begin.
 use mathlib.Core.Path.{_≡_, refl, sym, ap, _∙_}
-use mathlib.Core.Bool.{Bool, true, false}
+use mathlib.Core.Bool.{Bool, true, false, false≢true}
 use mathlib.Core.List.{List, [], _∷_}
 use Prim.Native.Nat.{ℕ, zero, suc, _+_, _-_, _≤_, _<_, min}
 use native.Mathlib.Nat.{sub-zero}
@@ -10,10 +10,10 @@ use lib.Dec.{eqb, ltb, leb·suc-suc}
 use lib.ListN.{length, take, drop, getD, length-take, length-drop, drop-of-length-le}
 use lib.Seq.{drop-cons, drop-drop, take-all}
 use borrow.Author.Tests.{eq-eqb, ne-eqb, lt-ltb, le-ltb, ltb-true, ltb-false}
+use Rattle.rules.proofs.Tables.{drop-min}
 use Rattle.rules.specs.Lists.{if}
 use Rattle.rules.specs.Text.{pieces, onto, last, but-last}
 use Rattle.text.specs.Pieces.{find, others, after, two?}
-use Rattle.text.proofs.Bools.{false-true}
 
 -- ---- the scan
 
@@ -163,15 +163,6 @@ lines-after b (suc n) l = go (ltb (find b l) (length l)) refl (lines-after b n (
         let r : drop (suc (find b l)) l ≡ [] = drop-of-length-le l {i = suc (find b l)} (omega (arith, ltb-false (find b l) (length l) e)) in
         rw (pieces-cut b l, others-none b l (ltb-false _ _ e), r, after-nil b n)
 
-drop-min : (i : ℕ) (l : List ℕ) → drop (min i (length l)) l ≡ drop i l
-drop-min i l = go (ltb (length l) i) refl
-  where
-    go : (t : Bool) → ltb (length l) i ≡ t → drop (min i (length l)) l ≡ drop i l
-    go false e = let m : min i (length l) ≡ i = omega (arith, ltb-false (length l) i e) in rw m
-    go true e =
-        let h : length l < i = ltb-true (length l) i e in
-        drop-of-length-le l {i = min i (length l)} (omega arith) ∙ sym (drop-of-length-le l {i = i} (omega arith))
-
 after-suc : (b n : ℕ) (l : List ℕ) → after b (suc n) l ≡ after b n (drop (suc (find b l)) l)
 unfolding after
 after-suc b n l = refl
@@ -207,7 +198,7 @@ second-whole b x l t = go (ltb (find b l) (length l)) refl
     go true q =
         let h = ltb-true (find b l) (length l) q in
         let z = rw (pieces-cut b l, others-more b l h, pieces-cut b (drop (suc (find b l)) l)) at t in
-        absurd (false-true z)
+        absurd (false≢true z)
 
 module _ (b : ℕ) (l : List ℕ) {first : ℕ} (e : first ≡ 0 + find b l) where
   -- there are two if the byte is not found again
@@ -224,7 +215,7 @@ module _ (b : ℕ) (l : List ℕ) {first : ℕ} (e : first ≡ 0 + find b l) whe
   two-is t = go (ltb first (length l)) refl
     where
       go : (q : Bool) → ltb first (length l) ≡ q → (first < length l) × (pieces b l ≡ take first l ∷ drop (first + 1) l ∷ [])
-      go false q = absurd (false-true (two-none (ltb-false first (length l) q) ∙ t))
+      go false q = absurd (false≢true (two-none (ltb-false first (length l) q) ∙ t))
       go true q =
           let h = ltb-true first (length l) q in
           let k : pieces b l ≡ take (first - 0) l ∷ pieces b (drop (first + 1) l) = scan-more b 0 first l e (omega arith) h in

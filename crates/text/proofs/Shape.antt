@@ -4,8 +4,7 @@ use mathlib.Core.List.{List, [], _∷_, _++_, append-assoc}
 use Prim.Native.Nat.{ℕ, zero, suc, _+_, _-_, _*_, _≤_, _<_}
 use native.Mathlib.Numerals.{add-one}
 use native.Mathlib.Omega.{arith}
-use lib.ListN.{length, take, drop, getD, length-append, drop-of-length-le}
-use lib.Seq.{drop-cons, getD-take, length-take-le}
+use lib.ListN.{length, take, drop, getD, length-append}
 use Rattle.rules.specs.Lists.{sum}
 use Rattle.rules.specs.Motif.{spell}
 use Rattle.rules.specs.Sound.{SoundTemplate, SoundComponent}
@@ -14,22 +13,18 @@ use Rattle.rules.specs.Template.{part, slots, none, components, size, cut}
 use Rattle.rules.specs.Text.{decimal, shape, shape-rest}
 use Rattle.rules.specs.declared.Component.{Component}
 use Rattle.rules.specs.declared.Template.{Template}
+use Rattle.rules.proofs.Components.{components-more, components-none, cut-some}
+use Rattle.rules.proofs.Spelling.{length-spell, spell-drop}
 use Rattle.text.specs.Printed.{Wrote, pair, letters, ranged-word, size-from, shape-from}
 use Rattle.text.proofs.Decimal.{decimal-short}
 use Rattle.text.proofs.Printed.{length-pair, room}
-use Rattle.text.proofs.Letters.{drop-spell, length-spell, length-letters}
+use Rattle.text.proofs.Letters.{length-letters}
 
 -- a component takes its letters off the front
-cut-some : (c : Component) (cs : List Component) (w v : List ℕ) → 1 ≤ length w → drop (c .length) w ≡ v
-    → cut (c ∷ cs) w ≡ part (c .low) (c .high) (take (c .length) w) ∷ cut cs v
-unfolding cut
-cut-some c cs [] v h e = absurd (omega arith)
-cut-some c cs (x ∷ w) v h e = rw (← e)
-
 cut-more : (c : Component) (cs : List Component) (j m : ℕ) → 1 ≤ c .length
     → cut (c ∷ cs) (spell 4 (c .length + j) m) ≡ part (c .low) (c .high) (take (c .length) (spell 4 (c .length + j) m)) ∷ cut cs (spell 4 j m)
 cut-more c cs j m h =
-    cut-some c cs (spell 4 (c .length + j) m) (spell 4 j m) (rw length-spell (omega arith)) (drop-spell 4 (c .length) j m)
+    cut-some c cs (spell 4 (c .length + j) m) (rw length-spell (omega arith)) ∙ rw (spell-drop 4 (c .length) j m)
 
 ranged-is : (c : Component) (w rest : List ℕ)
     → 91 ∷ decimal (c .low) ++ 44 ∷ decimal (c .high) ++ 93 ∷ w ++ rest ≡ (pair 91 (c .low) 44 (c .high) 93 ++ w) ++ rest
@@ -47,19 +42,8 @@ unfolding shape letters
 shape-first c {cs} {rest} j m e h = rw (e, cut-more c rest j m h)
 
 module _ (t : Template) (S : SoundTemplate t) where
-  count-is : length (components t) ≡ t .count
-  unfolding components
-  count-is = length-take-le (t .count) (slots t) (S .few)
-
-  at-is : (i : ℕ) → i < t .count → getD (components t) i none ≡ getD (slots t) i none
-  unfolding components
-  at-is i h = getD-take (t .count) (slots t) i none h
-
   from-more : (i : ℕ) {c : Component} → i < t .count → c ≡ getD (slots t) i none → drop i (components t) ≡ c ∷ drop (i + 1) (components t)
-  from-more i {c} h e = rw (add-one, drop-cons (components t) i none (rw count-is h), at-is i h, ← e)
-
-  from-end : (i : ℕ) → t .count ≤ i → drop i (components t) ≡ []
-  from-end i h = drop-of-length-le (components t) {i = i} (rw count-is h)
+  from-more i {c} h e = rw (add-one, components-more t (S .few) i h, ← e)
 
   sound : (i : ℕ) {c : Component} → i < t .count → c ≡ getD (slots t) i none → SoundComponent c
   sound i h e = rw e (S .each i h)
@@ -72,7 +56,7 @@ module _ (t : Template) (S : SoundTemplate t) where
   -- past the last component there are none
   pub size-from-end : (i : ℕ) → t .count ≤ i → size-from t i ≡ 0
   unfolding size-from sum
-  size-from-end i h = rw (from-end i h)
+  size-from-end i h = rw (components-none t (S .few) i h)
 
   -- from the first on they are all
   pub size-from-none : size-from t 0 ≡ size t
@@ -89,7 +73,7 @@ module _ (t : Template) (S : SoundTemplate t) where
   -- past the last component nothing is printed
   pub shape-from-end : (i m : ℕ) → t .count ≤ i → shape-from t i m ≡ []
   unfolding shape-from shape-rest cut
-  shape-from-end i m h = rw (from-end i h)
+  shape-from-end i m h = rw (components-none t (S .few) i h)
 
   -- the first component's letters and the others'
   pub size-is : size t ≡ t .c1 .length + size-from t 1

@@ -1,6 +1,6 @@
 -- The components of a well-formed line, one for each piece: the one at an index is what the piece at that index says.
 use mathlib.Core.Path.{_≡_, refl, sym, ap, _∙_}
-use mathlib.Core.Bool.{true}
+use mathlib.Core.Bool.{true, false≢true}
 use mathlib.Core.List.{List, [], _∷_}
 use Prim.Native.Nat.{ℕ, zero, suc, _+_, _-_, _≤_, _<_}
 use native.Mathlib.Nat.{add-zero}
@@ -12,7 +12,6 @@ use Rattle.rules.specs.Text.{Parsed, parsed, malformed, well-formed?, or-else, 
 use Rattle.rules.specs.declared.Component.{Component}
 use Rattle.rules.specs.declared.Template.{Template}
 use Rattle.text.specs.Pieces.{find, others, after}
-use Rattle.text.proofs.Bools.{false-true}
 use Rattle.text.proofs.Scan.{pieces-cut, pieces-after, scan-cut}
 
 -- what a well-formed list of components comes to
@@ -24,8 +23,8 @@ record Consed (x : Parsed Component) (xs : Parsed (List Component)) : Type 0 whe
 
 consed : (x : Parsed Component) (xs : Parsed (List Component)) → well-formed? (cons x xs) ≡ true → Consed x xs
 consed (parsed x) (parsed xs) e = record { first = refl; next = λ i. refl; long = refl; well = refl }
-consed (parsed x) malformed e = absurd (false-true e)
-consed malformed xs e = absurd (false-true e)
+consed (parsed x) malformed e = absurd (false≢true e)
+consed malformed xs e = absurd (false≢true e)
 
 rest-at : (ps : List (List ℕ)) (i : ℕ) → well-formed? (parse-rest ps) ≡ true → i < length ps
     → getD (or-else (parse-rest ps) []) i none ≡ or-else (parse-component (getD ps i [])) none
@@ -52,7 +51,7 @@ pieces-at (p ∷ ps) (suc i) w l h =
     c .next i ∙ rest-at ps i (c .well) (omega arith)
 
 pieces-long : (ps : List (List ℕ)) → well-formed? (parse-pieces ps) ≡ true → length (or-else (parse-pieces ps) []) ≡ length ps
-pieces-long [] w = absurd (false-true w)
+pieces-long [] w = absurd (false≢true w)
 pieces-long (p ∷ ps) w =
     let c = consed (parse-first p) (parse-rest ps) w in
     c .long ∙ ap suc (rest-long ps (c .well))

@@ -6,8 +6,7 @@ ghost use mathlib.Core.Path.{_≡_};
 ghost use mathlib.Core.List.{[], _∷_};
 ghost use Prim.Native.Nat.{_+_, _<_, _≤_};
 ghost use lib.ListN.{length, getD};
-ghost use Rattle.rules.specs.Letters.{letter};
-ghost use Rattle.rules.specs.Limits.{Letter-BASES, Template-COMPONENTS, Template-LETTERS};
+ghost use Rattle.rules.specs.Limits.{Template-COMPONENTS, Template-LETTERS};
 ghost use Rattle.rules.specs.Text.{decimal, shape, print-end, print-refused};
 ghost use Rattle.rules.specs.Template.{slots, none, size};
 ghost use Rattle.rules.specs.Support.{parts};
@@ -37,16 +36,6 @@ fn print_number(n: u64, at: usize, out: &mut [u8]) -> usize
     print_byte(last, next, out)
 }
 
-// The letter that has a value.
-fn letter(value: u64) -> u8
-    requires { ⌜ value < Letter-BASES ⌝ }
-    ensures { λ r. ⌜ r ≡ letter value ⌝ }
-{
-    let table = [b'A', b'C', b'G', b'T'];
-    let i = value as usize;
-    table[i]
-}
-
 // The first `n` of the last `left` letters of a motif.
 fn print_letters(motif: u64, left: u64, n: u64, at: usize, out: &mut [u8]) -> usize
     requires { ⌜ (n ≤ left) × (left ≤ Template-LETTERS) × (at + n ≤ length (now out)) ⌝ }
@@ -56,7 +45,11 @@ fn print_letters(motif: u64, left: u64, n: u64, at: usize, out: &mut [u8]) -> us
     let mut i = 0;
     while i < n {
         let after = left - 1 - i;
-        next = print_byte(letter((motif >> (2 * after)) % Letter::BASES), next, out);
+        next = print_byte(
+            Letter::byte((motif >> (2 * after)) % Letter::BASES),
+            next,
+            out,
+        );
         i += 1;
     }
     next

@@ -1,6 +1,6 @@
 -- The parts that components are over the last letters of a word: each next one to the front takes the letters just before
 -- those of the later ones, and a pass of it turns their counts into its own.
-use mathlib.Core.Path.{_≡_, refl, ap, _∙_}
+use mathlib.Core.Path.{_≡_, ap, _∙_}
 use mathlib.Core.List.{List, [], _∷_, map}
 use Prim.Native.Nat.{ℕ, zero, suc, _+_, _-_, _≤_, _<_}
 use native.Mathlib.Omega.{arith}
@@ -12,16 +12,11 @@ use Rattle.rules.specs.Sound.{SoundComponent, SoundTemplate}
 use Rattle.rules.specs.Template.{Part, part, none, slots, components, size, cut}
 use Rattle.rules.specs.declared.Component.{Component}
 use Rattle.rules.specs.declared.Template.{Template}
+use Rattle.rules.proofs.Components.{cut-some}
 use Rattle.ways.specs.Counts.{counts, ending, leading, letters-of, aligned}
 use Rattle.ways.proofs.Counting.{ending-counts, leading-counts}
 
 -- ---- dealing out the letters
-
--- the first component takes the first letters, if there are any
-pub cut-some : (c : Component) (cs : List Component) (w : List ℕ) → 0 < length w → cut (c ∷ cs) w ≡ part (c .low) (c .high) (take (c .length) w) ∷ cut cs (drop (c .length) w)
-unfolding cut
-cut-some c cs [] h = absurd (omega arith)
-cut-some c cs (x ∷ w) h = refl
 
 -- the later components take no more letters than all
 pub letters-within : (cs : List Component) (c : ℕ) → letters-of (drop c cs) ≤ letters-of cs

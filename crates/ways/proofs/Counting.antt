@@ -15,12 +15,14 @@ use Rattle.rules.specs.Occurrence.{stands, reach, ways}
 use Rattle.rules.specs.Template.{Part}
 use Rattle.ways.specs.Counts.{counts, entry, cell, ending, leading}
 use Rattle.ways.proofs.Standing.{stands-short}
-use Rattle.ways.proofs.Tables.{map-same, length-over, getD-over, over-most, sum-most}
+use Rattle.rules.proofs.Over.{length-map-run, getD-map-run}
+use Rattle.rules.proofs.Tables.{map-same}
+use Rattle.ways.proofs.Tables.{over-most, window-most}
 
 -- one count for each letter of the sequence
 pub length-counts : (cs : List Part) (s : List ℕ) → length (counts cs s) ≡ length s
 unfolding counts
-length-counts cs s = length-over (ways cs s) 1 (length s)
+length-counts cs s = length-map-run (ways cs s) 1 (length s)
 
 -- nothing starts before the first position or past the end
 ways-none : (c : Part) (cs : List Part) (s : List ℕ) → ways (c ∷ cs) s 0 ≡ 0
@@ -36,7 +38,7 @@ ways-past c (d ∷ ds) s o some h = rw (← (stands-short (c .word) s o (omega a
 -- the counts have the ways of each position
 pub counts-inside : (cs : List Part) (s : List ℕ) (o : ℕ) → o < length s → getD (counts cs s) o 0 ≡ ways cs s (suc o)
 unfolding counts
-counts-inside cs s o h = getD-over (ways cs s) 1 (length s) o h ∙ ap (ways cs s) (one-add o)
+counts-inside cs s o h = getD-map-run (ways cs s) 1 (length s) o h ∙ ap (ways cs s) (one-add o)
 
 -- and 0 where there are none
 counts-at : (c : Part) (cs : List Part) (s : List ℕ) → 0 < length (c .word) → (p : ℕ) → entry (counts (c ∷ cs) s) p ≡ ways (c ∷ cs) s p
@@ -59,7 +61,10 @@ ending-counts c s = refl
 pub leading-counts : (c d : Part) (ds : List Part) (s : List ℕ) → 0 < length (d .word)
     → map (leading (c .word) (d .low) (d .high) s (counts (d ∷ ds) s)) (run 1 (length s)) ≡ counts (c ∷ d ∷ ds) s
 unfolding counts leading cell ways
-leading-counts c d ds s some = map-same _ _ (λ p. rw (map-same (entry (counts (d ∷ ds) s)) (ways (d ∷ ds) s) (counts-at d ds s some) (reach (length (c .word)) (d .low) (d .high) p))) (run 1 (length s))
+leading-counts c d ds s some =
+    map-same (leading (c .word) (d .low) (d .high) s (counts (d ∷ ds) s)) (ways (c ∷ d ∷ ds) s)
+    (λ p. rw (map-same (entry (counts (d ∷ ds) s)) (ways (d ∷ ds) s) (counts-at d ds s some) (reach (length (c .word)) (d .low) (d .high) p)))
+    (run 1 (length s))
 
 -- what a sliding sum has at an offset goes into the cell there
 pub leading-at : (w : List ℕ) (low high : ℕ) (s later : List ℕ) (o : ℕ) {t v : ℕ}
@@ -88,6 +93,6 @@ leading-most w low high s later b n near h e =
     over-most (leading w low high s later) ((Template-GAP + 1) * b)
     (λ p.
     le-trans (cell-most w s p _)
-    (le-trans (sum-most (entry later) b h (p + length w + low) (high + 1 - low)) (mul-le-mul-right b (omega arith))))
+    (le-trans (window-most (entry later) b h (p + length w + low) (high + 1 - low)) (mul-le-mul-right b (omega arith))))
     n
     e

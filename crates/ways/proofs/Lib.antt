@@ -1,7 +1,6 @@
 pub mod Standing
 pub mod Tables
 pub mod Counting
-pub mod Spelling
 pub mod Aligned
 pub mod Bytes
 pub mod Totals

@@ -3,10 +3,8 @@
 use mathlib.Core.Path.{_≡_, refl, sym, ap, _∙_}
 use mathlib.Core.List.{List, [], _∷_, _++_, map}
 use Prim.Native.Nat.{ℕ, zero, suc, _+_, _-_, _^_, _≤_, _<_}
-use native.Mathlib.Nat.{zero-add, suc-add}
 use native.Mathlib.Omega.{arith}
-use lib.ListN.{length, drop, getD, length-map, length-take}
-use lib.Seq.{getD-take}
+use lib.ListN.{length, drop, getD, length-map}
 use Rattle.rules.specs.Letters.{letter, value}
 use Rattle.rules.specs.Limits.{Letter-BASES}
 use Rattle.rules.specs.Lists.{each, sum, put}
@@ -15,22 +13,19 @@ use Rattle.rules.specs.Recovery.{whole-list}
 use Rattle.rules.specs.Sequences.{sequences}
 use Rattle.rules.specs.Sound.{SoundSet, SoundTemplate}
 use Rattle.rules.specs.Support.{weight, occurrence-rows, parts}
-use Rattle.rules.specs.Template.{none, slots, components, size, cut}
+use Rattle.rules.specs.Template.{none, components, size, cut}
 use Rattle.rules.specs.declared.Component.{Component}
 use Rattle.rules.specs.declared.Template.{Template}
 use Rattle.rules.proofs.Bound.{list-bound}
-use Rattle.rules.proofs.Prefix.{length-spell, spell-below}
+use Rattle.rules.proofs.Bytes.{lettered, Spelled, cut-spelled, cut-bytes}
+use Rattle.rules.proofs.Components.{cut-some, components-some}
+use Rattle.rules.proofs.Spelling.{length-spell, spell-below, spell-drop}
+use Rattle.rules.proofs.Tables.{map-drop}
 use Rattle.ways.specs.Counts.{counts, all-counts, positives, Tally, letters-of, aligned}
-use Rattle.ways.proofs.Aligned.{cut-some, letters-within}
-use Rattle.ways.proofs.Bytes.{map-drop, lettered, Spelled, counts-bytes, all-bytes, cut-spelled, cut-bytes}
+use Rattle.ways.proofs.Aligned.{letters-within}
+use Rattle.ways.proofs.Bytes.{counts-bytes, all-bytes}
 use Rattle.ways.proofs.Counting.{length-counts}
 use Rattle.ways.proofs.Totals.{weight-counts, rows-counts}
-
--- the later letters of a spelling
-spell-drop : (k n m : ℕ) → drop k (spell Letter-BASES (k + n) m) ≡ spell Letter-BASES n m
-unfolding spell
-spell-drop zero n m = rw zero-add
-spell-drop (suc k) n m = rw suc-add (spell-drop k n m)
 
 -- the parts from the component c on are those of the later components and letters alone
 drop-cut : (cs : List Component) → ((i : ℕ) → i < length cs → 1 ≤ (getD cs i none) .length) → (c m : ℕ)
@@ -40,7 +35,7 @@ drop-cut cs some zero m = refl
 drop-cut [] some (suc c) m = refl
 drop-cut (x ∷ cs) some (suc c) m =
     let h : 0 < length (spell Letter-BASES (x .length + letters-of cs) m) = rw length-spell (omega (arith, some 0 (omega arith))) in
-    rw (cut-some x cs _ h, spell-drop (x .length) (letters-of cs) m) (drop-cut cs (λ i l. some (suc i) (omega arith)) c m)
+    rw (cut-some x cs _ h, spell-drop Letter-BASES (x .length) (letters-of cs) m) (drop-cut cs (λ i l. some (suc i) (omega arith)) c m)
 
 aligned-bytes : (cs : List Component) (n m : ℕ) → letters-of cs ≤ n
     → aligned cs (map letter (spell Letter-BASES n m)) ≡ map lettered (cut cs (spell Letter-BASES (letters-of cs) m))
@@ -48,21 +43,15 @@ unfolding aligned
 aligned-bytes cs n m h =
     let e : n ≡ (n - letters-of cs) + letters-of cs = omega arith in
     let k : drop (n - letters-of cs) (spell Letter-BASES n m) ≡ spell Letter-BASES (letters-of cs) m =
-    ap (λ j. drop (n - letters-of cs) (spell Letter-BASES j m)) e ∙ spell-drop (n - letters-of cs) (letters-of cs) m in
+    ap (λ j. drop (n - letters-of cs) (spell Letter-BASES j m)) e ∙ spell-drop Letter-BASES (n - letters-of cs) (letters-of cs) m in
     rw (length-map (spell Letter-BASES n m) letter, length-spell, map-drop letter (n - letters-of cs) (spell Letter-BASES n m), k) (cut-bytes cs _)
 
 -- ---- the motif m of a template, spelled in n bytes
 
 module _ {t : Template} (sound : SoundTemplate t) (m n : ℕ) (fits : size t ≤ n) where
-  some-letters : (i : ℕ) → i < length (components t) → 1 ≤ (getD (components t) i none) .length
-  unfolding components
-  some-letters i h =
-      let l : i < t .count = omega (arith, length-take (t .count) (slots t)) in
-      rw (getD-take (t .count) (slots t) i none l) (sound .each i l .some)
-
   parts-from : (c : ℕ) → drop c (parts t (size t) m) ≡ cut (drop c (components t)) (spell Letter-BASES (letters-of (drop c (components t))) m)
   unfolding parts size letters-of
-  parts-from c = drop-cut (components t) some-letters c m
+  parts-from c = drop-cut (components t) (components-some sound) c m
 
   spelled-from : (c : ℕ) → Spelled (drop c (parts t (size t) m))
   spelled-from c = rw (parts-from c) (cut-spelled _ _ (spell-below Letter-BASES _ m (omega arith)))

@@ -16,15 +16,11 @@ use Rattle.rules.specs.Sequences.{split}
 use Rattle.rules.specs.Support.{firsts, weight, occurrence-rows}
 use Rattle.rules.specs.Template.{Part}
 use Rattle.rules.proofs.Lists.{keep-append}
+use Rattle.rules.proofs.Tables.{sum-append}
 use Rattle.rules.proofs.Ways.{ways-count, occurrences-count, rows-count}
 use Rattle.ways.specs.Counts.{counts, all-counts, positives}
 
 -- ---- lists of numbers, end to end
-
-sum-append : (xs ys : List ℕ) → sum (xs ++ ys) ≡ sum xs + sum ys
-unfolding sum
-sum-append [] ys = omega arith
-sum-append (x ∷ xs) ys = omega (arith, sum-append xs ys)
 
 positives-append : (xs ys : List ℕ) → positives (xs ++ ys) ≡ positives xs + positives ys
 unfolding positives
@@ -69,16 +65,6 @@ rows-counts cs ss = rows-count cs ss ∙ occurrences-counts cs ss
 -- ---- a loop over a list of numbers
 
 module _ (l : List ℕ) (i : ℕ) where
-  -- the sum from the number i on
-  pub sum-step : i < length l → sum (drop i l) ≡ getD l i 0 + sum (drop (i + 1) l)
-  unfolding sum
-  sum-step h = rw (add-one i, drop-cons l i 0 h)
-
-  -- and past the last
-  pub sum-end : length l ≤ i → sum (drop i l) ≡ 0
-  unfolding sum
-  sum-end h = rw (drop-of-length-le l {i = i} h)
-
   -- how many are above 0 from the number i on
   pub positives-step : i < length l → positives (drop i l) ≡ if (ltb 0 (getD l i 0)) 1 0 + positives (drop (i + 1) l)
   unfolding positives keep

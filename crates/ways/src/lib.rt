@@ -8,45 +8,15 @@ ghost use mathlib.Core.List.{map};
 ghost use Prim.Native.Nat.{ℕ, suc, _+_, _^_, _≤_, _<_};
 ghost use lib.Dec.{ltb};
 ghost use lib.ListN.{length, drop};
-ghost use Rattle.rules.specs.Letters.{value, letter};
-ghost use Rattle.rules.specs.Limits.{Letter-BASES, Template-LENGTH, Template-GAP};
+ghost use Rattle.rules.specs.Letters.{value};
+ghost use Rattle.rules.specs.Limits.{Template-LENGTH, Template-GAP};
 ghost use Rattle.rules.specs.Lists.{if, run, sum, put};
-ghost use Rattle.rules.specs.Motif.{spell};
 ghost use Rattle.rules.specs.Occurrence.{stands};
 ghost use Rattle.rules.specs.Sequences.{sequences};
 ghost use Rattle.rules.specs.Sound.{SoundSet, SoundComponent, SoundTemplate};
 ghost use Rattle.rules.specs.Support.{weight, occurrence-rows, parts};
 ghost use Rattle.rules.specs.Template.{size, components};
 ghost use Rattle.ways.specs.Counts.{counts, all-counts, most-ways, Tally, entry, cell, ending, leading, aligned};
-
-// The byte of the letter that a digit names.
-fn letter(v: u64) -> u8
-    ensures { λ r. ⌜ r ≡ letter v ⌝ }
-{
-    if v == 0 {
-        return b'A';
-    }
-    if v == 1 {
-        return b'C';
-    }
-    if v == 2 {
-        return b'G';
-    }
-    b'T'
-}
-
-// Writes the last letters of a motif, as many as there is room for.
-fn spell(motif: u64, word: &mut [u8])
-    ensures { λ _. ⌜ now (word .exit) ≡ map letter (spell Letter-BASES (length (now (word .entry))) motif) ⌝ }
-{
-    let mut rest = motif;
-    let mut i = word.len();
-    while 0 < i {
-        i -= 1;
-        word[i] = letter(rest % Letter::BASES);
-        rest = rest / Letter::BASES;
-    }
-}
 
 // Whether the letters of `word` stand in `s` at the offset `o`.
 fn stands(word: &[u8], s: &[u8], o: usize) -> bool
@@ -160,7 +130,7 @@ pub fn fill(sequence: &[u8], template: Template, motif: u64, from: usize, ways: 
     ensures { λ _. ⌜ now (ways .exit) ≡ put (counts (drop from (parts template (size template) motif)) (map value (now (sequence .entry)))) (now (ways .entry)) ⌝ }
 {
     let mut word = [0u8; Template::LETTERS as usize];
-    spell(motif, &mut word);
+    Letter::spell(motif, &mut word);
     let n = sequence.len();
     passes(sequence, template, &word, from, &mut ways[..n]);
 }
@@ -257,6 +227,6 @@ pub fn tally(
     ensures { λ _. ⌜ length (now (ways .exit)) ≡ length (now (ways .entry)) ⌝ }
 {
     let mut word = [0u8; Template::LETTERS as usize];
-    spell(motif, &mut word);
+    Letter::spell(motif, &mut word);
     examine_all(letters, lengths, template, &word, ways)
 }

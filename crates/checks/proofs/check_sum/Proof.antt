@@ -7,7 +7,8 @@ use lib.ListN.{length, drop}
 use borrow.Author.Tests.{ne-eqb}
 use Rattle.rules.specs.Lists.{sum}
 use Rattle.rules.specs.Refusals.{check3}
-use Rattle.checks.proofs.Laws.{sum-more, sum-over, same-left}
+use Rattle.rules.proofs.Tables.{sum-more, sum-over}
+use Rattle.checks.proofs.Laws.{same-left}
 use borrow.Author.Needs.{needs}
 use Rattle.checks.proofs.check_sum.Statement.{statement}
 use Rattle.checks.proofs.check_sum.Tie as tie

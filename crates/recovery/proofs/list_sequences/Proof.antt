@@ -11,7 +11,7 @@ use Rattle.rules.specs.Limits.{SequenceSet-LETTERS, Template-COMPONENTS}
 use Rattle.rules.specs.Lists.{sum}
 use Rattle.rules.specs.Support.{parts}
 use Rattle.rules.specs.Template.{size}
-use Rattle.ways.proofs.Totals.{sum-step}
+use Rattle.rules.proofs.Tables.{sum-more}
 use Rattle.recovery.proofs.list_sequences.Statement.{statement}
 use Rattle.recovery.proofs.list_sequences.Tie as tie
 
@@ -46,7 +46,7 @@ add-end c =
     let a = c .before .before .before .before .before .before .before .before .args in
     let l = c .before .before .loop in
     let h : l .i < length (a .lengths .now) = omega arith in
-    omega (arith, sum-step (a .lengths .now) (l .i) h)
+    omega (arith, sum-more (a .lengths .now) (l .i) h)
 
 add-list-sequence : tie.Need-add-list-sequence Inv-loop μ-loop
 add-list-sequence c = search needs
@@ -62,7 +62,7 @@ part-list-sequence-end c =
     let a = c .before .before .before .before .before .before .before .before .args in
     let l = c .before .before .loop in
     let h : l .i < length (a .lengths .now) = omega arith in
-    omega (arith, sum-step (a .lengths .now) (l .i) h)
+    omega (arith, sum-more (a .lengths .now) (l .i) h)
 
 list-sequence-requires : tie.Need-list-sequence-requires Inv-loop μ-loop
 list-sequence-requires c κs =
@@ -89,7 +89,7 @@ loop-again c =
       search needs,
       search needs,
       r .0,
-      omega (arith, sum-step (a .lengths .now) (l .i) h),
+      omega (arith, sum-more (a .lengths .now) (l .i) h),
       through-again (suc (a .template .count)) cs (a .lengths .now) (a .letters .now) (l .i) (l .begin) _ (buffer (l .p) (l .out)) h refl (r .1) (l .inv .6),
     )
 

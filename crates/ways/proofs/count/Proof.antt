@@ -6,7 +6,8 @@ use native.Mathlib.Omega.{arith}
 use lib.ListN.{length, drop}
 use Rattle.rules.specs.Lists.{sum}
 use Rattle.ways.specs.Counts.{positives}
-use Rattle.ways.proofs.Totals.{sum-step, sum-end, positives-step, positives-end, positives-most}
+use Rattle.rules.proofs.Tables.{sum-more, sum-over}
+use Rattle.ways.proofs.Totals.{positives-step, positives-end, positives-most}
 use Rattle.ways.proofs.count.Statement.{statement}
 use Rattle.ways.proofs.count.Tie as tie
 
@@ -41,7 +42,7 @@ add-occurrences c =
     let l = c .before .before .before .loop in
     let w = c .before .before .before .before .before .args .ways .now in
     let h : l .i < length w = omega arith in
-    omega (arith, sum-step w (l .i) h)
+    omega (arith, sum-more w (l .i) h)
 
 add-i : tie.Need-add-i Inv-loop μ-loop
 add-i c = search needs
@@ -54,14 +55,14 @@ loop-again c =
     let l = c .before .before .before .loop in
     let w = c .before .before .before .before .before .args .ways .now in
     let h : l .i < length w = omega arith in
-    (omega arith, omega (arith, positives-step w (l .i) h), omega (arith, sum-step w (l .i) h))
+    (omega arith, omega (arith, positives-step w (l .i) h), omega (arith, sum-more w (l .i) h))
 
 returns : tie.Need-returns Inv-loop μ-loop
 returns c =
     let l = c .before .loop in
     let w = c .before .before .before .args .ways .now in
     let h : length w ≤ l .i = omega arith in
-    record { starts = omega (arith, positives-end w (l .i) h); all = omega (arith, sum-end w (l .i) h) }
+    record { starts = omega (arith, positives-end w (l .i) h); all = omega (arith, sum-over w (l .i) h) }
 
 pub count-spec : {M : Type 1} → statement M
 count-spec =

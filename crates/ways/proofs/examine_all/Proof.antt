@@ -10,7 +10,8 @@ use lib.Seq.{length-take-le, length-front}
 use Rattle.rules.specs.Lists.{sum}
 use Rattle.rules.specs.Template.{Part, components}
 use Rattle.ways.specs.Counts.{counts, all-counts, positives, Tally, aligned}
-use Rattle.ways.proofs.Totals.{sum-step, positives-most, all-sum, all-positives, all-end}
+use Rattle.rules.proofs.Tables.{sum-more}
+use Rattle.ways.proofs.Totals.{positives-most, all-sum, all-positives, all-end}
 use Rattle.ways.proofs.examine_all.Statement.{statement}
 use Rattle.ways.proofs.examine_all.Tie as tie
 
@@ -38,7 +39,7 @@ module _ (l : tie.In-loop Inv-loop μ-loop) where
   sequence = take size (drop (l .before .loop .begin) (l .before .before .before .before .before .before .args .letters .now))
 
   left : sum (drop (l .before .loop .i) (l .before .before .before .before .before .before .args .lengths .now)) ≡ size + sum (drop (l .before .loop .i + 1) (l .before .before .before .before .before .before .args .lengths .now))
-  left = sum-step (l .before .before .before .before .before .before .args .lengths .now) (l .before .loop .i) (l .loop-test .taken)
+  left = sum-more (l .before .before .before .before .before .before .args .lengths .now) (l .before .loop .i) (l .loop-test .taken)
 
   inside : l .before .loop .begin + size ≤ length (l .before .before .before .before .before .before .args .letters .now)
   inside = omega (arith, left, l .before .loop .inv .2)

@@ -7,10 +7,11 @@ use Prim.Native.Nat.{ℕ, suc, _+_, _-_, _≤_}
 use native.Mathlib.Omega.{arith}
 use native.Mathlib.Nat.{zero-add}
 use lib.ListN.{length}
-use Rattle.rules.specs.Lists.{run, sum}
+use Rattle.rules.specs.Lists.{run, sum, over}
 use Rattle.ways.specs.Counts.{entry, most-ways, leading}
 use Rattle.ways.proofs.Counting.{leading-at}
-use Rattle.ways.proofs.Tables.{over, over-none, over-put, over-all, over-keeps, sum-slide, sum-most}
+use Rattle.rules.proofs.Over.{over-none, over-put}
+use Rattle.ways.proofs.Tables.{by-offset, entry-all, entry-keeps, window-slide, window-most}
 use Rattle.ways.proofs.pass.Statement.{statement}
 use Rattle.ways.proofs.pass.Tie as tie
 
@@ -18,7 +19,7 @@ abbrev Inv-loop : tie.InvT-loop
 Inv-loop word s ways₀ low high distance count total₀ o₀ ways total o =
     (o ≤ length ways₀)
     × (length ways ≡ length ways₀)
-    × (ways ≡ over (leading word low high s ways₀) o ways₀)
+    × (ways ≡ over (by-offset (leading word low high s ways₀)) o ways₀)
     × (total ≡ sum (map (entry ways₀) (run (suc (o + distance)) count)))
 
 abbrev μ-loop : tie.MeasureT-loop
@@ -37,14 +38,14 @@ module _ (l : tie.At-loop Inv-loop μ-loop) where
 
 -- the number that comes into the sum, and the one that goes out: both are still as they were
 comes-in : (c : tie.After-at Inv-loop μ-loop) → c .at .result ≡ entry (later (c .before .before .before .before)) (suc (from (c .before .before .before .before) + span (c .before .before .before .before)))
-comes-in c = c .at .ensures ∙ over-keeps _ _ _ (c .before .before .before .before .loop .inv .2) _ (omega arith)
+comes-in c = c .at .ensures ∙ entry-keeps _ _ _ (c .before .before .before .before .loop .inv .2) _ (omega arith)
 
 goes-out : (c : tie.After-at2 Inv-loop μ-loop) → c .at2 .result ≡ entry (later (c .before .before .before .before .before .before)) (suc (from (c .before .before .before .before .before .before)))
-goes-out c = c .at2 .ensures ∙ over-keeps _ _ _ (c .before .before .before .before .before .before .loop .inv .2) _ (omega arith)
+goes-out c = c .at2 .ensures ∙ entry-keeps _ _ _ (c .before .before .before .before .before .before .loop .inv .2) _ (omega arith)
 
 slides : (c : tie.After-at2 Inv-loop μ-loop)
     → c .before .before .before .before .before .before .loop .total + c .before .before .at .result ≡ c .at2 .result + sum (map (entry (later (c .before .before .before .before .before .before))) (run (suc (from (c .before .before .before .before .before .before) + 1)) (span (c .before .before .before .before .before .before))))
-slides c = omega (arith, comes-in (c .before .before), goes-out c, c .before .before .before .before .before .before .loop .inv .3, sum-slide (entry (later (c .before .before .before .before .before .before))) (from (c .before .before .before .before .before .before)) (span (c .before .before .before .before .before .before)))
+slides c = omega (arith, comes-in (c .before .before), goes-out c, c .before .before .before .before .before .before .loop .inv .3, window-slide (entry (later (c .before .before .before .before .before .before))) (from (c .before .before .before .before .before .before)) (span (c .before .before .before .before .before .before)))
 
 cast-low : tie.Need-cast-low Inv-loop μ-loop
 cast-low c = search needs
@@ -83,7 +84,7 @@ add-total : tie.Need-add-total Inv-loop μ-loop
 add-total c =
     let l = c .before .before .before .before in
     let b = l .before .before .before .before .before .before .before .before .pre .0 .2 in
-    omega (arith, comes-in c, l .loop .inv .3, sum-most (entry (later l)) most-ways b (suc (from l)) (span l), b (suc (from l + span l)))
+    omega (arith, comes-in c, l .loop .inv .3, window-most (entry (later l)) most-ways b (suc (from l)) (span l), b (suc (from l + span l)))
 
 add-at-3 : tie.Need-add-at-3 Inv-loop μ-loop
 add-at-3 c = search needs
@@ -107,6 +108,7 @@ loop-less : tie.Need-loop-less Inv-loop μ-loop
 loop-less c = search needs
 
 loop-again : tie.Need-loop-again Inv-loop μ-loop
+unfolding by-offset
 loop-again c =
     let l = c .before .before .before .before .before .before in
     let on : l .loop .o + 1 + (length (l .before .before .before .before .before .before .before .before .args .word .now) + l .before .before .before .before .before .before .before .before .args .next .low) ≡ from l + 1 = omega arith in (
@@ -120,7 +122,7 @@ same-length : tie.Need-same-length Inv-loop μ-loop
 same-length c = search needs
 
 returns : tie.Need-returns Inv-loop μ-loop
-returns c = c .before .loop .inv .2 ∙ over-all _ _ _ _ (search needs) (search needs)
+returns c = entry-all _ _ _ (c .before .loop .inv .2) (search needs) (search needs)
 
 pub pass-spec : {M : Type 1} → statement M
 pass-spec =

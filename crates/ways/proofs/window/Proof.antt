@@ -6,7 +6,7 @@ use native.Mathlib.Omega.{arith}
 use mathlib.Core.List.{map}
 use Rattle.rules.specs.Lists.{run, sum}
 use Rattle.ways.specs.Counts.{entry, most-ways}
-use Rattle.ways.proofs.Tables.{sum-none, sum-more, sum-most}
+use Rattle.ways.proofs.Tables.{window-none, window-more, window-most}
 use Rattle.ways.proofs.window.Statement.{statement}
 use Rattle.ways.proofs.window.Tie as tie
 
@@ -17,7 +17,7 @@ abbrev μ-loop : tie.MeasureT-loop
 μ-loop a from count total₀ k₀ total k = count - k
 
 loop-holds : tie.Need-loop-holds Inv-loop μ-loop
-loop-holds c = (search needs, sum-none _ _)
+loop-holds c = (search needs, window-none _ _)
 
 add-at : tie.Need-add-at Inv-loop μ-loop
 add-at c = search needs
@@ -29,7 +29,7 @@ add-total : tie.Need-add-total Inv-loop μ-loop
 add-total c =
     let a = c .before .before .before .before .args in
     let p = c .before .before .before .before .pre in
-    omega (arith, p .2 (suc (a .from + c .before .before .loop .k)), sum-most (entry (a .a .now)) most-ways (p .2) (suc (a .from)) (c .before .before .loop .k))
+    omega (arith, p .2 (suc (a .from + c .before .before .loop .k)), window-most (entry (a .a .now)) most-ways (p .2) (suc (a .from)) (c .before .before .loop .k))
 
 add-k : tie.Need-add-k Inv-loop μ-loop
 add-k c = search needs
@@ -38,7 +38,7 @@ loop-less : tie.Need-loop-less Inv-loop μ-loop
 loop-less c = search needs
 
 loop-again : tie.Need-loop-again Inv-loop μ-loop
-loop-again c = (search needs, cc (sum-more (entry (c .before .before .before .before .args .a .now)) (c .before .before .before .before .args .from) (c .before .before .loop .k)))
+loop-again c = (search needs, cc (window-more (entry (c .before .before .before .before .args .a .now)) (c .before .before .before .before .args .from) (c .before .before .loop .k)))
 
 returns : tie.Need-returns Inv-loop μ-loop
 returns c =

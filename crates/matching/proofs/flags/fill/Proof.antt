@@ -3,8 +3,8 @@ use mathlib.Core.Path.{_≡_, refl}
 use Prim.Native.Nat.{_-_, _≤_}
 use lib.ListN.{length}
 use borrow.Author.Needs.{needs}
-use Rattle.matching.specs.Flags.{over}
-use Rattle.matching.proofs.Over.{over-none, over-put, over-value}
+use Rattle.rules.specs.Lists.{over}
+use Rattle.rules.proofs.Over.{over-none, over-put, over-value}
 use Rattle.matching.proofs.flags.fill.Statement.{statement}
 use Rattle.matching.proofs.flags.fill.Tie as tie
 

@@ -3,9 +3,10 @@ use mathlib.Core.Path.{_≡_}
 use Prim.Native.Nat.{_-_, _≤_}
 use lib.ListN.{length}
 use borrow.Author.Needs.{needs}
-use Rattle.matching.specs.Flags.{over, kept-at}
+use Rattle.rules.specs.Lists.{over}
+use Rattle.matching.specs.Flags.{kept-at}
 use Rattle.matching.proofs.Letters.{kept-in}
-use Rattle.matching.proofs.Over.{over-none, over-put, over-keeps, over-end}
+use Rattle.rules.proofs.Over.{over-none, over-put, over-keeps, over-end}
 use Rattle.matching.proofs.flags.keep_first.Statement.{statement}
 use Rattle.matching.proofs.flags.keep_first.Tie as tie
 

@@ -4,9 +4,10 @@ use Prim.Native.Nat.{ℕ, _+_, _-_, _≤_}
 use native.Mathlib.Omega.{arith}
 use lib.ListN.{length, getD}
 use borrow.Author.Needs.{needs}
-use Rattle.matching.specs.Flags.{over, recent, near}
+use Rattle.rules.specs.Lists.{over}
+use Rattle.matching.specs.Flags.{recent, near}
 use Rattle.matching.proofs.Gaps.{recent-none, recent-least, recent-bound, recent-next, near-is}
-use Rattle.matching.proofs.Over.{over-none, over-put, over-end}
+use Rattle.rules.proofs.Over.{over-none, over-put, over-end}
 use Rattle.matching.proofs.flags.reach.Statement.{statement}
 use Rattle.matching.proofs.flags.reach.Tie as tie
 

@@ -5,14 +5,13 @@ use Prim.Native.Nat.{_+_, _-_, _≤_}
 use native.Mathlib.Omega.{arith}
 use lib.ListN.{length, drop, getD}
 use borrow.Author.Needs.{needs}
-use Rattle.rules.specs.Lists.{sum}
+use Rattle.rules.specs.Lists.{sum, over}
 use Rattle.rules.specs.Sequences.{split}
 use Rattle.rules.specs.Template.{cut, components}
-use Rattle.matching.specs.Flags.{over}
 use Rattle.matching.specs.Marks.{held}
 use Rattle.matching.proofs.Held.{length-held}
 use Rattle.matching.proofs.Marking.{later-sequences, sum-next, mark-at, mark-next, mark-free, marks-end}
-use Rattle.matching.proofs.Over.{over-none, over-put}
+use Rattle.rules.proofs.Over.{over-none, over-put}
 use Rattle.matching.proofs.prefix.mark_all.Statement.{statement}
 use Rattle.matching.proofs.prefix.mark_all.Tie as tie
 

@@ -24,14 +24,14 @@ sub-after c = search needs
 sub-after-2 : tie.Need-sub-after-2 Inv-loop μ-loop
 sub-after-2 c = search needs
 
-mul-letter : tie.Need-mul-letter Inv-loop μ-loop
-mul-letter c = search needs
+mul-byte : tie.Need-mul-byte Inv-loop μ-loop
+mul-byte c = search needs
 
-shr-letter : tie.Need-shr-letter Inv-loop μ-loop
-shr-letter c = search needs
+shr-byte : tie.Need-shr-byte Inv-loop μ-loop
+shr-byte c = search needs
 
-letter-requires : tie.Need-letter-requires Inv-loop μ-loop
-letter-requires c κs = search needs
+byte-requires : tie.Need-byte-requires Inv-loop μ-loop
+byte-requires c κs = search needs
 
 print-byte-requires : tie.Need-print-byte-requires Inv-loop μ-loop
 print-byte-requires c κs =
@@ -48,7 +48,7 @@ loop-less c = search needs
 loop-again : tie.Need-loop-again Inv-loop μ-loop
 loop-again c = (
   search needs,
-  wrote-as (c .before .before .before .before .before .before .loop .inv .1 then c .before .before .print-byte .ensures) (letters-more _ _ (c .before .before .before .before .before .before .before .before .args .motif) (search needs) (c .before .before .before .before .letter .ensures)),
+  wrote-as (c .before .before .before .before .before .before .loop .inv .1 then c .before .before .print-byte .ensures) (letters-more _ _ (c .before .before .before .before .before .before .before .before .args .motif) (search needs) (c .before .before .before .before .byte .ensures)),
 )
 
 same-length : tie.Need-same-length Inv-loop μ-loop
@@ -66,9 +66,9 @@ print-letters-spec =
     loop-holds
     sub-after
     sub-after-2
-    mul-letter
-    shr-letter
-    letter-requires
+    mul-byte
+    shr-byte
+    byte-requires
     print-byte-requires
     add-i
     loop-less

@@ -7,9 +7,8 @@ use native.Mathlib.Numerals.{add-one}
 use native.Mathlib.Omega.{arith}
 use lib.ListN.{length, drop, getD, set, replicate, length-map, drop-of-length-le}
 use lib.Seq.{drop-cons, drop-at, set-at, getD-append-add, getD-drop}
+use Rattle.rules.specs.Lists.{run, over}
 use Rattle.rules.proofs.Lists.{length-run}
-use Rattle.rules.specs.Lists.{run}
-use Rattle.matching.specs.Flags.{over}
 
 -- a run with one number more
 pub map-run : (f : ℕ → ℕ) (a n : ℕ) → map f (run a (suc n)) ≡ map f (run a n) ++ (f (a + n) ∷ [])
@@ -22,16 +21,22 @@ pub length-map-run : (f : ℕ → ℕ) (a n : ℕ) → length (map f (run a n)) 
 length-map-run f a n = simp (length-map, length-run)
 
 -- two functions that agree on a run
-pub map-same : (f g : ℕ → ℕ) (a n : ℕ) → ((i : ℕ) → a ≤ i → i < a + n → f i ≡ g i) → map f (run a n) ≡ map g (run a n)
+pub map-agree : (f g : ℕ → ℕ) (a n : ℕ) → ((i : ℕ) → a ≤ i → i < a + n → f i ≡ g i) → map f (run a n) ≡ map g (run a n)
 unfolding run
-map-same f g a zero h = refl
-map-same f g a (suc n) h = rw (h a (omega arith) (omega arith), map-same f g (suc a) n (λ i k l. h i (omega arith) (omega arith)))
+map-agree f g a zero h = refl
+map-agree f g a (suc n) h = rw (h a (omega arith) (omega arith), map-agree f g (suc a) n (λ i k l. h i (omega arith) (omega arith)))
 
 -- a function that has one value on a run
 pub map-one : (f : ℕ → ℕ) (v a n : ℕ) → ((i : ℕ) → a ≤ i → f i ≡ v) → map f (run a n) ≡ replicate n v
 unfolding run
 map-one f v a zero h = refl
 map-one f v a (suc n) h = rw (h a (omega arith), map-one f v (suc a) n (λ i k. h i (omega arith)))
+
+-- a run that starts one later
+pub map-shift : (f : ℕ → ℕ) (a n : ℕ) → map (λ i. f (suc i)) (run a n) ≡ map f (run (suc a) n)
+unfolding run
+map-shift f a zero = refl
+map-shift f a (suc n) = ap (λ (l : List ℕ). f (suc a) ∷ l) (map-shift f (suc a) n)
 
 -- what stands at a place of a run
 pub getD-map-run : (f : ℕ → ℕ) (a n i : ℕ) → i < n → getD (map f (run a n)) i 0 ≡ f (a + i)

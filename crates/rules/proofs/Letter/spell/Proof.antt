@@ -6,31 +6,31 @@ use Prim.Native.Nat.{_-_, _/_, _^_, _≤_, _<_}
 use native.Mathlib.Nat.{sub-zero}
 use native.Mathlib.Omega.{arith}
 use lib.ListN.{length, drop, length-set}
 use Rattle.rules.specs.Letters.{letter}
 use Rattle.rules.specs.Limits.{Letter-BASES}
 use Rattle.rules.specs.Motif.{spell}
-use Rattle.ways.proofs.Spelling.{spelled-none, spelled-rest, spelled-more}
-use Rattle.ways.proofs.spell.Statement.{statement}
-use Rattle.ways.proofs.spell.Tie as tie
+use Rattle.rules.proofs.Spelling.{spelled-none, spelled-rest, spelled-more}
+use Rattle.rules.proofs.Letter.spell.Statement.{statement}
+use Rattle.rules.proofs.Letter.spell.Tie as tie
 
 abbrev Inv-loop : tie.InvT-loop
-Inv-loop motif word₀ rest₀ i₀ word rest i =
+Inv-loop number word₀ rest₀ i₀ word rest i =
     (i ≤ length word₀)
     × (length word ≡ length word₀)
-    × (rest ≡ motif / Letter-BASES ^ (length word₀ - i))
-    × (drop i word ≡ map letter (spell Letter-BASES (length word₀ - i) motif))
+    × (rest ≡ number / Letter-BASES ^ (length word₀ - i))
+    × (drop i word ≡ map letter (spell Letter-BASES (length word₀ - i) number))
 
 abbrev μ-loop : tie.MeasureT-loop
-μ-loop motif word₀ rest₀ i₀ word rest i = i
+μ-loop number word₀ rest₀ i₀ word rest i = i
 
 loop-holds : tie.Need-loop-holds Inv-loop μ-loop
-loop-holds c = let z = spelled-none (c .before .args .motif) (c .before .args .word .now) in (search needs, search needs, z .0, z .1)
+loop-holds c = let z = spelled-none (c .before .args .number) (c .before .args .word .now) in (search needs, search needs, z .0, z .1)
 
 sub-i : tie.Need-sub-i Inv-loop μ-loop
 sub-i c = search needs
 
-letter-requires : tie.Need-letter-requires Inv-loop μ-loop
-letter-requires c κs = search needs
+byte-requires : tie.Need-byte-requires Inv-loop μ-loop
+byte-requires c κs = search needs
 
 slice-write-word : tie.Need-slice-write-word Inv-loop μ-loop
 slice-write-word c = search needs
@@ -41,7 +41,7 @@ loop-less c = search needs
 loop-again : tie.Need-loop-again Inv-loop μ-loop
 loop-again c =
     let l = c .before .before .loop in
-    let m = c .before .before .before .before .args .motif in
+    let m = c .before .before .before .before .args .number in
     let n = length (c .before .before .before .before .args .word .now) in
     let some : 0 < l .i = omega arith in
     let inside : l .i ≤ length (l .word) = omega arith in
@@ -49,7 +49,7 @@ loop-again c =
       omega arith,
       simp length-set (omega arith),
       spelled-rest m (l .word) (l .i) n some inside few (l .inv .2),
-      spelled-more m (l .word) (l .i) n some inside few (l .inv .2) (c .letter .ensures) (l .inv .3),
+      spelled-more m (l .word) (l .i) n some inside few (l .inv .2) (c .byte .ensures) (l .inv .3),
     )
 
 same-length : tie.Need-same-length Inv-loop μ-loop
@@ -69,7 +69,7 @@ spell-spec =
     μ-loop
     loop-holds
     sub-i
-    letter-requires
+    byte-requires
     slice-write-word
     loop-less
     loop-again

@@ -1,8 +1,8 @@
--- `letter` meets its contract, by cases.
+-- Each answer is that of the definition at the value tested.
 use borrow.Author.Tests.{eq-eqb, ne-eqb}
 use Rattle.rules.specs.Letters.{letter}
-use Rattle.ways.proofs.letter.Statement.{statement}
-use Rattle.ways.proofs.letter.Tie as tie
+use Rattle.rules.proofs.Letter.byte.Statement.{statement}
+use Rattle.rules.proofs.Letter.byte.Tie as tie
 
 returns : tie.Need-returns
 unfolding letter
@@ -20,5 +20,5 @@ returns-4 : tie.Need-returns-4
 unfolding letter
 returns-4 c = simp (ne-eqb _ _ (c .before .before .if1 .left), ne-eqb _ _ (c .before .if2 .left), ne-eqb _ _ (c .if3 .left))
 
-pub letter-spec : {M : Type 1} → statement M
-letter-spec = tie.close (tie.spec returns returns-2 returns-3 returns-4)
+pub byte-spec : {M : Type 1} → statement M
+byte-spec = tie.close (tie.spec returns returns-2 returns-3 returns-4)

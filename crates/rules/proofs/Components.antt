@@ -1,0 +1,43 @@
+-- The components of a template, and the letters dealt out to them.
+use mathlib.Core.List.{List, [], _∷_}
+use mathlib.Core.Path.{_≡_, refl}
+use Prim.Native.Nat.{ℕ, suc, _≤_, _<_}
+use native.Mathlib.Omega.{arith}
+use lib.ListN.{length, take, drop, getD, drop-of-length-le}
+use lib.Seq.{drop-cons, getD-take, length-take-le}
+use Rattle.rules.specs.Limits.{Template-COMPONENTS}
+use Rattle.rules.specs.Sound.{SoundTemplate}
+use Rattle.rules.specs.Template.{part, none, slots, components, cut}
+use Rattle.rules.specs.declared.Component.{Component}
+use Rattle.rules.specs.declared.Template.{Template}
+
+-- each stands in its slot
+pub components-at : (t : Template) (k : ℕ) → k < t .count → getD (components t) k none ≡ getD (slots t) k none
+unfolding components
+components-at t k h = getD-take (t .count) (slots t) k none h
+
+module _ (t : Template) (few : t .count ≤ Template-COMPONENTS) where
+  -- a template within the limit has as many as it counts
+  pub components-length : length (components t) ≡ t .count
+  unfolding components
+  components-length = length-take-le (t .count) (slots t) few
+
+  -- from c on: that one and those after it
+  pub components-more : (c : ℕ) → c < t .count → drop c (components t) ≡ getD (slots t) c none ∷ drop (suc c) (components t)
+  components-more c l = rw (drop-cons (components t) c none (rw components-length l), components-at t c l)
+
+  -- past the last there is none
+  pub components-none : (c : ℕ) → t .count ≤ c → drop c (components t) ≡ []
+  components-none c l = drop-of-length-le (components t) {i = c} (rw components-length l)
+
+-- each component of a sound template has a letter
+pub components-some : {t : Template} → SoundTemplate t → (i : ℕ) → i < length (components t) → 1 ≤ (getD (components t) i none) .length
+components-some {t} sound i h =
+    let l : i < t .count = omega (arith, components-length t (sound .few)) in
+    rw (components-at t i l) (sound .each i l .some)
+
+-- the first component takes the first letters, if there are any
+pub cut-some : (c : Component) (cs : List Component) (w : List ℕ) → 0 < length w → cut (c ∷ cs) w ≡ part (c .low) (c .high) (take (c .length) w) ∷ cut cs (drop (c .length) w)
+unfolding cut
+cut-some c cs [] h = absurd (omega arith)
+cut-some c cs (x ∷ w) h = refl

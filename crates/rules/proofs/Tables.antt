@@ -1,0 +1,69 @@
+-- Lists as loops meet them: what f makes of a front or a rest, what is left to add up, and what is put to the front of a table.
+use mathlib.Core.List.{List, [], _∷_, _++_, map, append-assoc}
+use mathlib.Core.Path.{_≡_, refl, sym, ap, _∙_}
+use Prim.Native.Nat.{ℕ, zero, suc, _+_, _≤_, _<_, min}
+use native.Mathlib.Nat.{zero-min, min-zero, suc-min-suc}
+use native.Mathlib.Numerals.{add-one}
+use native.Mathlib.Omega.{arith}
+use lib.ListN.{length, take, drop, getD, set, length-append, drop-of-length-le}
+use lib.Seq.{drop-cons, set-append-seam, take-append-seam}
+use Rattle.rules.specs.Lists.{sum, put}
+
+-- ---- f of a list
+
+-- functions that agree make the same list
+pub map-same : {A B : Type 0} (f g : A → B) → ((x : A) → f x ≡ g x) → (l : List A) → map f l ≡ map g l
+map-same f g h [] = refl
+map-same f g h (x ∷ l) = rw (h x, map-same f g h l)
+
+-- what f makes of the first ones, and of the later ones
+pub map-take : {A B : Type 0} (f : A → B) (n : ℕ) (l : List A) → take n (map f l) ≡ map f (take n l)
+map-take f zero l = refl
+map-take f (suc n) [] = refl
+map-take f (suc n) (x ∷ l) = ap (λ r. f x ∷ r) (map-take f n l)
+
+pub map-drop : {A B : Type 0} (f : A → B) (n : ℕ) (l : List A) → drop n (map f l) ≡ map f (drop n l)
+map-drop f zero l = refl
+map-drop f (suc n) [] = refl
+map-drop f (suc n) (x ∷ l) = map-drop f n l
+
+-- ---- as many as there are, at the most
+
+pub take-min : {A : Type 0} (n : ℕ) (l : List A) → take (min n (length l)) l ≡ take n l
+take-min zero l = rw zero-min
+take-min (suc n) [] = rw min-zero
+take-min (suc n) (x ∷ l) = rw (suc-min-suc, take-min n l)
+
+pub drop-min : {A : Type 0} (n : ℕ) (l : List A) → drop (min n (length l)) l ≡ drop n l
+drop-min zero l = rw zero-min
+drop-min (suc n) [] = rw min-zero
+drop-min (suc n) (x ∷ l) = rw suc-min-suc (drop-min n l)
+
+-- ---- sums
+
+pub sum-append : (xs ys : List ℕ) → sum (xs ++ ys) ≡ sum xs + sum ys
+unfolding sum
+sum-append [] ys = omega arith
+sum-append (x ∷ xs) ys = omega (arith, sum-append xs ys)
+
+-- what is left to add up from the index i on
+pub sum-more : (xs : List ℕ) (i : ℕ) → i < length xs → sum (drop i xs) ≡ getD xs i 0 + sum (drop (i + 1) xs)
+unfolding sum
+sum-more xs i h = rw (add-one, drop-cons xs i 0 h)
+
+pub sum-over : (xs : List ℕ) (i : ℕ) → length xs ≤ i → sum (drop i xs) ≡ 0
+unfolding sum
+sum-over xs i h = rw (drop-of-length-le xs {i = i} h)
+
+-- ---- a list put to the front of a table
+
+-- it stands there
+pub put-front : {A : Type 0} (n : ℕ) (xs table : List A) → length xs ≡ n → take n (put xs table) ≡ xs
+unfolding put
+put-front n xs table e = rw (← e) (take-append-seam xs _)
+
+-- one more, written next to those that stand in it
+pub put-more : (xs table : List ℕ) (v : ℕ) → length xs < length table → set (put xs table) (length xs) v ≡ put (xs ++ (v ∷ [])) table
+unfolding put
+put-more xs table v h =
+    rw (drop-cons table (length xs) 0 h, length-append xs (v ∷ []), add-one) (set-append-seam xs _ _ v ∙ sym (append-assoc xs (v ∷ []) _))
