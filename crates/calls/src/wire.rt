@@ -1,6 +1,7 @@
 // Numbers as bytes, low byte first, and lists of them from standard input and to standard output.
 use libc::STDIN_FILENO;
 use libc::STDOUT_FILENO;
+use rules::least;
 ghost use Prim.Native.Nat.{_+_, _*_, _≤_};
 ghost use lib.ListN.{length};
 ghost use Rattle.io.specs.Counts.{Counts};
@@ -15,12 +16,6 @@ pub fn wide16(x: u16) -> u64 {
 
 pub fn wide32(x: u32) -> u64 {
     x as u64
-}
-
-fn least(a: usize, b: usize) -> usize
-    ensures { λ r. ⌜ r ≤ b ⌝ }
-{
-    if a < b { a } else { b }
 }
 
 // The low bits of a number, as many as the type has.

@@ -1,6 +1,8 @@
 // Letters: the table of their values, the only place that has them.
+ghost use mathlib.Core.List.{map};
 ghost use mathlib.Core.Path.{_≡_};
 ghost use Rattle.rules.specs.Letters.{value};
+ghost use Rattle.rules.specs.Lists.{run};
 
 // A 0, C 1, G 2 and T 3; every other byte has the mark.
 const VALUES: [u8; 256] = [
@@ -262,10 +264,18 @@ const VALUES: [u8; 256] = [
     4,
 ];
 
+// The table, for a loop to look up in: it is made once, and not at each letter.
+pub fn values() -> [u8; 256]
+    ensures { λ r. ⌜ r ≡ map value (run 0 256) ⌝ }
+{
+    VALUES
+}
+
 // The value of a letter, and the mark of a byte that is none.
-pub fn value(b: u8) -> u8
+pub fn value(values: &[u8], b: u8) -> u8
+    requires { ⌜ now values ≡ map value (run 0 256) ⌝ }
     ensures { λ r. ⌜ r ≡ value b ⌝ }
 {
     let i = b as usize;
-    VALUES[i]
+    values[i]
 }

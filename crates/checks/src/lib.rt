@@ -2,12 +2,16 @@
 // check is total, so that an order may make all of them and keep the first that applies.
 mod letters;
 
-pub use letters::value;
+use letters::value;
+use letters::values;
+ghost use mathlib.Core.List.{map};
 ghost use mathlib.Core.Path.{_≡_};
 ghost use Prim.Native.Nat.{_^_};
 ghost use lib.Dec.{ltb};
 ghost use Rattle.checks.specs.Orders.{template-checks, value-checks-before-13};
+ghost use Rattle.rules.specs.Letters.{value};
 ghost use Rattle.rules.specs.Limits.{Letter-BASES, Template-LENGTH};
+ghost use Rattle.rules.specs.Lists.{run};
 ghost use Rattle.rules.specs.Refusals.{first, outside, bad-gap, check1, check2, check3, check4, check5, check6, check7, check8, check9, check11-place, check12, set-checks, new-checks};
 ghost use Rattle.rules.specs.Saved.{place-rule?};
 ghost use Rattle.rules.specs.Told.{toldChecked};
@@ -57,18 +61,27 @@ pub fn check_sum(letters: &[u8], lengths: &[u32]) -> Checked
     Checked::refuse_if(left != 0, Refusal::LengthSum)
 }
 
-// 4: the first byte that is no letter.
-pub fn check_bytes(letters: &[u8]) -> Checked
+// The first byte that is no letter, by a table of their values.
+fn find_mark(values: &[u8], letters: &[u8]) -> Checked
+    requires { ⌜ now values ≡ map value (run 0 256) ⌝ }
     ensures { λ r. ⌜ toldChecked r ≡ check4 (now (letters .entry)) ⌝ }
 {
     let mut i = 0;
     while i < letters.len() {
-        if value(letters[i]) == Letter::MARK {
+        if value(values, letters[i]) == Letter::MARK {
             return Checked::Refused(Refusal::NotALetter(Offset(i)));
         }
         i += 1;
     }
     Checked::Fine
+}
+
+// 4: the first byte that is no letter.
+pub fn check_bytes(letters: &[u8]) -> Checked
+    ensures { λ r. ⌜ toldChecked r ≡ check4 (now (letters .entry)) ⌝ }
+{
+    let table = values();
+    find_mark(&table, letters)
 }
 
 // 5: no components, or too many.

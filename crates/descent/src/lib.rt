@@ -4,6 +4,7 @@ use rules::Position;
 use rules::SequenceNumber;
 use rules::SequenceSet;
 use rules::Template;
+use rules::least;
 ghost use mathlib.Core.Bool.{_&&_};
 ghost use mathlib.Core.List.{_++_};
 ghost use mathlib.Core.Path.{_≡_};
@@ -99,13 +100,6 @@ fn wide(x: u16) -> usize
     ensures { λ r. ⌜ (r ≡ x) × (r < 2 ^ 16) ⌝ }
 {
     x as usize
-}
-
-// The lower of two.
-fn least(a: usize, b: usize) -> usize
-    ensures { λ r. ⌜ r ≡ min a b ⌝ }
-{
-    if a <= b { a } else { b }
 }
 
 // Positions from one up to another, which is not one of them.

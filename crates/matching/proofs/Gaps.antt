@@ -1,15 +1,16 @@
 -- A gap: the sum of the flags in a window that ends at a fixed distance before a place. When the place moves on by one, one
 -- flag comes in at the near end and one goes out at the far end.
 use mathlib.Core.Bool.{true, false}
-use mathlib.Core.List.{List, _++_, append-nil}
+use mathlib.Core.List.{List, _++_, map, append-nil}
 use mathlib.Core.Path.{_≡_, refl, sym, ap, _∙_}
-use Prim.Native.Nat.{ℕ, zero, suc, _+_, _-_, _*_, _≤_}
-use native.Mathlib.Nat.{add-zero, suc-mul, suc-sub-suc}
+use Prim.Native.Nat.{ℕ, zero, suc, _+_, _-_, _*_, _≤_, _<_}
+use native.Mathlib.Nat.{add-zero, zero-add, suc-mul, suc-sub-suc}
 use native.Mathlib.Numerals.{add-one}
 use native.Mathlib.Omega.{arith}
-use lib.Dec.{eqb, leb, leb·suc-suc, leb·suc-zero}
-use lib.ListN.{length, take, drop, getD, drop-of-length-le}
-use lib.Seq.{take-length}
+use lib.Dec.{eqb, leb, leb·suc-suc}
+use lib.ListN.{length, take, drop, getD, replicate, drop-of-length-le}
+use lib.Seq.{take-length, length-take-le}
+use borrow.Author.Tests.{le-leb, lt-leb}
 use Rattle.rules.specs.Lists.{run, if, sum, over}
 use Rattle.matching.specs.Flags.{ago, recent, near, opened}
 use Rattle.rules.proofs.Over.{over-all}
@@ -19,9 +20,14 @@ module _ (ks : List ℕ) where
   unfolding ago
   ago-next o d = rw (leb·suc-suc, suc-sub-suc)
 
-  ago-first : (d : ℕ) → ago ks 0 (suc d) ≡ 0
+  -- the flag so far before a place, where there is one
+  pub ago-in : (o d : ℕ) → d ≤ o → ago ks o d ≡ getD ks (o - d) 0
   unfolding ago
-  ago-first d = rw leb·suc-zero
+  ago-in o d h = rw (le-leb d o h)
+
+  pub ago-out : (o d : ℕ) → o < d → ago ks o d ≡ 0
+  unfolding ago
+  ago-out o d h = rw (lt-leb d o h)
 
   ago-bound : (b : ℕ) → ((i : ℕ) → getD ks i 0 ≤ b) → (o d : ℕ) → ago ks o d ≤ b
   unfolding ago
@@ -45,14 +51,14 @@ module _ (ks : List ℕ) where
   recent-next-place o d zero = refl
   recent-next-place o d (suc n) = rw (ago-next o d) (ap (λ (x : ℕ). ago ks o d + x) (recent-next-place o (suc d) n))
 
-  recent-first : (d n : ℕ) → recent ks 0 (suc d) n ≡ 0
+  -- a window that has not begun is empty
+  recent-out : (o d n : ℕ) → o < d → recent ks o d n ≡ 0
   unfolding recent run sum
-  recent-first d zero = refl
-  recent-first d (suc n) = rw (ago-first d) (omega (arith, recent-first (suc d) n))
+  recent-out o d zero h = refl
+  recent-out o d (suc n) h = rw (ago-out o d h, zero-add) (recent-out o (suc d) n (omega arith))
 
-  -- before the first place there is no flag
-  pub recent-none : (d n : ℕ) → 0 ≡ recent ks 0 (d + 1) n
-  recent-none d n = rw add-one (sym (recent-first d n))
+  pub recent-none : (o d n : ℕ) → o ≤ d → 0 ≡ recent ks o (d + 1) n
+  recent-none o d n h = sym (recent-out o (d + 1) n (omega arith))
 
   recent-on : (o d n : ℕ) → recent ks (o + 1) (d + 1) n ≡ recent ks o d n
   recent-on o d n = rw (add-one o, add-one d) (recent-next-place o d n)
@@ -79,6 +85,16 @@ module _ (ks : List ℕ) where
   pub near-is : (o d n : ℕ) {v r : ℕ} → v ≡ recent ks (o + 1) (d + 1) n → r ≡ if (eqb v 0) 0 1 → r ≡ near ks d n o
   unfolding near
   near-is o d n e q = q ∙ ap (λ (x : ℕ). if (eqb x 0) 0 1) (e ∙ recent-on o d n)
+
+  near-none : (d n a m : ℕ) → a + m ≤ d → map (near ks d n) (run a m) ≡ replicate m 0
+  unfolding run near
+  near-none d n a zero h = refl
+  near-none d n a (suc m) h = rw (recent-out a d n (omega arith), near-none d n (suc a) m (omega arith))
+
+  -- before it nothing is set
+  pub near-early : (d n m : ℕ) (l : List ℕ) {x : List ℕ} → m ≤ d → m ≤ length l → x ≡ replicate (length (take m l)) 0 → x ++ drop m l ≡ over (near ks d n) m l
+  unfolding over
+  near-early d n m l h k e = rw (e, length-take-le m l k, near-none d n 0 m (omega arith))
 
 -- a whole pass, from a copy of the flags
 pub opened-pass : (n low high : ℕ) (ks ls : List ℕ) {cs ms : List ℕ} → length ls ≡ length ks → cs ≡ take (length ks) ks ++ drop (length ks) ls

@@ -1,12 +1,13 @@
 // Flags of one sequence: one for each of its letters, set where the last part of a prefix can start, the parts before it
 // placed. A letter more is one pass over them, and so is a gap, however wide.
+use rules::least;
 ghost use mathlib.Core.Path.{_≡_};
 ghost use Prim.Native.Nat.{_+_, _-_, _≤_, _<_};
 ghost use lib.Dec.{eqb};
-ghost use lib.ListN.{length, replicate};
+ghost use lib.ListN.{length, getD, replicate};
 ghost use Rattle.rules.specs.Limits.{Template-LENGTH, Template-GAP};
 ghost use Rattle.rules.specs.Lists.{if, over};
-ghost use Rattle.matching.specs.Flags.{kept-at, kept, matched, ago, near, opened, left?};
+ghost use Rattle.matching.specs.Flags.{kept-at, kept, matched, recent, near, opened, left?};
 
 // Writes `value` to each of some flags.
 pub fn fill(flags: &mut [u8], value: u8)
@@ -67,14 +68,6 @@ pub fn keep_word(word: &[u8], sequence: &[u8], flags: &mut [u8])
     }
 }
 
-// The flag `d` places before `o`.
-fn flag_ago(flags: &[u8], o: usize, d: usize) -> u64
-    requires { ⌜ o < length (now flags) ⌝ }
-    ensures { λ r. ⌜ r ≡ ago (now (flags .entry)) o d ⌝ }
-{
-    if d <= o { flags[o - d] as u64 } else { 0 }
-}
-
 // 0 of 0, and 1 of any other number.
 fn sign(x: u64) -> u8
     ensures { λ r. ⌜ r ≡ if (eqb x 0) 0 1 ⌝ }
@@ -82,18 +75,63 @@ fn sign(x: u64) -> u8
     if x == 0 { 0 } else { 1 }
 }
 
-// Sets in `to` each flag that has one of `count` set ones before it, the nearest of them `d` places before.
+// A flag, as a number to add up.
+fn flag(flags: &[u8], o: usize) -> u64
+    requires { ⌜ o < length (now flags) ⌝ }
+    ensures { λ r. ⌜ r ≡ getD (now (flags .entry)) o 0 ⌝ }
+{
+    flags[o] as u64
+}
+
+// The flags of `to` from `from` up to `end`, where the window of `count` flags, the nearest of them `d` places before, is still
+// filling: one comes in, and none goes out. It answers how many are set in the window.
+fn gather(flags: &[u8], d: usize, count: usize, from: usize, end: usize, to: &mut [u8]) -> u64
+    requires { ⌜ (length (now to) ≡ length (now flags)) × (d ≤ Template-LENGTH + Template-GAP) × (count ≤ Template-GAP + 1) ⌝ }
+    requires { ⌜ (from ≤ end) × (end ≤ length (now flags)) × (from ≤ d) × (from < end → from ≡ d) × (end ≤ d + count) ⌝ }
+    requires { ⌜ now to ≡ over (near (now flags) d count) from (now to) ⌝ }
+    ensures { λ r. ⌜ r ≡ recent (now (flags .entry)) end (d + 1) count ⌝ }
+    ensures { λ _. ⌜ now (to .exit) ≡ over (near (now (flags .entry)) d count) end (now (to .entry)) ⌝ }
+{
+    let mut sum: u64 = 0;
+    let mut o = from;
+    while o < end {
+        sum += flag(flags, o - d);
+        to[o] = sign(sum);
+        o += 1;
+    }
+    sum
+}
+
+// The flags of `to` from `from` on, where the window is full: one comes in, and one goes out.
+fn slide(flags: &[u8], d: usize, count: usize, from: usize, start: u64, to: &mut [u8])
+    requires { ⌜ (length (now to) ≡ length (now flags)) × (d ≤ Template-LENGTH + Template-GAP) × (count ≤ Template-GAP + 1) ⌝ }
+    requires { ⌜ (from ≤ length (now flags)) × (from < length (now flags) → d + count ≤ from) ⌝ }
+    requires { ⌜ now to ≡ over (near (now flags) d count) from (now to) ⌝ }
+    requires { ⌜ start ≡ recent (now flags) from (d + 1) count ⌝ }
+    ensures { λ _. ⌜ now (to .exit) ≡ over (near (now (flags .entry)) d count) (length (now (flags .entry))) (now (to .entry)) ⌝ }
+{
+    let far = d + count;
+    let mut sum = start;
+    let mut o = from;
+    while o < to.len() {
+        sum = sum + flag(flags, o - d) - flag(flags, o - far);
+        to[o] = sign(sum);
+        o += 1;
+    }
+}
+
+// Sets in `to` each flag that has one of `count` set ones before it, the nearest of them `d` places before: none of the first
+// `d`, then those of a window that fills, then those of a full one. So no place asks how far it is from the front.
 fn reach(flags: &[u8], d: usize, count: usize, to: &mut [u8])
     requires { ⌜ (length (now to) ≡ length (now flags)) × (d ≤ Template-LENGTH + Template-GAP) × (count ≤ Template-GAP + 1) ⌝ }
     ensures { λ _. ⌜ now (to .exit) ≡ over (near (now (flags .entry)) d count) (length (now (flags .entry))) (now (to .entry)) ⌝ }
 {
-    let mut sum: u64 = 0;
-    let mut o = 0;
-    while o < to.len() {
-        sum = sum + flag_ago(flags, o, d) - flag_ago(flags, o, d + count);
-        to[o] = sign(sum);
-        o += 1;
-    }
+    let n = to.len();
+    let first = least(d, n);
+    let full = least(d + count, n);
+    fill(&mut to[..first], 0);
+    let sum = gather(flags, d, count, first, full, to);
+    slide(flags, d, count, full, sum, to);
 }
 
 // Sets the flags that a part of `behind` letters reaches over a gap of `low` to `high`, and clears the others.

@@ -5,6 +5,7 @@ use super::marks;
 use rules::Component;
 use rules::Letter;
 use rules::Template;
+use rules::least;
 ghost use mathlib.Core.Path.{_≡_};
 ghost use mathlib.Core.List.{_++_};
 ghost use Prim.Native.Nat.{_-_, _≤_, min};
@@ -24,13 +25,6 @@ pub fn spell(number: u64, size: usize, word: &mut [u8])
     ensures { λ _. ⌜ now (word .exit) ≡ bytes size number ++ drop size (now (word .entry)) ⌝ }
 {
     Letter::spell(number, &mut word[..size]);
-}
-
-// The smaller of two numbers.
-fn least(a: usize, b: usize) -> usize
-    ensures { λ r. ⌜ r ≡ min a b ⌝ }
-{
-    if a < b { a } else { b }
 }
 
 // Sets the flags of a sequence at which the first part of a prefix stands, and answers how many letters it has: as many as the

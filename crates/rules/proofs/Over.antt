@@ -6,7 +6,7 @@ use native.Mathlib.Nat.{zero-add, add-zero, add-suc, suc-add}
 use native.Mathlib.Numerals.{add-one}
 use native.Mathlib.Omega.{arith}
 use lib.ListN.{length, drop, getD, set, replicate, length-map, drop-of-length-le}
-use lib.Seq.{drop-cons, drop-at, set-at, getD-append-add, getD-drop}
+use lib.Seq.{drop-cons, drop-drop, drop-at, set-at, getD-append-add, getD-drop}
 use Rattle.rules.specs.Lists.{run, over}
 use Rattle.rules.proofs.Lists.{length-run}
 
@@ -83,6 +83,14 @@ module _ (f : ℕ → ℕ) (o : ℕ) (l : List ℕ) where
     -- what has been written may count as what was there
     pub over-again : x ≡ over f o x
     over-again = e ∙ over-over ∙ ap (over f o) (sym e)
+
+    -- a loop that goes on where another stopped
+    pub over-join : {n : ℕ} {y : List ℕ} → o ≤ n → y ≡ over f n x → y ≡ over f n l
+    unfolding over
+    over-join {n} {y} h q =
+        let k : n ≡ o + (n - o) = omega arith in
+        let d : drop n x ≡ drop n l = ap (λ (i : ℕ). drop i x) k ∙ sym (drop-drop (n - o) o x) ∙ ap (drop (n - o)) (ap (drop o) e ∙ drop-at (map f (run 0 o)) (drop o l) o (length-map-run f 0 o)) ∙ drop-drop (n - o) o l ∙ ap (λ (i : ℕ). drop i l) (sym k) in
+        q ∙ ap (λ (t : List ℕ). map f (run 0 n) ++ t) d
 
     -- after the last turn
     pub over-end : {n : ℕ} → o ≡ n → x ≡ over f n l

@@ -1,5 +1,7 @@
 // The paper's types, with their limits and constructors. An inner crate: what it defines stands in specs/, and the laws
 // about that in proofs/.
+mod layout;
+
 ghost use mathlib.Core.List.{map};
 ghost use mathlib.Core.Path.{_≡_};
 ghost use Prim.Native.Nat.{min};
@@ -399,6 +401,13 @@ pub enum Recovered {
 pub enum Joined {
     Kept(usize),
     Refused(Refusal),
+}
+
+// The smaller of two numbers.
+pub fn least(a: usize, b: usize) -> usize
+    ensures { λ r. ⌜ r ≡ min a b ⌝ }
+{
+    if a < b { a } else { b }
 }
 
 // Each limit in the code is the definition of the same name.

@@ -5,9 +5,10 @@ use rules::LegAnswer;
 use rules::Place;
 use rules::Search;
 use rules::Template;
+use rules::least;
 ghost use mathlib.Core.Bool.{true};
 ghost use mathlib.Core.Path.{_≡_};
-ghost use Prim.Native.Nat.{_+_, _≤_, _<_, min};
+ghost use Prim.Native.Nat.{_+_, _≤_, _<_};
 ghost use lib.Dec.{leb};
 ghost use lib.ListN.{length, set};
 ghost use Rattle.rules.specs.Calls.{moved, stretch, supports-of, weights-of};
@@ -21,13 +22,6 @@ ghost use Rattle.rules.specs.Template as templates;
 ghost use Rattle.rules.specs.Told.{fine, toldLeg};
 ghost use Rattle.rules.specs.Walk.{place};
 ghost use Rattle.search.specs.Told.{room-of, told-of};
-
-// The smaller of two numbers.
-fn least(a: usize, b: usize) -> usize
-    ensures { λ r. ⌜ r ≡ min a b ⌝ }
-{
-    if a < b { a } else { b }
-}
 
 // Whether a support reaches the quorum.
 fn reaches(quorum: u64, found: u32) -> bool

@@ -1,16 +1,22 @@
--- `value`: the table is the list of the values of the 256 bytes, which is computed.
+-- `value`: the table has at each byte its value.
+use mathlib.Core.Path.{ap, _∙_}
+use native.Mathlib.Nat.{zero-add}
+use lib.ListN.{length}
+use native.Mathlib.Omega.{arith}
+use Rattle.rules.proofs.Over.{length-map-run, getD-map-run}
 use Rattle.rules.specs.Letters.{value}
-use Rattle.checks.proofs.Table.{tabled}
-use borrow.Author.Needs.{needs}
 use Rattle.checks.proofs.letters.value.Statement.{statement}
 use Rattle.checks.proofs.letters.value.Tie as tie
 
-array-read-result : tie.Need-array-read-result
-array-read-result c = search needs
+shared-slice-read-result : tie.Need-shared-slice-read-result
+shared-slice-read-result c =
+    let b = c .before in
+    omega (arith, ap length (b .pre), length-map-run value 0 256, b .fits .b .fits)
 
 returns : tie.Need-returns
-unfolding value
-returns c = tabled value 256 (c .args .b) (c .fits .b .fits)
+returns c =
+    let b = c .before in
+    rw (b .pre) (getD-map-run value 0 256 (b .args .b) (b .fits .b .fits) ∙ ap value (zero-add (b .args .b)))
 
 pub value-spec : {M : Type 1} → statement M
-value-spec = tie.close (tie.spec array-read-result returns)
+value-spec = tie.close (tie.spec shared-slice-read-result returns)

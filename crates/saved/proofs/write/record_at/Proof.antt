@@ -10,11 +10,11 @@ use Rattle.saved.proofs.write.record_at.Tie as tie
 cast-count : tie.Need-cast-count
 cast-count c = search needs
 
-size-record-requires : tie.Need-size-record-requires
-size-record-requires c κs = search needs
+of-size-requires : tie.Need-of-size-requires
+of-size-requires c κs = search needs
 
 returns : tie.Need-returns
-returns c = rw (c .before .if1 .taken) (c .size-record .ensures ∙ sym (size-at (c .before .before .before .before .args .s)))
+returns c = rw (c .before .if1 .taken) (c .of-size .ensures ∙ sym (size-at (c .before .before .before .before .args .s)))
 
 components-requires : tie.Need-components-requires
 components-requires c κs = search needs
@@ -28,11 +28,11 @@ mul-c c = search needs
 array-copy-out-c : tie.Need-array-copy-out-c
 array-copy-out-c c = search needs
 
-cast-component-record : tie.Need-cast-component-record
-cast-component-record c = search needs
+cast-of-component : tie.Need-cast-of-component
+cast-of-component c = search needs
 
-component-record-requires : tie.Need-component-record-requires
-component-record-requires c κs =
+of-component-requires : tie.Need-of-component-requires
+of-component-requires c κs =
     let s = c .before .before .before .before .before .before in
     rw (c .before .components .ensures) (s .pre .0 .each (s .args .i - 1) (omega arith) .short)
 
@@ -41,30 +41,30 @@ returns-2 c =
     let s = c .before .before .before .before .before .before .before in
     let e : suc (s .args .i - 1) ≡ s .args .i = omega arith in
     let a = rw e at (component-at (s .args .s) (s .pre .0 .few) (s .args .i - 1) (omega arith)) in
-    c .component-record .ensures ∙ rw (c .before .before .components .ensures) (sym a)
+    c .of-component .ensures ∙ rw (c .before .before .components .ensures) (sym a)
 
-place-record-requires : tie.Need-place-record-requires
-place-record-requires c κs = search needs
+of-place-requires : tie.Need-of-place-requires
+of-place-requires c κs = search needs
 
 returns-3 : tie.Need-returns-3
 returns-3 c =
     let s = c .before .before .before .before .before in
     let e : s .args .i ≡ suc (s .args .s .template .count) = omega arith in
-    rw e (c .place-record .ensures ∙ sym (place-at (s .args .s) (s .pre .0 .few)))
+    rw e (c .of-place .ensures ∙ sym (place-at (s .args .s) (s .pre .0 .few)))
 
 pub record-at-spec : {M : Type 1} → statement M
 record-at-spec =
     tie.close
     (tie.spec
     cast-count
-    size-record-requires
+    of-size-requires
     returns
     components-requires
     sub-at
     mul-c
     array-copy-out-c
-    cast-component-record
-    component-record-requires
+    cast-of-component
+    of-component-requires
     returns-2
-    place-record-requires
+    of-place-requires
     returns-3)

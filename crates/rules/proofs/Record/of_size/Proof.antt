@@ -1,8 +1,8 @@
--- `size_record`: each field is the low bytes of its number.
+-- `Record::of_size`: each field is the low bytes of its number.
 use Rattle.rules.specs.Saved.{low-first, size-record}
 use borrow.Author.Needs.{needs}
-use Rattle.saved.proofs.write.size_record.Statement.{statement}
-use Rattle.saved.proofs.write.size_record.Tie as tie
+use Rattle.rules.proofs.Record.of_size.Statement.{statement}
+use Rattle.rules.proofs.Record.of_size.Tie as tie
 
 cast-count : tie.Need-cast-count
 cast-count c = search needs
@@ -68,8 +68,8 @@ returns : tie.Need-returns
 unfolding low-first size-record
 returns c = rw (c .low-first4 .ensures, c .before .before .low-first3 .ensures, c .before .before .before .letters .ensures, c .before .before .before .before .low-first2 .ensures, c .before .before .before .before .before .before .low-first .ensures)
 
-pub size-record-spec : {M : Type 1} → statement M
-size-record-spec =
+pub of-size-spec : {M : Type 1} → statement M
+of-size-spec =
     tie.close
     (tie.spec
     cast-count

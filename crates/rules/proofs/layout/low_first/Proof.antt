@@ -1,9 +1,9 @@
 -- `low_first`: a number of 8 bytes, written out.
 use mathlib.Core.Path.{refl}
 use Rattle.rules.specs.Saved.{low-first}
 use borrow.Author.Needs.{needs}
-use Rattle.saved.proofs.write.low_first.Statement.{statement}
-use Rattle.saved.proofs.write.low_first.Tie as tie
+use Rattle.rules.proofs.layout.low_first.Statement.{statement}
+use Rattle.rules.proofs.layout.low_first.Tie as tie
 
 cast-t10 : tie.Need-cast-t10
 cast-t10 c = search needs

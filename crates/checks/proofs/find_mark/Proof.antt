@@ -1,4 +1,4 @@
--- `check_bytes`: the bytes passed are letters, so the first that is none stands among the rest.
+-- `find_mark`: the bytes passed are letters, so the first that is none stands among the rest.
 use mathlib.Core.Path.{_≡_, _∙_, sym}
 use Prim.Native.Nat.{_+_, _-_, _≤_}
 use native.Mathlib.Nat.{add-zero}
@@ -9,14 +9,14 @@ use Rattle.rules.specs.Letters.{letter?}
 use Rattle.rules.specs.Refusals.{first-bad, bad-byte, check4}
 use Rattle.rules.proofs.Verdicts.{here, later, over}
 use borrow.Author.Needs.{needs}
-use Rattle.checks.proofs.check_bytes.Statement.{statement}
-use Rattle.checks.proofs.check_bytes.Tie as tie
+use Rattle.checks.proofs.find_mark.Statement.{statement}
+use Rattle.checks.proofs.find_mark.Tie as tie
 
 abbrev Inv-loop : tie.InvT-loop
-Inv-loop letters i₀ i = (i ≤ length letters) × (check4 letters ≡ first-bad 4 bad-byte (i + 0) (drop i letters))
+Inv-loop values letters i₀ i = (i ≤ length letters) × (check4 letters ≡ first-bad 4 bad-byte (i + 0) (drop i letters))
 
 abbrev μ-loop : tie.MeasureT-loop
-μ-loop letters i₀ i = length letters - i
+μ-loop values letters i₀ i = length letters - i
 
 loop-holds : tie.Need-loop-holds Inv-loop μ-loop
 unfolding check4
@@ -32,7 +32,7 @@ returns : tie.Need-returns Inv-loop μ-loop
 unfolding letter?
 returns c =
     let l = c .before .before .before .before .loop in
-    let xs = c .before .before .before .before .before .before .args .letters .now in
+    let xs = c .before .before .before .before .before .before .before .args .letters .now in
     sym (l .inv .1 ∙ here 4 bad-byte 0 0 xs (l .i) (omega arith) (rw (eq-eqb _ _ (sym (c .before .value .ensures) ∙ c .if1 .taken))) ∙ simp add-zero)
 
 add-i : tie.Need-add-i Inv-loop μ-loop
@@ -45,16 +45,16 @@ loop-again : tie.Need-loop-again Inv-loop μ-loop
 unfolding letter?
 loop-again c =
     let l = c .before .before .before .before .loop in
-    let xs = c .before .before .before .before .before .before .args .letters .now in
+    let xs = c .before .before .before .before .before .before .before .args .letters .now in
     (omega arith, l .inv .1 ∙ later 4 bad-byte 0 0 xs (l .i) (omega arith) (rw (ne-eqb _ _ (λ e. c .if1 .left (c .before .value .ensures ∙ e)))))
 
 returns-2 : tie.Need-returns-2 Inv-loop μ-loop
 returns-2 c =
     let l = c .before .loop in
-    sym (l .inv .1 ∙ over 4 bad-byte 0 (c .before .before .before .args .letters .now) (l .i) (omega arith))
+    sym (l .inv .1 ∙ over 4 bad-byte 0 (c .before .before .before .before .args .letters .now) (l .i) (omega arith))
 
-pub check-bytes-spec : {M : Type 1} → statement M
-check-bytes-spec =
+pub find-mark-spec : {M : Type 1} → statement M
+find-mark-spec =
     tie.close
     (tie.spec
     Inv-loop

@@ -1,8 +1,8 @@
--- `place_record`: each field is the low bytes of its number.
+-- `Record::of_place`: each field is the low bytes of its number.
 use Rattle.rules.specs.Saved.{low-first, place-record}
 use borrow.Author.Needs.{needs}
-use Rattle.saved.proofs.write.place_record.Statement.{statement}
-use Rattle.saved.proofs.write.place_record.Tie as tie
+use Rattle.rules.proofs.Record.of_place.Statement.{statement}
+use Rattle.rules.proofs.Record.of_place.Tie as tie
 
 low-first-requires : tie.Need-low-first-requires
 low-first-requires c κs = search needs
@@ -35,8 +35,8 @@ returns : tie.Need-returns
 unfolding low-first place-record
 returns c = rw (c .low-first .ensures)
 
-pub place-record-spec : {M : Type 1} → statement M
-place-record-spec =
+pub of-place-spec : {M : Type 1} → statement M
+of-place-spec =
     tie.close
     (tie.spec
     low-first-requires

@@ -1,8 +1,8 @@
--- `component_record`: each field is the low bytes of its number.
+-- `Record::of_component`: each field is the low bytes of its number.
 use Rattle.rules.specs.Saved.{low-first, component-record}
 use borrow.Author.Needs.{needs}
-use Rattle.saved.proofs.write.component_record.Statement.{statement}
-use Rattle.saved.proofs.write.component_record.Tie as tie
+use Rattle.rules.proofs.Record.of_component.Statement.{statement}
+use Rattle.rules.proofs.Record.of_component.Tie as tie
 
 cast-length : tie.Need-cast-length
 cast-length c = search needs
@@ -35,8 +35,8 @@ returns : tie.Need-returns
 unfolding low-first component-record
 returns c = rw (c .low-first2 .ensures, c .before .before .low-first .ensures)
 
-pub component-record-spec : {M : Type 1} → statement M
-component-record-spec =
+pub of-component-spec : {M : Type 1} → statement M
+of-component-spec =
     tie.close
     (tie.spec
     cast-length
