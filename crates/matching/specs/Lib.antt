@@ -1,3 +1,4 @@
+-- What the contracts of this crate say, beside the definitions of `rules`.
 pub mod Flags
 pub mod Marks
 pub mod Prefix

@@ -1,2 +1,3 @@
+-- The laws that the proofs of this crate's functions lean on.
 pub mod Through
 pub mod InTurn

@@ -81,7 +81,7 @@ module _ (letters lengths : List ℕ) where
   save-short s o = omega (arith, bytes-counted s (o .template .few), o .template .few)
 
   -- a leg leads from a place that the search passes through to another
-  leg-passing : (s : Search) → SoundSearch letters lengths s → (b r : ℕ) (p : Place) → Passing (walk-of letters lengths s) p → Passing (walk-of letters lengths s) ((leg (walk-of letters lengths s) b r p) .at)
+  pub leg-passing : (s : Search) → SoundSearch letters lengths s → (b r : ℕ) (p : Place) → Passing (walk-of letters lengths s) p → Passing (walk-of letters lengths s) ((leg (walk-of letters lengths s) b r p) .at)
   leg-passing s o =
       let t = s .template in let q = s .quorum in let ss = sequences letters lengths in
       passing-leg (walk-of letters lengths s) (exact-pos t q ss) (exact-anti t q ss) (exact-deep t q ss (o .template)) (exact-root t q ss)

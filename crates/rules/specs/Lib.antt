@@ -1,3 +1,4 @@
+-- The paper as definitions, in the order in which they build on each other.
 pub mod Limits
 pub mod Lists
 pub mod Letters

@@ -32,6 +32,17 @@ fn low_first(x: u64) -> [u8; 8]
 }
 
 impl Record {
+    // A record's bytes; the kinds of record, which its first byte tells; the records besides the components'.
+    pub const BYTES: usize = 16;
+
+    pub const SIZE: u8 = 1;
+
+    pub const COMPONENT: u8 = 2;
+
+    pub const PLACE: u8 = 3;
+
+    pub const EXTRA: u8 = 2;
+
     // The size record.
     pub fn of_size(s: Search) -> Record
         requires { ⌜ s .template .count ≤ Template-COMPONENTS ⌝ }

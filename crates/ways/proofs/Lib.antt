@@ -1,3 +1,4 @@
+-- The laws that the proofs of this crate's functions lean on.
 pub mod Standing
 pub mod Tables
 pub mod Counting

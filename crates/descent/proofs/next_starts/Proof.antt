@@ -1,11 +1,7 @@
+-- `next_starts`: the sums are small, and the range is that of the slots.
 use borrow.Author.Needs.{needs}
 use Rattle.descent.proofs.next_starts.Statement.{statement}
 use Rattle.descent.proofs.next_starts.Tie as tie
-use Rattle.descent.proofs.next_starts.Reads as reads
-use Rattle.descent.proofs.next_starts.Lts as lts
-use Rattle.descent.proofs.least.Reads as least-reads
-use Rattle.descent.proofs.wide.Reads as wide-reads
-use Rattle.rules.proofs.Template.components.Reads as components-reads
 
 components-requires : tie.Need-components-requires
 components-requires c κs = search needs

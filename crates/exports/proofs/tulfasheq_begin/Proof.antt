@@ -1,0 +1,32 @@
+-- A new search is saved; what that tells, as numbers.
+use borrow.Author.Needs.{needs}
+use Rattle.exports.specs.Exported.{begin-outcome}
+use Rattle.exports.proofs.Outcomes.{begun-outcome}
+use Rattle.exports.proofs.tulfasheq_begin.Statement.{statement}
+use Rattle.exports.proofs.tulfasheq_begin.Tie as tie
+
+read-requires : tie.Need-read-requires
+read-requires c κs = search needs
+
+begin-requires : tie.Need-begin-requires
+begin-requires c κs = search needs
+
+save-begun-requires : tie.Need-save-begun-requires
+save-begun-requires c κs = search needs
+
+saved-requires : tie.Need-saved-requires
+saved-requires c κs = search needs
+
+same-length : tie.Need-same-length
+same-length c = search needs
+
+returns : tie.Need-returns
+unfolding begin-outcome
+returns c =
+    let b = c .before .before .before in
+    begun-outcome _ _ _ _ _ (b .before .before .before .read .ensures) (b .before .before .begin .ensures) (c .saved2 .ensures) (b .save-begun .ensures)
+
+pub tulfasheq-begin-spec : {M : Type 1} → statement M
+tulfasheq-begin-spec =
+    tie.close
+    (tie.spec read-requires begin-requires save-begun-requires saved-requires same-length returns)

@@ -1,0 +1,89 @@
+-- THE RULE OF EACH EXPORTED CALL: from what a caller passes, the numbers it gets back and what each table that it lent holds
+-- afterwards, refused calls too. Each is put together from the rules of the public calls, `Calls` of the crate `rules`.
+use mathlib.Core.List.{List}
+use Prim.Native.Nat.{ℕ}
+use Rattle.rules.specs.Calls.{Written, begin-rule, leg-rule, save-rule, restore-rule, recover-rule, join-rule}
+use Rattle.rules.specs.Saved.{bytes}
+use Rattle.rules.specs.Told.{Told, gives, refuses}
+use Rattle.rules.specs.Walk.{place}
+use Rattle.rules.specs.declared.Search.{Search}
+use Rattle.exports.specs.Numbers.{count-told, page-told, stopped, leg-told, search-told}
+use Rattle.exports.specs.Shape.{template-of, shape-of, fill}
+use Rattle.exports.specs.declared.told.Count.{Count}
+use Rattle.exports.specs.declared.told.Page.{Page}
+use Rattle.exports.specs.declared.told.Restored.{Restored}
+use Rattle.exports.specs.declared.told.Stopped.{Stopped}
+
+-- what comes of what is told: of a refusal r, and else g
+abbrev pub on-told : {A B : Type 0} → Told A → (ℕ → ℕ → B) → (A → B) → B
+on-told (gives a) r g = g a
+on-told (refuses n p) r g = r n p
+
+-- the numbers that a caller gets back, and the table that it lent
+pub record Outcome (A : Type 0) : Type 0 where
+  pub numbers : A
+  pub table : List ℕ
+
+abbrev pub outcome : {A : Type 0} → A → List ℕ → Outcome A
+outcome numbers table = record { numbers = numbers; table = table }
+
+-- from the rule of a save, a recovery or a join, by how the numbers are read off what is told
+abbrev pub outcome-of : {A B : Type 0} → (Told A → B) → Written A → Outcome B
+outcome-of read w = outcome (read (w .told)) (w .out)
+
+-- the search of so many components, a shape and the rest
+abbrev pub search-of : ℕ → List ℕ → ℕ → ℕ → ℕ → ℕ → ℕ → Search
+search-of components shape quorum sequences total letters number =
+    record { template = template-of components shape; quorum = quorum; set = record { sequences = sequences; letters = total }; place = place letters number }
+
+-- BEGIN: a new search, saved
+unfoldable pub save-begun : List ℕ → List ℕ → Told Search → List ℕ → Written ℕ
+save-begun letters lengths begun out = on-told begun (λ n p. record { told = refuses n p; out = out }) (λ s. save-rule letters lengths s out)
+
+unfoldable pub begin-outcome : List ℕ → List ℕ → ℕ → List ℕ → ℕ → List ℕ → Outcome Count
+begin-outcome letters lengths components shape quorum saved =
+    outcome-of count-told (save-begun letters lengths (begin-rule letters lengths (template-of components shape) quorum) saved)
+
+-- LEG: the search is restored, and saved again at its new place
+pub record LegOutcome : Type 0 where
+  pub numbers : Stopped
+  pub saved : List ℕ
+  pub motifs : List ℕ
+  pub supports : List ℕ
+  pub weights : List ℕ
+
+abbrev pub leg-of : Stopped → List ℕ → List ℕ → List ℕ → List ℕ → LegOutcome
+leg-of numbers saved motifs supports weights = record { numbers = numbers; saved = saved; motifs = motifs; supports = supports; weights = weights }
+
+module _ (letters lengths : List ℕ) (restored : Told Search) (budget : ℕ) (saved motifs supports weights : List ℕ) where
+  unfoldable pub leg-from : LegOutcome
+  leg-from =
+      on-told restored
+      (λ n p. leg-of (stopped n p 0 0 0) saved motifs supports weights)
+      (λ s. let l = leg-rule letters lengths s budget motifs supports weights in
+      leg-of (leg-told (l .told)) (bytes (l .told .search)) (l .motifs) (l .supports) (l .weights))
+
+unfoldable pub leg-outcome : List ℕ → List ℕ → List ℕ → ℕ → List ℕ → List ℕ → List ℕ → LegOutcome
+leg-outcome letters lengths saved budget motifs supports weights =
+    leg-from letters lengths (restore-rule letters lengths saved) budget saved motifs supports weights
+
+-- RESTORE: the table is the shape
+unfoldable pub shape-after : Told Search → List ℕ → List ℕ
+shape-after t shape = on-told t (λ n p. shape) (λ s. fill (shape-of (s .template)) shape)
+
+unfoldable pub restore-outcome : List ℕ → List ℕ → List ℕ → List ℕ → Outcome Restored
+restore-outcome letters lengths saved shape =
+    let t = restore-rule letters lengths saved in outcome (search-told t) (shape-after t shape)
+
+-- SAVE
+unfoldable pub save-outcome : List ℕ → List ℕ → Search → List ℕ → Outcome Count
+save-outcome letters lengths s out = outcome-of count-told (save-rule letters lengths s out)
+
+-- RECOVER
+unfoldable pub recover-outcome : List ℕ → List ℕ → ℕ → List ℕ → ℕ → ℕ → List ℕ → Outcome Page
+recover-outcome letters lengths components shape motif first out =
+    outcome-of page-told (recover-rule letters lengths (template-of components shape) motif first out)
+
+-- JOIN
+unfoldable pub join-outcome : List ℕ → List ℕ → ℕ → ℕ → ℕ → List ℕ → Outcome Count
+join-outcome first second head low high out = outcome-of count-told (join-rule first second head low high out)

@@ -1,0 +1,67 @@
+-- What a call tells, as numbers: 0 and 0 for an answer, and else the refusal's number and place, with counts of 0.
+use Prim.Native.Nat.{ℕ}
+use Rattle.rules.specs.Legs.{Stop, ended, spent, full}
+use Rattle.rules.specs.Told.{Told, gives, refuses, Counts, LegTold}
+use Rattle.rules.specs.declared.Search.{Search}
+use Rattle.exports.specs.declared.told.Count.{Count}
+use Rattle.exports.specs.declared.told.Page.{Page}
+use Rattle.exports.specs.declared.told.Restored.{Restored}
+use Rattle.exports.specs.declared.told.Stopped.{Stopped}
+
+-- the refusal's number and place, and 0 where there is none
+abbrev pub number-told : {A : Type 0} → Told A → ℕ
+number-told (gives a) = 0
+number-told (refuses n p) = n
+
+abbrev pub place-told : {A : Type 0} → Told A → ℕ
+place-told (gives a) = 0
+place-told (refuses n p) = p
+
+-- the number that f reads off what is given, and 0 in a refusal
+abbrev pub told-of : {A : Type 0} → (A → ℕ) → Told A → ℕ
+told-of f (gives a) = f a
+told-of f (refuses n p) = 0
+
+-- why a leg stopped
+abbrev pub stop-number : Stop → ℕ
+stop-number ended = 1
+stop-number spent = 2
+stop-number full = 3
+
+-- a save's bytes, or a join's positions
+abbrev pub count : ℕ → ℕ → ℕ → Count
+count n p c = record { number = n; place = p; count = c }
+
+unfoldable pub count-told : Told ℕ → Count
+count-told t = count (number-told t) (place-told t) (told-of (λ n. n) t)
+
+-- a recovery's rows and the length of its whole list
+abbrev pub page : ℕ → ℕ → ℕ → ℕ → Page
+page n p rows length = record { number = n; place = p; rows = rows; length = length }
+
+unfoldable pub page-told : Told Counts → Page
+page-told t = page (number-told t) (place-told t) (told-of (λ c. c .rows) t) (told-of (λ c. c .length) t)
+
+-- why a leg stopped, its steps and its rows
+abbrev pub stopped : ℕ → ℕ → ℕ → ℕ → ℕ → Stopped
+stopped n p stop steps rows = record { number = n; place = p; stop = stop; steps = steps; rows = rows }
+
+unfoldable pub leg-told : LegTold → Stopped
+leg-told l = stopped (number-told (l .answer)) (place-told (l .answer)) (told-of stop-number (l .answer)) (l .steps) (l .rows)
+
+-- a search, but for the shape of its template
+abbrev pub restored : ℕ → ℕ → ℕ → ℕ → ℕ → ℕ → ℕ → ℕ → Restored
+restored n p components quorum sequences total letters number =
+    record { number = n; place = p; components = components; quorum = quorum; sequences = sequences; total = total; letters = letters; candidate = number }
+
+unfoldable pub search-told : Told Search → Restored
+search-told t =
+    restored
+    (number-told t)
+    (place-told t)
+    (told-of (λ s. s .template .count) t)
+    (told-of (λ s. s .quorum) t)
+    (told-of (λ s. s .set .sequences) t)
+    (told-of (λ s. s .set .letters) t)
+    (told-of (λ s. s .place .letters) t)
+    (told-of (λ s. s .place .number) t)

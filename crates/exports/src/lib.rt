@@ -1,0 +1,191 @@
+// The six public calls for C and Rust, as numbers and slices; include/tulfasheq.h says how a caller sees them. A search is passed
+// as its saved bytes, and a template as its number of components and its shape: length, low and high of each slot in turn, of
+// which there are six; a slot past the shape's end is 0, 0, 0. Each answers 0, or the number of the refusal with its place in
+// `place`; all counts are 0 in a refusal.
+mod chain;
+mod shape;
+mod told;
+
+ghost use mathlib.Core.Path.{_≡_};
+ghost use Rattle.exports.specs.Exported.{outcome, leg-of, search-of, begin-outcome, leg-outcome, restore-outcome, save-outcome, recover-outcome, join-outcome};
+ghost use Rattle.exports.specs.Numbers.{count, page, stopped, restored};
+use rules::Place;
+use rules::Search;
+use rules::SequenceSet;
+use told::Count;
+use told::Page;
+use told::Restored;
+
+// A new search, saved to `saved`; `size` is the save's length.
+#[no_mangle]
+pub extern "C" fn tulfasheq_begin(
+    letters: &[u8],
+    lengths: &[u32],
+    components: u16,
+    shape: &[u16],
+    quorum: u64,
+    saved: &mut [u8],
+    place: &mut u64,
+    size: &mut u64,
+) -> u64
+    ensures { λ r. ⌜ outcome (count r (now (place .exit)) (now (size .exit))) (now (saved .exit)) ≡ begin-outcome (now (letters .entry)) (now (lengths .entry)) components (now (shape .entry)) quorum (now (saved .entry)) ⌝ }
+{
+    let t = shape::read(components, shape);
+    let begun = search::begin(letters, lengths, t, quorum);
+    let answer = chain::save_begun(letters, lengths, begun, saved);
+    let told = Count::saved(answer);
+    *place = told.place;
+    *size = told.count;
+    told.number
+}
+
+// A leg of the search that `saved` holds, which is saved there again at its new place: as far as the budget and the shortest
+// table allow. `stop` is 1 where the search has ended, 2 where the budget is spent, 3 where the tables are full.
+#[no_mangle]
+pub extern "C" fn tulfasheq_leg(
+    letters: &[u8],
+    lengths: &[u32],
+    saved: &mut [u8],
+    budget: u64,
+    motifs: &mut [u64],
+    supports: &mut [u32],
+    weights: &mut [u64],
+    place: &mut u64,
+    stop: &mut u64,
+    steps: &mut u64,
+    rows: &mut u64,
+) -> u64
+    ensures { λ r. ⌜ leg-of (stopped r (now (place .exit)) (now (stop .exit)) (now (steps .exit)) (now (rows .exit))) (now (saved .exit)) (now (motifs .exit)) (now (supports .exit)) (now (weights .exit)) ≡ leg-outcome (now (letters .entry)) (now (lengths .entry)) (now (saved .entry)) budget (now (motifs .entry)) (now (supports .entry)) (now (weights .entry)) ⌝ }
+{
+    let restored = saved::restore(letters, lengths, saved);
+    let told = chain::leg(
+        letters,
+        lengths,
+        restored,
+        budget,
+        saved,
+        motifs,
+        supports,
+        weights,
+    );
+    *place = told.place;
+    *stop = told.stop;
+    *steps = told.steps;
+    *rows = told.rows;
+    told.number
+}
+
+// The search that `saved` holds: its template, its quorum, the size of its set, and the letters and number of its next candidate.
+#[no_mangle]
+pub extern "C" fn tulfasheq_restore(
+    letters: &[u8],
+    lengths: &[u32],
+    saved: &[u8],
+    place: &mut u64,
+    components: &mut u16,
+    shape: &mut [u16],
+    quorum: &mut u64,
+    sequences: &mut u32,
+    total: &mut u32,
+    next_letters: &mut u8,
+    next_number: &mut u64,
+) -> u64
+    ensures { λ r. ⌜ outcome (restored r (now (place .exit)) (now (components .exit)) (now (quorum .exit)) (now (sequences .exit)) (now (total .exit)) (now («next_letters» .exit)) (now («next_number» .exit))) (now (shape .exit)) ≡ restore-outcome (now (letters .entry)) (now (lengths .entry)) (now (saved .entry)) (now (shape .entry)) ⌝ }
+{
+    let answer = saved::restore(letters, lengths, saved);
+    let told = Restored::begun(answer);
+    chain::write_shape(answer, shape);
+    *place = told.place;
+    *components = told.components;
+    *quorum = told.quorum;
+    *sequences = told.sequences;
+    *total = told.total;
+    *next_letters = told.letters;
+    *next_number = told.candidate;
+    told.number
+}
+
+// A search of these numbers, saved to `out`; `size` is the save's length.
+#[no_mangle]
+pub extern "C" fn tulfasheq_save(
+    letters: &[u8],
+    lengths: &[u32],
+    components: u16,
+    shape: &[u16],
+    quorum: u64,
+    sequences: u32,
+    total: u32,
+    next_letters: u8,
+    next_number: u64,
+    out: &mut [u8],
+    place: &mut u64,
+    size: &mut u64,
+) -> u64
+    ensures { λ r. ⌜ outcome (count r (now (place .exit)) (now (size .exit))) (now (out .exit)) ≡ save-outcome (now (letters .entry)) (now (lengths .entry)) (search-of components (now (shape .entry)) quorum sequences total «next_letters» «next_number») (now (out .entry)) ⌝ }
+{
+    let template = shape::read(components, shape);
+    let set = SequenceSet {
+        sequences,
+        letters: total,
+    };
+    let next = Place {
+        letters: next_letters,
+        number: next_number,
+    };
+    let search = Search {
+        template,
+        quorum,
+        set,
+        place: next,
+    };
+    let told = Count::saved(saved::save(letters, lengths, search, out));
+    *place = told.place;
+    *size = told.count;
+    told.number
+}
+
+// The occurrences of a motif, from row `first` of their list on: rows of a sequence's number and a start for each component.
+// `rows` is how many were written to `out`, `length` how many the list has.
+#[no_mangle]
+pub extern "C" fn tulfasheq_recover(
+    letters: &[u8],
+    lengths: &[u32],
+    components: u16,
+    shape: &[u16],
+    motif: u64,
+    first: u64,
+    out: &mut [u32],
+    place: &mut u64,
+    rows: &mut u64,
+    length: &mut u64,
+) -> u64
+    ensures { λ r. ⌜ outcome (page r (now (place .exit)) (now (rows .exit)) (now (length .exit))) (now (out .exit)) ≡ recover-outcome (now (letters .entry)) (now (lengths .entry)) components (now (shape .entry)) motif first (now (out .entry)) ⌝ }
+{
+    let t = shape::read(components, shape);
+    let told = Page::recovered(recovery::recover(letters, lengths, t, motif, first, out));
+    *place = told.place;
+    *rows = told.rows;
+    *length = told.length;
+    told.number
+}
+
+// The positions of `first` that have a partner in `second`, one that starts after a head of so many letters and a gap of `low` to
+// `high`. `kept` is how many were written to `out`.
+#[no_mangle]
+pub extern "C" fn tulfasheq_join(
+    first: &[u32],
+    second: &[u32],
+    head: u16,
+    low: u16,
+    high: u16,
+    out: &mut [u32],
+    place: &mut u64,
+    kept: &mut u64,
+) -> u64
+    ensures { λ r. ⌜ outcome (count r (now (place .exit)) (now (kept .exit))) (now (out .exit)) ≡ join-outcome (now (first .entry)) (now (second .entry)) head low high (now (out .entry)) ⌝ }
+{
+    let told = Count::joined(joins::join(first, second, head, low, high, out));
+    *place = told.place;
+    *kept = told.count;
+    told.number
+}

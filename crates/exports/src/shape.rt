@@ -1,0 +1,93 @@
+// A template from and to numbers: length, low and high of each of its slots in turn.
+ghost use mathlib.Core.Path.{_≡_};
+ghost use Prim.Native.Nat.{_≤_, min};
+ghost use lib.ListN.{getD};
+ghost use Rattle.exports.specs.Shape.{slot-at, template-of, shape-of, fill};
+use rules::Component;
+use rules::Template;
+
+// The number at an index of a shape, and 0 past its end.
+fn at(shape: &[u16], i: usize) -> u16
+    ensures { λ r. ⌜ r ≡ getD (now (shape .entry)) i 0 ⌝ }
+{
+    if i < shape.len() { shape[i] } else { 0 }
+}
+
+// The slot whose numbers stand from an index on.
+fn slot(shape: &[u16], i: usize) -> Component
+    requires { ⌜ i ≤ 15 ⌝ }
+    ensures { λ r. ⌜ r ≡ slot-at (now (shape .entry)) i ⌝ }
+{
+    let length = at(shape, i);
+    let low = at(shape, i + 1);
+    let high = at(shape, i + 2);
+    Component::new(length, low, high)
+}
+
+// The template of so many components and a shape.
+pub fn read(components: u16, shape: &[u16]) -> Template
+    ensures { λ r. ⌜ r ≡ template-of components (now (shape .entry)) ⌝ }
+{
+    Template {
+        count: components,
+        c1: slot(shape, 0),
+        c2: slot(shape, 3),
+        c3: slot(shape, 6),
+        c4: slot(shape, 9),
+        c5: slot(shape, 12),
+        c6: slot(shape, 15),
+    }
+}
+
+// The shape of a template.
+fn numbers(t: Template) -> [u16; 18]
+    ensures { λ r. ⌜ r ≡ shape-of t ⌝ }
+{
+    [
+        t.c1.length,
+        t.c1.low,
+        t.c1.high,
+        t.c2.length,
+        t.c2.low,
+        t.c2.high,
+        t.c3.length,
+        t.c3.low,
+        t.c3.high,
+        t.c4.length,
+        t.c4.low,
+        t.c4.high,
+        t.c5.length,
+        t.c5.low,
+        t.c5.high,
+        t.c6.length,
+        t.c6.low,
+        t.c6.high,
+    ]
+}
+
+// The lesser of two.
+fn least(a: usize, b: usize) -> usize
+    ensures { λ r. ⌜ r ≡ min a b ⌝ }
+{
+    if a <= b { a } else { b }
+}
+
+// Copies numbers to the front of a table, as many as it has room for.
+fn copy(from: &[u16], to: &mut [u16])
+    ensures { λ _. ⌜ now (to .exit) ≡ fill (now (from .entry)) (now (to .entry)) ⌝ }
+{
+    let n = least(from.len(), to.len());
+    let mut i = 0;
+    while i < n {
+        to[i] = from[i];
+        i += 1;
+    }
+}
+
+// Writes the shape of a template, as many of its numbers as there is room for.
+pub fn write(t: Template, shape: &mut [u16])
+    ensures { λ _. ⌜ now (shape .exit) ≡ fill (shape-of t) (now (shape .entry)) ⌝ }
+{
+    let all = numbers(t);
+    copy(&all, shape);
+}

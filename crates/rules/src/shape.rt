@@ -1,0 +1,142 @@
+// What a search is over and where it stands: the limits, the constructors, and a template's components and letters.
+ghost use mathlib.Core.Path.{_≡_};
+ghost use Prim.Native.Nat.{min};
+ghost use Rattle.rules.specs.Limits.{Template-COMPONENTS};
+ghost use Rattle.rules.specs.Template.{slots, component, none, kept, trimmed, size};
+ghost use Rattle.rules.specs.Walk.{place, first-place, ended-place};
+use crate::Component;
+use crate::Place;
+use crate::SequenceSet;
+use crate::Template;
+
+impl Component {
+    pub fn new(length: u16, low: u16, high: u16) -> Component
+        ensures { λ r. ⌜ r ≡ component length low high ⌝ }
+    {
+        Component { length, low, high }
+    }
+
+    // What stands in a slot past the last component.
+    pub fn none() -> Component
+        ensures { λ r. ⌜ r ≡ none ⌝ }
+    {
+        Component {
+            length: 0,
+            low: 0,
+            high: 0,
+        }
+    }
+
+    // Component i of a template that counts n: itself, or nothing past the last.
+    pub fn keep(self, n: u16, i: u16) -> Component
+        ensures { λ r. ⌜ r ≡ kept n i self ⌝ }
+    {
+        if i <= n { self } else { Component::none() }
+    }
+}
+
+impl Template {
+    // The most components, letters of one, letters in all, and letters of a gap.
+    pub const COMPONENTS: u16 = 6;
+
+    pub const LENGTH: u16 = 12;
+
+    pub const LETTERS: u32 = 32;
+
+    pub const GAP: u16 = 255;
+
+    // The slots in order, for loops.
+    pub fn components(self) -> [Component; 6]
+        ensures { λ r. ⌜ r ≡ slots self ⌝ }
+    {
+        let c1 = self.c1;
+        let c2 = self.c2;
+        let c3 = self.c3;
+        let c4 = self.c4;
+        let c5 = self.c5;
+        let c6 = self.c6;
+        [c1, c2, c3, c4, c5, c6]
+    }
+
+    // How many slots hold a component: the count, and no more than there are slots.
+    pub fn held(self) -> u16
+        ensures { λ r. ⌜ r ≡ min (self .count) Template-COMPONENTS ⌝ }
+    {
+        let n = self.count;
+        if n <= Template::COMPONENTS {
+            n
+        } else {
+            Template::COMPONENTS
+        }
+    }
+
+    // The same template, with nothing in the slots that it does not count.
+    pub fn trim(self) -> Template
+        ensures { λ r. ⌜ r ≡ trimmed self ⌝ }
+    {
+        let n = self.count;
+        Template {
+            count: n,
+            c1: self.c1.keep(n, 1),
+            c2: self.c2.keep(n, 2),
+            c3: self.c3.keep(n, 3),
+            c4: self.c4.keep(n, 4),
+            c5: self.c5.keep(n, 5),
+            c6: self.c6.keep(n, 6),
+        }
+    }
+
+    // K, the letters in all.
+    pub fn letters(self) -> u32
+        ensures { λ r. ⌜ r ≡ size self ⌝ }
+    {
+        let t = self.trim();
+        let k1 = t.c1.length as u32;
+        let k2 = t.c2.length as u32;
+        let k3 = t.c3.length as u32;
+        let k4 = t.c4.length as u32;
+        let k5 = t.c5.length as u32;
+        let k6 = t.c6.length as u32;
+        k1 + k2 + k3 + k4 + k5 + k6
+    }
+}
+
+impl SequenceSet {
+    // The most sequences, and the most letters of them all.
+    pub const SEQUENCES: usize = 1024;
+
+    pub const LETTERS: usize = 65536;
+
+    pub fn new(sequences: u32, letters: u32) -> SequenceSet
+        ensures { λ r. ⌜ (r .sequences ≡ sequences) × (r .letters ≡ letters) ⌝ }
+    {
+        SequenceSet { sequences, letters }
+    }
+}
+
+impl Place {
+    pub fn new(letters: u8, number: u64) -> Place
+        ensures { λ r. ⌜ r ≡ place letters number ⌝ }
+    {
+        Place { letters, number }
+    }
+
+    // The first candidate, A.
+    pub fn first() -> Place
+        ensures { λ r. ⌜ r ≡ first-place ⌝ }
+    {
+        Place {
+            letters: 1,
+            number: 0,
+        }
+    }
+
+    pub fn ended() -> Place
+        ensures { λ r. ⌜ r ≡ ended-place ⌝ }
+    {
+        Place {
+            letters: 0,
+            number: 0,
+        }
+    }
+}

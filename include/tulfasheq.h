@@ -1,0 +1,153 @@
+/* Tulfasheq for C and C++: the search for structured motifs in DNA, as numbers and arrays.
+ *
+ * Link with libexports.a (`rt staticlib exports` writes target/staticlib/libexports.a, for x86-64 Linux). No call keeps anything
+ * between calls, allocates, or reads or writes anything but what it is passed; a call uses less than 1 MiB of stack.
+ *
+ * Every array is passed as a pointer and the number of its elements. A pointer is never null, also where that number is 0, and is
+ * aligned as its type asks. No array or number that a call writes may overlap another that it is passed.
+ *
+ * Sequences are one array of letters (the bytes A, C, G, T) and an array of their lengths, in order.
+ *
+ * A template is its number of components and its shape: the length, the least and the greatest gap before it, of each component in
+ * turn, so N[0,1]N is 2 and {1, 0, 0, 1, 0, 1}. The first component's gaps are 0 and 0. What a shape does not reach is 0, and
+ * what goes past TULFASHEQ_SHAPE numbers is not read.
+ *
+ * A motif is a number: its letters as digits of base 4 (A 0, C 1, G 2, T 3), the first letter the highest.
+ *
+ * A search is passed as its saved bytes: tulfasheq_begin writes them, and each tulfasheq_leg replaces them by those of the search
+ * at its new place. They may be stored, copied and handed on: a copy goes on from where it was taken, over the same sequences.
+ *
+ * Every call answers TULFASHEQ_OK, or a refusal. A refused call sets *place (0 where the refusal tells no place), sets every other
+ * number that it answers to 0, and leaves every array as it was. A call that is not refused sets *place to 0. */
+#ifndef TULFASHEQ_H
+#define TULFASHEQ_H
+
+#include <stddef.h>
+#include <stdint.h>
+
+#ifdef __cplusplus
+extern "C" {
+#endif
+
+/* The limits. */
+#define TULFASHEQ_SEQUENCES 1024   /* the most sequences */
+#define TULFASHEQ_LETTERS 65536    /* the most letters of them all */
+#define TULFASHEQ_COMPONENTS 6     /* the most components of a template */
+#define TULFASHEQ_LENGTH 12        /* the most letters of a component */
+#define TULFASHEQ_MOTIF 32         /* the most letters of a motif */
+#define TULFASHEQ_GAP 255          /* the longest gap */
+
+/* How many elements to make room for: a shape, the save of a search whose template has k components, any save, and a row of a
+ * recovery. */
+#define TULFASHEQ_SHAPE (3 * TULFASHEQ_COMPONENTS)
+#define TULFASHEQ_SAVED(k) (16 * ((size_t)(k) + 2))
+#define TULFASHEQ_SAVED_MOST TULFASHEQ_SAVED(TULFASHEQ_COMPONENTS)
+#define TULFASHEQ_ROW(k) ((size_t)(k) + 1)
+
+/* What a call answers. Where several refusals apply, it gives the one that its own list, below, names first. */
+enum tulfasheq_answer {
+    TULFASHEQ_OK = 0,
+    TULFASHEQ_SEQUENCE_COUNT = 1,   /* no sequence, or more than TULFASHEQ_SEQUENCES */
+    TULFASHEQ_LETTER_COUNT = 2,     /* more than TULFASHEQ_LETTERS letters */
+    TULFASHEQ_LENGTH_SUM = 3,       /* the lengths do not add up to the letters */
+    TULFASHEQ_NOT_A_LETTER = 4,     /* a byte other than A, C, G, T; place: the offset of the first, from 0 */
+    TULFASHEQ_COMPONENT_COUNT = 5,  /* no component, or more than TULFASHEQ_COMPONENTS */
+    TULFASHEQ_COMPONENT_LENGTH = 6, /* a length of 0 or above TULFASHEQ_LENGTH; place: the first such component, from 1 */
+    TULFASHEQ_MOTIF_LENGTH = 7,     /* more than TULFASHEQ_MOTIF letters in all components */
+    TULFASHEQ_GAP_RANGE = 8,        /* a gap range that falls or ends above TULFASHEQ_GAP, or a first one that is not 0, 0;
+                                       place: the first such component, from 1 */
+    TULFASHEQ_QUORUM = 9,           /* a quorum of 0 or above the number of sequences */
+    TULFASHEQ_SAVED_SIZE = 10,      /* saved bytes that are not as long as the records that they count */
+    TULFASHEQ_SAVED_LAYOUT = 11,    /* saved bytes that break their layout, or a next candidate that no template has */
+    TULFASHEQ_OTHER_SET = 12,       /* saved over other sequences: the number of them or of their letters differs */
+    TULFASHEQ_NOT_A_CANDIDATE = 13, /* a place that the search does not pass through */
+    TULFASHEQ_MOTIF_NUMBER = 14,    /* a number that is no motif's of this template */
+    TULFASHEQ_FIRST_ROW = 15,       /* a first row above the list's length */
+    TULFASHEQ_JOIN_LIST = 16,       /* a list that does not rise strictly, or leaves 1 to TULFASHEQ_LETTERS */
+    TULFASHEQ_ROOM = 17             /* an array that is too short for what is to be written */
+};
+
+/* Why a leg stopped; 0 in a refusal. */
+enum tulfasheq_stop {
+    TULFASHEQ_ENDED = 1, /* there is no candidate left */
+    TULFASHEQ_SPENT = 2, /* the budget is used up */
+    TULFASHEQ_FULL = 3   /* the next motif has no room in the tables */
+};
+
+/* Begins a search for the motifs of a template that at least `quorum` of the sequences hold, and saves it to the front of `saved`.
+ * *size is the save's length: pass that many bytes to the calls below. Refuses, in this order: 1 to 9, 17. */
+uint64_t tulfasheq_begin(
+    const uint8_t *letters, size_t letters_len,
+    const uint32_t *lengths, size_t lengths_len,
+    uint16_t components,
+    const uint16_t *shape, size_t shape_len,
+    uint64_t quorum,
+    uint8_t *saved, size_t saved_len,
+    uint64_t *place, uint64_t *size);
+
+/* Runs a leg of a saved search, and replaces the save by that of the search at its new place, which has the same length. It takes
+ * at most `budget` steps, each of which examines one candidate, and lists at most as many motifs as the shortest of the three
+ * tables has room for: row i, from 0 on, is a motif's number, its support and its weighted support. *stop says why it stopped,
+ * *steps and *rows count; the rest of each table stays. Legs run one after another until one has ended list every frequent motif,
+ * once, in letter order. Refuses, in this order: 1 to 4, 10, 5, 11, 6, 7, 8, 12, 9, 13. */
+uint64_t tulfasheq_leg(
+    const uint8_t *letters, size_t letters_len,
+    const uint32_t *lengths, size_t lengths_len,
+    uint8_t *saved, size_t saved_len,
+    uint64_t budget,
+    uint64_t *motifs, size_t motifs_len,
+    uint32_t *supports, size_t supports_len,
+    uint64_t *weights, size_t weights_len,
+    uint64_t *place, uint64_t *stop, uint64_t *steps, uint64_t *rows);
+
+/* Tells what a saved search is: its template, quorum, number of sequences and letters in all, and the letters and number of its next
+ * candidate, which are 0 and 0 where it has ended. `shape` gets as many of the TULFASHEQ_SHAPE numbers as it has room for.
+ * Refuses, in this order: 1 to 4, 10, 5, 11, 6, 7, 8, 12, 9, 13. */
+uint64_t tulfasheq_restore(
+    const uint8_t *letters, size_t letters_len,
+    const uint32_t *lengths, size_t lengths_len,
+    const uint8_t *saved, size_t saved_len,
+    uint64_t *place, uint16_t *components,
+    uint16_t *shape, size_t shape_len,
+    uint64_t *quorum, uint32_t *sequences, uint32_t *total,
+    uint8_t *next_letters, uint64_t *next_number);
+
+/* Saves a search given by what tulfasheq_restore tells to the front of `out`. *size is the save's length. Refuses, in this order:
+ * 1 to 4, 5, 11, 6, 7, 8, 12, 9, 13, 17. */
+uint64_t tulfasheq_save(
+    const uint8_t *letters, size_t letters_len,
+    const uint32_t *lengths, size_t lengths_len,
+    uint16_t components,
+    const uint16_t *shape, size_t shape_len,
+    uint64_t quorum, uint32_t sequences, uint32_t total,
+    uint8_t next_letters, uint64_t next_number,
+    uint8_t *out, size_t out_len,
+    uint64_t *place, uint64_t *size);
+
+/* Lists the occurrences of a motif, from row `first` of their list on, counted from 0: rows of TULFASHEQ_ROW(components) numbers, a
+ * sequence's number and the start of each component, both from 1, as many whole rows as `out` has room for. *rows is how many were
+ * written, *length how many the list has; the rest of `out` stays. Refuses, in this order: 1 to 8, 14, 15. */
+uint64_t tulfasheq_recover(
+    const uint8_t *letters, size_t letters_len,
+    const uint32_t *lengths, size_t lengths_len,
+    uint16_t components,
+    const uint16_t *shape, size_t shape_len,
+    uint64_t motif, uint64_t first,
+    uint32_t *out, size_t out_len,
+    uint64_t *place, uint64_t *rows, uint64_t *length);
+
+/* Joins two rising lists of positions: writes those of `first` that have a partner in `second`, one that starts after a head of
+ * `head` letters and a gap of `low` to `high`, to the front of `out`, which is as long as `first` at least. *kept is how many.
+ * Refuses, in this order: 6 (the head) and 8 (the range), both with place 1, 16, 17. */
+uint64_t tulfasheq_join(
+    const uint32_t *first, size_t first_len,
+    const uint32_t *second, size_t second_len,
+    uint16_t head, uint16_t low, uint16_t high,
+    uint32_t *out, size_t out_len,
+    uint64_t *place, uint64_t *kept);
+
+#ifdef __cplusplus
+}
+#endif
+
+#endif
