@@ -1,9 +1,10 @@
--- A number that is at most a list's length counts elements at its start: taking so many gives so many.
-use Prim.Native.Nat.{ℕ, _≤_}
+-- As many elements as are asked for, or all of a list if it has fewer, are elements at its start: taking so many gives so many.
+use mathlib.Core.Path.{_≡_}
 use mathlib.Core.List.{List}
+use Prim.Native.Nat.{ℕ, min}
 use lib.ListN.{length, length-take}
 use native.Mathlib.Omega.{arith}
 use Rattle.io.specs.Counts.{Counts}
 
-pub counts : {n : ℕ} (xs : List ℕ) → n ≤ length xs → Counts n xs
-counts xs h = (h, simp length-take (omega arith))
+pub counts : {n : ℕ} (k : ℕ) (xs : List ℕ) → n ≡ min k (length xs) → Counts n xs
+counts k xs e = (omega arith, simp length-take (omega arith))

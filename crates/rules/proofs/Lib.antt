@@ -12,7 +12,9 @@ pub mod Spelling
 pub mod Components
 pub mod Bytes
 pub mod Prefix
+pub mod Lengths
 pub mod Bound
+pub mod Few
 pub mod Step
 pub mod Whole
 pub mod Legs
@@ -36,5 +38,6 @@ pub mod Places
 pub mod Begins
 pub mod Relayed
 pub mod Completes
+pub mod StepsSoFar
 pub mod OneAnswer
 pub mod Demands

@@ -1,0 +1,205 @@
+-- A whole search takes fewer than 2 ^ 63 steps, so that a 64-bit count of steps never runs over. A frequent prefix is read off
+-- a sequence at the starts of an occurrence. From one first start on, parts of the same lengths and ranges can be placed in at
+-- most 256 ways for each of at most five later parts, and there are no more first starts than letters, of which there are at
+-- most 65,536: so at most 2 ^ 56 prefixes of each length are frequent. With the empty one, at most 1 + 31 * 2 ^ 56 are shorter
+-- than a motif, and the search takes four steps for each.
+use mathlib.Core.Path.{_≡_, refl, sym, _∙_}
+use mathlib.Core.Bool.{Bool, true, false, false≢true}
+use mathlib.Core.List.{List, [], _∷_, _++_, map, append-nil, List·Memᴰ, List·Memᴰ·head, List·Memᴰ·not-nil, Memᴰ·cast, Memᴰ·map, Memᴰ·of-map}
+use Prim.Native.Nat.{ℕ, zero, suc, _+_, _-_, _*_, _^_, _≤_, _<_}
+use native.Mathlib.Nat.{le-trans, pow-zero, pow-succ', pow-le-pow-right, mul-le-mul-right}
+use native.Mathlib.Omega.{arith}
+use lib.Dec.{eqb}
+use lib.ListN.{length, take, drop, length-map, length-take, length-drop, take-append-drop}
+use borrow.Author.Tests.{eqb-true, leb-true}
+use Rattle.rules.specs.Limits.{Letter-BASES, SequenceSet-LETTERS}
+use Rattle.rules.specs.Lists.{run, if, each, keep, joined, sum}
+use Rattle.rules.specs.Motif.{number, spell}
+use Rattle.rules.specs.Occurrence.{front, stands, reach, starts, occurrences}
+use Rattle.rules.specs.Relay.{whole-steps}
+use Rattle.rules.specs.Sequences.{sequences}
+use Rattle.rules.specs.Sound.{SoundSet, SoundTemplate}
+use Rattle.rules.specs.Support.{support, parts, frequent}
+use Rattle.rules.specs.Template.{Part, component, components, size, cut}
+use Rattle.rules.specs.Walk.{exact, goods}
+use Rattle.rules.specs.declared.Component.{Component}
+use Rattle.rules.specs.declared.Template.{Template}
+use Rattle.rules.proofs.Bound.{Near, parts-few, parts-near, sequences-letters}
+use Rattle.rules.proofs.Lengths.{rising-within, each-run, each-times, keep-some}
+use Rattle.rules.proofs.Members.{each-in, each-out, keep-run-out}
+use Rattle.rules.proofs.OccurrenceOrder.{keep-run-rising}
+use Rattle.rules.proofs.Prefix.{size-some}
+use Rattle.rules.proofs.Spelling.{length-spell, number-spell}
+use Rattle.rules.proofs.Ways.{some-is, support-sequences}
+
+-- ---- words read off a sequence
+
+-- the n letters of s from a position on
+abbrev letters-at : ℕ → List ℕ → ℕ → List ℕ
+letters-at n s zero = []
+letters-at n s (suc o) = take n (drop o s)
+
+-- what can be read off s where components are placed, the first at p and each next within its range
+unfoldable placed : List Component → List ℕ → ℕ → List (List ℕ)
+placed [] s p = []
+placed (c ∷ []) s p = letters-at (c .length) s p ∷ []
+placed (c ∷ d ∷ ds) s p = map (λ w. letters-at (c .length) s p ++ w) (each (placed (d ∷ ds) s) (reach (c .length) (d .low) (d .high) p))
+
+-- the length and the range of a part, without its letters
+abbrev form : Part → Component
+form c = component (length (c .word)) (c .low) (c .high)
+
+-- the letters of parts, one part after another
+abbrev spelt : List Part → List ℕ
+spelt cs = joined (map (λ c. c .word) cs)
+
+-- parts whose first is at p can be placed in at most b ways for each later one
+placed-most : (b : ℕ) (c : Part) (cs : List Part) (s : List ℕ) → Near b (c ∷ cs) → (p : ℕ) → length (placed (map form (c ∷ cs)) s p) ≤ b ^ length cs
+unfolding placed reach
+placed-most b c [] s h p = rw pow-zero (omega arith)
+placed-most b c (d ∷ ds) s h p =
+    let later : List (List ℕ) = each (placed (map form (d ∷ ds)) s) (reach (length (c .word)) (d .low) (d .high) p) in
+    let most : length later ≤ (d .high + 1 - d .low) * b ^ length ds = each-run _ _ (placed-most b d ds s (λ i l. h (suc i) (omega arith))) _ _ in
+    rw pow-succ' (omega (arith, length-map later (λ w. letters-at (length (c .word)) s p ++ w), most, mul-le-mul-right (b ^ length ds) (h 1 (omega arith))))
+
+-- letters that are the first of s are read off it
+front-read : (w s : List ℕ) → front w s ≡ true → take (length w) s ≡ w
+unfolding front
+front-read [] s e = refl
+front-read (x ∷ w) [] e = absurd (false≢true e)
+front-read (x ∷ w) (y ∷ s) e = go (eqb x y) refl e (front-read w s)
+  where
+    go : (b : Bool) → eqb x y ≡ b → if b (front w s) false ≡ true → (front w s ≡ true → take (length w) s ≡ w) → y ∷ take (length w) s ≡ x ∷ w
+    go true q e ih = rw (ih e, eqb-true x y q)
+    go false q e ih = absurd (false≢true e)
+
+-- and so are letters at the position where they stand
+stands-read : (w s : List ℕ) (p : ℕ) → stands w s p ≡ true → letters-at (length w) s p ≡ w
+unfolding stands
+stands-read w s zero e = absurd (false≢true e)
+stands-read w s (suc o) e = front-read w (drop o s) e
+
+-- the letters of parts that occur are among those that can be read off where such parts are placed
+placed-in : (cs : List Part) (s : List ℕ) (p : ℕ) (ps : List ℕ) → List·Memᴰ ps (starts cs s p) → List·Memᴰ (spelt cs) (placed (map form cs) s p)
+unfolding placed starts joined
+placed-in [] s p ps m = absurd (List·Memᴰ·not-nil m)
+placed-in (c ∷ []) s p ps m = go (stands (c .word) s p) refl m
+  where
+    go : (b : Bool) → stands (c .word) s p ≡ b → List·Memᴰ ps (if b ((p ∷ []) ∷ []) []) → List·Memᴰ (c .word ++ []) (letters-at (length (c .word)) s p ∷ [])
+    go true e m = List·Memᴰ·head (append-nil (c .word) ∙ sym (stands-read (c .word) s p e))
+    go false e m = absurd (List·Memᴰ·not-nil m)
+placed-in (c ∷ d ∷ ds) s p ps m = go (stands (c .word) s p) refl m (placed-in (d ∷ ds) s)
+  where
+    next : List ℕ
+    next = reach (length (c .word)) (d .low) (d .high) p
+
+    later : List (List ℕ)
+    later = each (placed (map form (d ∷ ds)) s) next
+
+    go : (b : Bool) → stands (c .word) s p ≡ b → List·Memᴰ ps (if b (map (λ t. p ∷ t) (each (starts (d ∷ ds) s) next)) [])
+        → ((q : ℕ) (qs : List ℕ) → List·Memᴰ qs (starts (d ∷ ds) s q) → List·Memᴰ (spelt (d ∷ ds)) (placed (map form (d ∷ ds)) s q))
+        → List·Memᴰ (c .word ++ spelt (d ∷ ds)) (map (λ w. letters-at (length (c .word)) s p ++ w) later)
+    go true e m ih =
+        let r = Memᴰ·of-map (λ t. p ∷ t) (each (starts (d ∷ ds) s) next) m in
+        let k = each-out (starts (d ∷ ds) s) next (r .1) in
+        rw (stands-read (c .word) s p e) (Memᴰ·map (λ w. c .word ++ w) (each-in (placed (map form (d ∷ ds)) s) next (k .1) (ih (k .0) (r .0) (k .2))))
+    go false e m ih = absurd (List·Memᴰ·not-nil m)
+
+-- ---- the parts of a prefix
+
+-- the lengths and ranges go by how many letters are dealt out, not by which
+cut-forms : (cs : List Component) (v w : List ℕ) → length v ≡ length w → map form (cut cs v) ≡ map form (cut cs w)
+unfolding cut
+cut-forms [] v w e = refl
+cut-forms (c ∷ cs) [] [] e = refl
+cut-forms (c ∷ cs) [] (y ∷ w) e = absurd (omega arith)
+cut-forms (c ∷ cs) (x ∷ v) [] e = absurd (omega arith)
+cut-forms (c ∷ cs) (x ∷ v) (y ∷ w) e =
+    let n : ℕ = c .length in
+    let k : length (take n (x ∷ v)) ≡ length (take n (y ∷ w)) = omega (arith, length-take n (x ∷ v), length-take n (y ∷ w)) in
+    rw (k, cut-forms cs (drop n (x ∷ v)) (drop n (y ∷ w)) (omega (arith, length-drop n (x ∷ v), length-drop n (y ∷ w))))
+
+-- letters dealt out to components that have room for them are all there
+cut-spelt : (cs : List Component) (w : List ℕ) → length w ≤ sum (map (λ c. c .length) cs) → spelt (cut cs w) ≡ w
+unfolding cut joined sum
+cut-spelt [] [] h = refl
+cut-spelt [] (x ∷ w) h = absurd (omega arith)
+cut-spelt (c ∷ cs) [] h = refl
+cut-spelt (c ∷ cs) (x ∷ w) h =
+    rw (cut-spelt cs (drop (c .length) (x ∷ w)) (omega (arith, length-drop (c .length) (x ∷ w)))) (take-append-drop (c .length) (x ∷ w))
+
+-- at most five parts after the first
+few-placed : (cs : List Part) → length cs ≤ 6 → Near 256 cs → (s : List ℕ) (p : ℕ) → length (placed (map form cs) s p) ≤ 2 ^ 40
+few-placed [] l h s p = unfold placed in omega arith
+few-placed (c ∷ cs) l h s p = le-trans (placed-most 256 c cs s h p) (le-trans (pow-le-pow-right {n = 256} (omega arith) {j = 5} (omega arith)) (omega arith))
+
+-- what can be read off a sequence where the parts of a prefix of j letters are placed
+unfoldable readings : Template → ℕ → List ℕ → List (List ℕ)
+readings t j s = each (placed (map form (parts t j 0)) s) (run 1 (length s))
+
+-- all sequences have at most 2 ^ 40 of them for each letter
+readings-few : (t : Template) → SoundTemplate t → (j : ℕ) (ss : List (List ℕ)) → length (each (readings t j) ss) ≤ sum (map length ss) * 2 ^ 40
+unfolding readings
+readings-few t sound j ss = each-times (readings t j) length (2 ^ 40) (λ s. each-run _ (2 ^ 40) (few-placed (parts t j 0) few (parts-near t sound j 0) s) 1 (length s)) ss
+  where
+    few : length (parts t j 0) ≤ 6
+    few = omega (arith, parts-few t j 0, sound .few)
+
+module _ (t : Template) (j m : ℕ) (deep : j ≤ size t) where
+  -- a prefix that occurs is among them
+  occurs-read : (s ps : List ℕ) → List·Memᴰ ps (occurrences (parts t j m) s) → List·Memᴰ (spell Letter-BASES j m) (readings t j s)
+  unfolding readings occurrences parts size
+  occurs-read s ps o =
+      let r = each-out (starts (parts t j m) s) (run 1 (length s)) o in
+      let same = cut-forms (components t) (spell Letter-BASES j 0) (spell Letter-BASES j m) (length-spell Letter-BASES j 0 ∙ sym (length-spell Letter-BASES j m)) in
+      let whole = cut-spelt (components t) (spell Letter-BASES j m) (omega (arith, length-spell Letter-BASES j m)) in
+      each-in _ (run 1 (length s)) (r .1) (rw same (Memᴰ·cast (sym whole) (placed-in (parts t j m) s (r .0) ps (r .2))))
+
+  -- and so is one whose support is at least 1
+  support-read : (ss : List (List ℕ)) → 1 ≤ support (parts t j m) ss → List·Memᴰ (spell Letter-BASES j m) (each (readings t j) ss)
+  support-read ss h =
+      let k = keep-some _ ss (rw (support-sequences (parts t j m) ss) at h) in
+      let o = some-is (occurrences (parts t j m) (k .0)) .0 (k .2) in
+      each-in (readings t j) ss (k .1) (occurs-read (k .0) (o .0) (o .1))
+
+-- ---- the count
+
+module _ (t : Template) (quorum : ℕ) (ss : List (List ℕ)) (sound : SoundTemplate t) (some : 1 ≤ quorum) (short : sum (map length ss) ≤ SequenceSet-LETTERS) where
+  -- the numbers of the frequent prefixes of one length rise, and each of them is read off somewhere
+  level-few : (j : ℕ) → suc j ≤ size t → length (keep (frequent t quorum ss (suc j)) (run 0 (Letter-BASES ^ suc j))) ≤ 2 ^ 56
+  unfolding frequent
+  level-few j deep =
+      omega
+      (arith, rising-within level (map (number Letter-BASES) all) (keep-run-rising _ 0 (Letter-BASES ^ suc j)) within, length-map all (number Letter-BASES), readings-few t sound (suc j) ss)
+    where
+      level : List ℕ
+      level = keep (frequent t quorum ss (suc j)) (run 0 (Letter-BASES ^ suc j))
+
+      all : List (List ℕ)
+      all = each (readings t (suc j)) ss
+
+      within : (m : ℕ) → List·Memᴰ m level → List·Memᴰ m (map (number Letter-BASES) all)
+      within m k =
+          let r = keep-run-out _ 0 (Letter-BASES ^ suc j) m k in
+          let is : number Letter-BASES (spell Letter-BASES (suc j) m) ≡ m = number-spell Letter-BASES (suc j) m (omega arith) (omega (arith, r .1)) in
+          Memᴰ·cast (sym is) (Memᴰ·map (number Letter-BASES) (support-read t (suc j) m deep ss (omega (arith, leb-true quorum _ (r .2)))))
+
+  -- the empty prefix, and those of 1 to k letters
+  goods-few : (k : ℕ) → k ≤ size t → goods (exact t quorum ss) (suc k) ≤ 1 + k * 2 ^ 56
+  unfolding goods exact frequent keep run
+  goods-few zero h = omega arith
+  goods-few (suc k) h = omega (arith, goods-few k (omega arith), level-few k h)
+
+  steps-few : whole-steps t quorum ss < 2 ^ 63
+  unfolding whole-steps
+  steps-few = go (size t) refl
+    where
+      go : (k : ℕ) → size t ≡ k → Letter-BASES * goods (exact t quorum ss) (size t) < 2 ^ 63
+      go zero e = absurd (omega (arith, size-some t sound))
+      go (suc k) e = rw e (omega (arith, goods-few k (omega arith), sound .deep))
+
+-- a whole search takes fewer than 2 ^ 63 steps
+pub whole-steps-few : (t : Template) (quorum : ℕ) (letters lengths : List ℕ) → SoundTemplate t → SoundSet letters lengths → 1 ≤ quorum
+    → whole-steps t quorum (sequences letters lengths) < 2 ^ 63
+whole-steps-few t quorum letters lengths sound set some =
+    steps-few t quorum (sequences letters lengths) sound some (omega (arith, sequences-letters letters lengths set, set .short))
