@@ -1,7 +1,10 @@
 #!/bin/sh
-# Compares the proved library with the second program, by thousands of calls of both (src/bin/compare). The library is called
+# Compares the proved library with the second program, by thousands of calls of both (src/requests), on two ways:
+#
 # through the program `calls`, which `rt ci` or `rt check` leaves in target/bin. Programs are built for x86-64 and run under the
-# kit's own loader and C library; on another processor the kit has an emulator beside its compiler, and that goes before.
+# kit's own loader and C library; on another processor the kit has an emulator beside its compiler, and that goes before;
+#
+# and through the exports, linked as any program would link them (library.sh, src/library.rs, tests/library*.rs).
 set -eu
 cd "$(dirname "$0")/.."
 
@@ -14,4 +17,8 @@ if [ -x "$tools/bin/qemu-x86_64" ]; then
 fi
 
 cargo build --release --offline --quiet --manifest-path second/Cargo.toml --bin compare
-exec second/target/release/compare "$@"
+second/target/release/compare "$@"
+
+echo "== the exports, linked"
+second/library.sh
+cargo test --release --offline --quiet --manifest-path second/Cargo.toml --features library --test 'library*' -- --nocapture

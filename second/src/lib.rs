@@ -5,7 +5,8 @@
 //!
 //! Each function quotes the sentence of the paper that it follows.
 
-#![forbid(unsafe_code)]
+#![cfg_attr(not(feature = "library"), forbid(unsafe_code))]
+#![deny(unsafe_code)]
 #![warn(missing_docs)]
 
 mod ask;
@@ -21,6 +22,14 @@ mod search;
 mod sequences;
 mod template;
 mod text;
+
+// Names that say it all.
+#[allow(missing_docs)]
+pub mod requests;
+
+#[cfg(feature = "library")]
+#[allow(unsafe_code)]
+pub mod library;
 
 pub use ask::{candidates, occurrences, support, weighted_support, Candidate, Candidates};
 pub use join::join;

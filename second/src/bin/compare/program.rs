@@ -1,25 +1,16 @@
 //! The program `calls`, run on requests, and the comparison of its answers
 //! with the second program's.
 
-use crate::answer::{Answer, REFUSED};
-use crate::request::{Kind, Request};
+use crate::wire::{decode, encode};
+use second::requests::answer::Answer;
+use second::requests::request::Request;
+use second::requests::Seen;
 use std::io::{Read, Write};
 use std::process::{Command, Stdio};
 use std::thread;
 
 /// Requests to one run of the program, so that neither side holds too much.
 const BATCH: usize = 20_000;
-
-/// How often each refusal, by its number, was given by each kind of call; 0
-/// stands for no refusal.
-#[derive(Default)]
-pub struct Seen([[u64; 19]; 7]);
-
-impl Seen {
-    pub fn of(&self, kind: Kind, refusal: u64) -> u64 {
-        self.0[kind as usize][refusal as usize]
-    }
-}
 
 pub struct Program {
     /// The program and what it is run with: an emulator and a loader before
@@ -33,7 +24,7 @@ impl Program {
     fn run(&self, requests: &[Request]) -> Result<Vec<u8>, String> {
         let mut input = (requests.len() as u64).to_le_bytes().to_vec();
         for request in requests {
-            request.encode(&mut input);
+            encode(request, &mut input);
         }
         let mut child = Command::new(&self.command[0])
             .args(&self.command[1..])
@@ -66,7 +57,7 @@ impl Program {
             let mut rest = &output[..];
             for request in batch {
                 let expected = Answer::expected(request);
-                let Some(answer) = Answer::read(request, &mut rest) else {
+                let Some(answer) = decode(request, &mut rest) else {
                     return Err(format!("no answer to this request:\n{request}"));
                 };
                 if let Some(difference) = answer.difference(&expected) {
@@ -74,12 +65,7 @@ impl Program {
                         "the program differs from the second one in {difference}\n{request}"
                     ));
                 }
-                let refusal = if answer.outcome() == REFUSED {
-                    answer.refusal()
-                } else {
-                    0
-                };
-                self.seen.0[request.kind as usize][refusal as usize] += 1;
+                self.seen.count(request.kind, answer.refusal());
             }
             if !rest.is_empty() {
                 return Err(format!("{} bytes after the last answer", rest.len()));

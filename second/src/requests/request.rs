@@ -1,4 +1,4 @@
-//! A request as the program `calls` reads it, and as a person does.
+//! A request: one call with all that is lent to it.
 
 use std::fmt;
 use std::rc::Rc;
@@ -160,47 +160,6 @@ impl Request {
             value,
         }
     }
-
-    /// The bytes that the program reads: a head of 40 numbers, then what is
-    /// lent, as its file ask.rt lays them out.
-    pub fn encode(&self, to: &mut Vec<u8>) {
-        let mut head = vec![
-            self.kind as u64,
-            self.set.letters.len() as u64,
-            self.set.lengths.len() as u64,
-            self.partners.len() as u64,
-            self.motifs.len() as u64,
-            self.supports.len() as u64,
-            self.weights.len() as u64,
-            self.rows.len() as u64,
-            self.saved.len() as u64,
-            self.budget,
-            self.motif,
-            self.first_row,
-            u64::from(self.head),
-            u64::from(self.low),
-            u64::from(self.high),
-        ];
-        head.extend(self.value.words());
-        head.push(0);
-        put_wide(&head, to);
-        to.extend(&self.set.letters);
-        put_narrow(&self.set.lengths, to);
-        put_narrow(&self.partners, to);
-        put_wide(&self.motifs, to);
-        put_narrow(&self.supports, to);
-        put_wide(&self.weights, to);
-        put_narrow(&self.rows, to);
-        to.extend(&self.saved);
-    }
-}
-
-fn put_wide(list: &[u64], to: &mut Vec<u8>) {
-    to.extend(list.iter().flat_map(|number| number.to_le_bytes()));
-}
-
-fn put_narrow(list: &[u32], to: &mut Vec<u8>) {
-    to.extend(list.iter().flat_map(|number| number.to_le_bytes()));
 }
 
 /// A list, cut where it grows long.

@@ -2,11 +2,11 @@
 //! cut, changed in a byte or two, or made over other sequences, and of random
 //! bytes.
 
-use crate::answer::Answer;
-use crate::begins::faulty_set;
-use crate::legs::{deepest, save_and_restore, underway};
-use crate::random::Random;
-use crate::request::{Kind, Request, Set, Slot, Value};
+use super::answer::Answer;
+use super::begins::faulty_set;
+use super::legs::{deepest, save_and_restore, underway};
+use super::random::Random;
+use super::request::{Kind, Request, Set, Slot, Value};
 use std::rc::Rc;
 
 fn restore(set: &Rc<Set>, saved: Vec<u8>) -> Request {

@@ -1,8 +1,8 @@
 //! Joins: lists that rise and lists that do not, each limit of head and range,
 //! and tables of any length.
 
-use crate::random::Random;
-use crate::request::{Kind, Request, Set, Value};
+use super::random::Random;
+use super::request::{Kind, Request, Set, Value};
 use std::rc::Rc;
 
 struct Join {

@@ -1,10 +1,10 @@
 //! Recoveries: every motif and first row that matters on small sets, buffers
 //! of any length, and lists too long to be written whole.
 
-use crate::answer::search;
-use crate::begins::{faulty_set, faulty_value};
-use crate::random::Random;
-use crate::request::{Kind, Request, Set, Slot, Value};
+use super::answer::search;
+use super::begins::{faulty_set, faulty_value};
+use super::random::Random;
+use super::request::{Kind, Request, Set, Slot, Value};
 use std::rc::Rc;
 
 struct Recovery {
@@ -25,7 +25,7 @@ fn request(set: &Rc<Set>, value: Value, asked: Recovery, random: &mut Random) ->
 /// The length of a motif's list, and 0 if the recovery is refused.
 fn list_length(set: &Set, value: &Value, motif: u64) -> u64 {
     let template = search(value).template;
-    second::recover(&set.letters, &set.lengths, &template, motif, 0, &mut [])
+    crate::recover(&set.letters, &set.lengths, &template, motif, 0, &mut [])
         .map_or(0, |recovered| recovered.length)
 }
 
@@ -85,10 +85,10 @@ fn motifs(set: &Set, value: &Value, random: &mut Random) -> Vec<u64> {
     let (mut supports, mut weights) = ([0; 40], [0; 40]);
     let (lent, lengths) = (&set.letters[..], &set.lengths[..]);
     let template = search(value).template;
-    let mut motifs = match second::begin(lent, lengths, &template, 1) {
+    let mut motifs = match crate::begin(lent, lengths, &template, 1) {
         Ok(begun) => {
             let (m, s, w) = (&mut found[..], &mut supports[..], &mut weights[..]);
-            let leg = second::leg(lent, lengths, &begun, 5_000, m, s, w);
+            let leg = crate::leg(lent, lengths, &begun, 5_000, m, s, w);
             found.truncate(leg.rows);
             (0..4)
                 .filter(|_| leg.rows > 0)

@@ -1,8 +1,8 @@
 //! New searches: each limit from both sides, several faults at once, and
 //! searches that are begun.
 
-use crate::random::Random;
-use crate::request::{Kind, Request, Set, Slot, Value};
+use super::random::Random;
+use super::request::{Kind, Request, Set, Slot, Value};
 use std::rc::Rc;
 
 fn begin(set: Set, value: Value) -> Request {

@@ -1,6 +1,6 @@
 //! Random numbers from a printed seed, and inputs made of them.
 
-use crate::request::{Set, Slot, Value};
+use super::request::{Set, Slot, Value};
 
 /// A generator (splitmix64): the same numbers for the same seed, everywhere.
 pub struct Random(u64);

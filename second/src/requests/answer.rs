@@ -1,8 +1,8 @@
-//! What a call answers: the numbers told and every lent table afterwards. The
-//! program's answers are read, the second program's are worked out.
+//! What a call answers: the numbers told and every lent table afterwards, and
+//! what the second program answers.
 
-use crate::request::{Kind, Request, Slot, Value};
-use second::{Answer as Stop, Component, Place, Refusal, Search, Template};
+use super::request::{Kind, Request, Slot, Value};
+use crate::{Answer as Stop, Component, Place, Refusal, Search, Template};
 
 /// How a call came out, as the program's file told.rt lays it out.
 pub const REFUSED: u64 = 0;
@@ -18,7 +18,7 @@ const NAMES: [&str; 5] = [
     "count",
     "total",
 ];
-const TOLD: usize = NAMES.len() + 24;
+pub const TOLD: usize = NAMES.len() + 24;
 
 #[derive(Clone, Debug, PartialEq, Eq)]
 pub struct Answer {
@@ -32,19 +32,6 @@ pub struct Answer {
 }
 
 impl Answer {
-    /// What the program answered to a request, from the front of what it
-    /// wrote; none if that is cut short.
-    pub fn read(request: &Request, from: &mut &[u8]) -> Option<Answer> {
-        Some(Answer {
-            told: take_wide(TOLD, from)?,
-            motifs: take_wide(request.motifs.len(), from)?,
-            supports: take_narrow(request.supports.len(), from)?,
-            weights: take_wide(request.weights.len(), from)?,
-            rows: take_narrow(request.rows.len(), from)?,
-            saved: take(request.saved.len(), from)?.to_vec(),
-        })
-    }
-
     /// What the second program answers.
     pub fn expected(request: &Request) -> Answer {
         let mut answer = Answer {
@@ -58,15 +45,15 @@ impl Answer {
         let (letters, lengths) = (&request.set.letters[..], &request.set.lengths[..]);
         let value = &request.value;
         answer.told = match request.kind {
-            Kind::Begin => told_begun(second::begin(
+            Kind::Begin => told_begun(crate::begin(
                 letters,
                 lengths,
                 &template(value),
                 value.quorum,
             )),
-            Kind::Restore => told_begun(second::restore(letters, lengths, &request.saved)),
+            Kind::Restore => told_begun(crate::restore(letters, lengths, &request.saved)),
             Kind::Leg => {
-                let leg = second::leg(
+                let leg = crate::leg(
                     letters,
                     lengths,
                     &search(value),
@@ -93,12 +80,12 @@ impl Answer {
                     Err(refusal) => told_refusal(refusal, value),
                 }
             }
-            Kind::Save => match second::save(letters, lengths, &search(value), &mut answer.saved) {
+            Kind::Save => match crate::save(letters, lengths, &search(value), &mut answer.saved) {
                 Ok(bytes) => told(DONE, bytes as u64, 0, &Value::default()),
                 Err(refusal) => told_refusal(refusal, &Value::default()),
             },
             Kind::Recover => {
-                match second::recover(
+                match crate::recover(
                     letters,
                     lengths,
                     &template(value),
@@ -111,7 +98,7 @@ impl Answer {
                 }
             }
             Kind::Join => {
-                match second::join(
+                match crate::join(
                     lengths,
                     &request.partners,
                     byte(request.head),
@@ -259,28 +246,4 @@ pub fn search(value: &Value) -> Search {
             number: value.number,
         },
     }
-}
-
-fn take<'a>(length: usize, from: &mut &'a [u8]) -> Option<&'a [u8]> {
-    let (taken, rest) = from.split_at_checked(length)?;
-    *from = rest;
-    Some(taken)
-}
-
-fn take_wide(length: usize, from: &mut &[u8]) -> Option<Vec<u64>> {
-    let numbers = take(8 * length, from)?.chunks_exact(8);
-    Some(
-        numbers
-            .map(|b| u64::from_le_bytes(b.try_into().unwrap()))
-            .collect(),
-    )
-}
-
-fn take_narrow(length: usize, from: &mut &[u8]) -> Option<Vec<u32>> {
-    let numbers = take(4 * length, from)?.chunks_exact(4);
-    Some(
-        numbers
-            .map(|b| u32::from_le_bytes(b.try_into().unwrap()))
-            .collect(),
-    )
 }

@@ -1,10 +1,10 @@
 //! Legs laid end to end, with a save and a restore between them, and legs and
 //! saves of search values that no call gave.
 
-use crate::answer::{Answer, DONE, REFUSED};
-use crate::begins::{faulty_set, faulty_value};
-use crate::random::Random;
-use crate::request::{Kind, Request, Set, Slot, Value};
+use super::answer::{Answer, DONE, REFUSED};
+use super::begins::{faulty_set, faulty_value};
+use super::random::Random;
+use super::request::{Kind, Request, Set, Slot, Value};
 use std::rc::Rc;
 
 /// The most rows that the program has tables for.

@@ -1,0 +1,33 @@
+//! The library beside two Rust programs, on the same inputs and in the same
+//! run: `passes`, which does the library's own passes, and `positions`, which
+//! keeps position lists along the path. Each is held to the library's answers
+//! before it is timed. `second/bench.sh` runs it; docs/BENCHMARKS.md says what
+//! is measured and how it is meant.
+
+mod inputs;
+mod legs;
+mod linked;
+mod measures;
+mod passes;
+mod positions;
+mod recover;
+mod recoveries;
+mod timing;
+mod walk;
+
+/// The measures, by the names that they can be asked for by.
+const MEASURES: [(&str, fn()); 4] = [
+    ("candidate", measures::one_candidate),
+    ("walk", measures::candidates),
+    ("searches", measures::searches),
+    ("recovery", measures::occurrences),
+];
+
+fn main() {
+    let asked: Vec<String> = std::env::args().skip(1).collect();
+    for (name, measure) in MEASURES {
+        if asked.is_empty() || asked.iter().any(|asked| asked == name) {
+            measure();
+        }
+    }
+}

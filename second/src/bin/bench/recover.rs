@@ -1,0 +1,221 @@
+//! Recovery by both Rust programs: every occurrence of a motif in order, as
+//! many rows as there is room for, and how many there are.
+
+use crate::passes::all_ways;
+use crate::positions::join_back;
+use crate::walk::{Place, Search};
+use second::Component;
+
+/// Rows that go out until there is no room.
+struct Table<'a> {
+    out: &'a mut [u32],
+    at: usize,
+    rows: usize,
+}
+
+impl Table<'_> {
+    fn full(&self, width: usize) -> bool {
+        self.out.len() - self.at < width
+    }
+
+    fn write(&mut self, row: &[u32]) {
+        if let Some(to) = self.out.get_mut(self.at..self.at + row.len()) {
+            to.copy_from_slice(row);
+            self.at += row.len();
+            self.rows += 1;
+        }
+    }
+}
+
+/// By the passes: flags that say where each component can start with the rest
+/// after it, and a descent along them.
+pub fn by_passes(search: &Search, motif: u64, out: &mut [u32]) -> (usize, u64) {
+    let letters = search.depth();
+    let number = motif;
+    let word = Place { letters, number }.word();
+    let longest = search.set.sequences().map(<[u8]>::len).max().unwrap_or(0);
+    let mut flags = vec![vec![false; longest]; search.components.len()];
+    let (mut ways, mut later) = (vec![0; longest], vec![0; longest]);
+    let (at, rows) = (0, 0);
+    let mut table = Table { out, at, rows };
+    let mut length = 0;
+    for (number, sequence) in (1..).zip(search.set.sequences()) {
+        let components = &search.components;
+        all_ways(
+            components,
+            &word,
+            sequence,
+            &mut ways,
+            &mut later,
+            |number, ways| {
+                for (flag, ways) in flags[number].iter_mut().zip(ways) {
+                    *flag = *ways > 0;
+                }
+                if number == 0 {
+                    length += ways.iter().sum::<u64>();
+                }
+            },
+        );
+        let mut row = [number, 0, 0, 0, 0, 0, 0];
+        let starts = (0, sequence.len());
+        descend(
+            components,
+            &flags,
+            sequence.len(),
+            0,
+            starts,
+            &mut row,
+            &mut table,
+        );
+    }
+    (table.rows, length)
+}
+
+fn descend(
+    components: &[Component],
+    flags: &[Vec<bool>],
+    letters: usize,
+    component: usize,
+    (from, to): (usize, usize),
+    row: &mut [u32; 7],
+    table: &mut Table,
+) {
+    let width = components.len() + 1;
+    let flags_here = flags[component].get(from..to).unwrap_or_default();
+    for (start, _) in (from..).zip(flags_here).filter(|(_, flag)| **flag) {
+        if table.full(width) {
+            return;
+        }
+        row[component + 1] = start as u32 + 1;
+        match components.get(component + 1) {
+            None => table.write(&row[..width]),
+            Some(next) => {
+                let after = start + usize::from(components[component].length);
+                let starts = (
+                    after + usize::from(next.low),
+                    (after + usize::from(next.high) + 1).min(letters),
+                );
+                descend(
+                    components,
+                    flags,
+                    letters,
+                    component + 1,
+                    starts,
+                    row,
+                    table,
+                );
+            }
+        }
+    }
+}
+
+/// By position lists: where each component stands, cut from the last to the
+/// first to those that the next can follow, and a descent along the lists.
+pub fn by_positions(search: &Search, motif: u64, out: &mut [u32]) -> (usize, u64) {
+    let letters = search.depth();
+    let number = motif;
+    let word = Place { letters, number }.word();
+    let (at, rows) = (0, 0);
+    let mut table = Table { out, at, rows };
+    let mut length = 0;
+    for (number, sequence) in (1..).zip(search.set.sequences()) {
+        let lists = lists(&search.components, &word, sequence);
+        length += count(&search.components, &lists);
+        let mut row = [number, 0, 0, 0, 0, 0, 0];
+        let range = (0, u32::MAX);
+        follow(&search.components, &lists, 0, range, &mut row, &mut table);
+    }
+    (table.rows, length)
+}
+
+/// The starts of each component in a sequence, from 0, that the rest can
+/// follow.
+fn lists(components: &[Component], word: &[u8], sequence: &[u8]) -> Vec<Vec<u32>> {
+    let mut rest = word;
+    let mut lists: Vec<Vec<u32>> = Vec::new();
+    for component in components {
+        let (part, after) = rest.split_at(usize::from(component.length));
+        let stands = |(at, found): (usize, &[u8])| (found == part).then_some(at as u32);
+        lists.push(
+            sequence
+                .windows(part.len())
+                .enumerate()
+                .filter_map(stands)
+                .collect(),
+        );
+        rest = after;
+    }
+    let begin = vec![0; sequence.len()];
+    for here in (0..components.len().saturating_sub(1)).rev() {
+        let length = u32::from(components[here].length);
+        let ends: Vec<u32> = lists[here].iter().map(|start| start + length - 1).collect();
+        let mut kept = join_back(&ends, &lists[here + 1], &components[here + 1], &begin);
+        for end in &mut kept {
+            *end -= length - 1;
+        }
+        lists[here] = kept;
+    }
+    lists
+}
+
+/// How many occurrences the lists have: the ways of each start, from the last
+/// component to the first, by sums up to each start.
+fn count(components: &[Component], lists: &[Vec<u32>]) -> u64 {
+    let Some(last) = lists.last() else {
+        return 0;
+    };
+    let mut ways = vec![1u64; last.len()];
+    for here in (0..components.len() - 1).rev() {
+        let mut sums = vec![0];
+        for way in &ways {
+            sums.push(sums[sums.len() - 1] + way);
+        }
+        let (length, next) = (u32::from(components[here].length), &components[here + 1]);
+        let later = &lists[here + 1];
+        let (mut from, mut to) = (0, 0);
+        ways = lists[here]
+            .iter()
+            .map(|start| {
+                let least = start + length + u32::from(next.low);
+                let most = start + length + u32::from(next.high);
+                while from < later.len() && later[from] < least {
+                    from += 1;
+                }
+                while to < later.len() && later[to] <= most {
+                    to += 1;
+                }
+                sums[to.max(from)] - sums[from]
+            })
+            .collect();
+    }
+    ways.iter().sum()
+}
+
+fn follow(
+    components: &[Component],
+    lists: &[Vec<u32>],
+    component: usize,
+    (least, most): (u32, u32),
+    row: &mut [u32; 7],
+    table: &mut Table,
+) {
+    let width = components.len() + 1;
+    let from = lists[component].partition_point(|start| *start < least);
+    for start in lists[component][from..]
+        .iter()
+        .take_while(|start| **start <= most)
+    {
+        if table.full(width) {
+            return;
+        }
+        row[component + 1] = start + 1;
+        match components.get(component + 1) {
+            None => table.write(&row[..width]),
+            Some(next) => {
+                let after = start + u32::from(components[component].length);
+                let range = (after + u32::from(next.low), after + u32::from(next.high));
+                follow(components, lists, component + 1, range, row, table);
+            }
+        }
+    }
+}

@@ -1,0 +1,248 @@
+//! The linked library on the paper's set E: each of the six calls as the
+//! header declares it, with the paper's numbers, and refused calls, which
+//! leave every buffer as it was.
+
+use second::library::{begin, join, leg, recover, restore, save};
+use second::library::{Leg, Recovered, Search, Stop, Template};
+use second::Refusal;
+
+/// ACGTA, CAGGT, AT.
+const LETTERS: &[u8] = b"ACGTACAGGTAT";
+const LENGTHS: &[u32] = &[5, 5, 2];
+
+/// N[0,1]N.
+const SHAPE: [u16; 6] = [1, 0, 0, 1, 0, 1];
+const PAIR: Template = Template {
+    components: 2,
+    shape: &SHAPE,
+};
+
+/// The bytes of a new search, with its length told.
+fn begun(quorum: u64) -> Vec<u8> {
+    let mut saved = vec![0xEE; 128];
+    let size = begin(LETTERS, LENGTHS, PAIR, quorum, &mut saved).unwrap();
+    assert_eq!(size, 64);
+    assert!(saved[size..].iter().all(|byte| *byte == 0xEE));
+    saved.truncate(size);
+    saved
+}
+
+/// A search over E at a place.
+fn at(quorum: u64, next_letters: u8, next_number: u64) -> Search {
+    Search {
+        components: 2,
+        quorum,
+        sequences: 3,
+        total: 12,
+        next_letters,
+        next_number,
+    }
+}
+
+fn refused(number: u8, place: u64) -> Refusal {
+    Refusal { number, place }
+}
+
+#[test]
+fn p3_a_search_of_e() {
+    let mut saved = begun(2);
+    let (mut motifs, mut supports, mut weights) = ([9; 5], [9; 5], [9; 5]);
+    let (m, s, w) = (&mut motifs[..], &mut supports[..], &mut weights[..]);
+    let told = leg(LETTERS, LENGTHS, &mut saved, 99, m, s, w).unwrap();
+    let (stop, steps, rows) = (Stop::Ended, 20, 3);
+    assert_eq!(told, Leg { stop, steps, rows });
+    assert_eq!(motifs, [2, 6, 11, 9, 9]);
+    assert_eq!(supports, [2, 2, 2, 9, 9]);
+    assert_eq!(weights, [2, 2, 3, 9, 9]);
+    assert_eq!(restore(LETTERS, LENGTHS, &saved, &mut []), Ok(at(2, 0, 0)));
+}
+
+#[test]
+fn p4_nothing_in_twelve_steps() {
+    let mut saved = begun(3);
+    let told = leg(LETTERS, LENGTHS, &mut saved, 99, &mut [], &mut [], &mut []).unwrap();
+    let (stop, steps, rows) = (Stop::Ended, 12, 0);
+    assert_eq!(told, Leg { stop, steps, rows });
+}
+
+#[test]
+fn legs_stop_where_the_budget_or_the_room_ends() {
+    let mut saved = begun(2);
+    let mut motifs = [0; 1];
+    let mut next = |budget, room: usize| {
+        let (mut supports, mut weights) = ([0; 1], [0; 1]);
+        let (m, s, w) = (&mut motifs[..room], &mut supports[..], &mut weights[..]);
+        leg(LETTERS, LENGTHS, &mut saved, budget, m, s, w).unwrap()
+    };
+    let told = |stop, steps, rows| Leg { stop, steps, rows };
+    assert_eq!(next(0, 1), told(Stop::Spent, 0, 0));
+    // A, AA, AC; AG is the first motif.
+    assert_eq!(next(99, 0), told(Stop::Full, 3, 0));
+    assert_eq!(next(1, 1), told(Stop::Spent, 1, 1));
+    assert_eq!(next(99, 1), told(Stop::Full, 10, 1));
+    assert_eq!(next(99, 1), told(Stop::Ended, 6, 1));
+    assert_eq!(next(99, 1), told(Stop::Ended, 0, 0));
+    assert_eq!(motifs, [11]);
+}
+
+#[test]
+fn p5_the_occurrences_of_ag() {
+    let mut out = [7; 11];
+    let told = recover(LETTERS, LENGTHS, PAIR, 2, 0, &mut out).unwrap();
+    assert_eq!(told, Recovered { rows: 3, length: 3 });
+    assert_eq!(out, [1, 1, 3, 2, 2, 3, 2, 2, 4, 7, 7]);
+    let mut page = [7; 5];
+    let told = recover(LETTERS, LENGTHS, PAIR, 2, 1, &mut page).unwrap();
+    assert_eq!(told, Recovered { rows: 1, length: 3 });
+    assert_eq!(page, [2, 2, 3, 7, 7]);
+    let told = recover(LETTERS, LENGTHS, PAIR, 2, 3, &mut page).unwrap();
+    assert_eq!(told, Recovered { rows: 0, length: 3 });
+}
+
+#[test]
+fn p6_the_occurrences_of_aa() {
+    let mut out = [0; 9];
+    let told = recover(b"AAA", &[3], PAIR, 0, 0, &mut out).unwrap();
+    assert_eq!(told, Recovered { rows: 3, length: 3 });
+    assert_eq!(out, [1, 1, 2, 1, 1, 3, 1, 2, 3]);
+}
+
+#[test]
+fn p7_joins() {
+    let mut out = [7; 3];
+    assert_eq!(join(&[1, 4], &[3, 5], 1, 0, 1, &mut out), Ok(2));
+    assert_eq!(out, [1, 4, 7]);
+    assert_eq!(join(&[1, 4], &[3, 5], 1, 0, 0, &mut out), Ok(1));
+    assert_eq!(out, [4, 4, 7]);
+}
+
+/// The save of E's search, quorum 2, after 4 steps.
+fn after_four_steps() -> Vec<u8> {
+    let mut saved = begun(2);
+    let (mut motifs, mut supports, mut weights) = ([0; 3], [0; 3], [0; 3]);
+    let (m, s, w) = (&mut motifs[..], &mut supports[..], &mut weights[..]);
+    let told = leg(LETTERS, LENGTHS, &mut saved, 4, m, s, w).unwrap();
+    let (stop, steps, rows) = (Stop::Spent, 4, 1);
+    assert_eq!(told, Leg { stop, steps, rows });
+    saved
+}
+
+#[test]
+fn p9_a_save() {
+    let saved = after_four_steps();
+    let size = [1, 4, 2, 0, 3, 0, 2, 0, 12, 0, 0, 0, 0, 0, 0, 0];
+    let place = [3, 2, 0, 0, 0, 0, 0, 0, 3, 0, 0, 0, 0, 0, 0, 0];
+    assert_eq!(saved.len(), 64);
+    assert_eq!(saved[..16], size);
+    assert_eq!(saved[48..], place);
+
+    let mut shape = [7; 20];
+    let search = restore(LETTERS, LENGTHS, &saved, &mut shape).unwrap();
+    assert_eq!(search, at(2, 2, 3));
+    assert_eq!(shape[..6], SHAPE);
+    assert_eq!(shape[6..], [0, 0, 0, 0, 0, 0, 0, 0, 0, 0, 0, 0, 7, 7]);
+    // A shape with less room gets what fits.
+    let mut shape = [7; 4];
+    assert_eq!(restore(LETTERS, LENGTHS, &saved, &mut shape), Ok(search));
+    assert_eq!(shape, SHAPE[..4]);
+
+    let mut again = [0xEE; 65];
+    assert_eq!(save(LETTERS, LENGTHS, &search, &SHAPE, &mut again), Ok(64));
+    assert_eq!(again[..64], saved);
+    assert_eq!(again[64], 0xEE);
+}
+
+#[test]
+fn p10_a_save_cut_short() {
+    let mut cut = after_four_steps();
+    cut.truncate(63);
+    let whole = cut.clone();
+    let mut shape = [7; 18];
+    let refusal = Err(refused(10, 0));
+    assert_eq!(restore(LETTERS, LENGTHS, &cut, &mut shape), refusal);
+    assert_eq!(shape, [7; 18]);
+
+    let (mut motifs, mut supports, mut weights) = ([7; 4], [7; 4], [7; 4]);
+    let (m, s, w) = (&mut motifs[..], &mut supports[..], &mut weights[..]);
+    let refusal = Err(refused(10, 0));
+    assert_eq!(leg(LETTERS, LENGTHS, &mut cut, 99, m, s, w), refusal);
+    assert_eq!((motifs, supports, weights), ([7; 4], [7; 4], [7; 4]));
+    assert_eq!(cut, whole);
+}
+
+#[test]
+fn p11_a_place_that_is_no_candidate() {
+    // CA at quorum 3: C is not frequent then.
+    let mut out = [7; 64];
+    let refusal = Err(refused(13, 0));
+    assert_eq!(
+        save(LETTERS, LENGTHS, &at(3, 2, 4), &SHAPE, &mut out),
+        refusal
+    );
+    assert_eq!(out, [7; 64]);
+
+    assert_eq!(
+        save(LETTERS, LENGTHS, &at(2, 2, 4), &SHAPE, &mut out),
+        Ok(64)
+    );
+    out[2] = 3;
+    let mut shape = [7; 18];
+    let refusal = Err(refused(13, 0));
+    assert_eq!(restore(LETTERS, LENGTHS, &out, &mut shape), refusal);
+    assert_eq!(shape, [7; 18]);
+}
+
+#[test]
+fn refused_calls_leave_their_buffers() {
+    let mut saved = [7; 64];
+    let refusal = begin(b"ACGTACAGGTAN", LENGTHS, PAIR, 2, &mut saved);
+    assert_eq!(refusal, Err(refused(4, 11)));
+    let refusal = begin(LETTERS, LENGTHS, PAIR, 4, &mut saved);
+    assert_eq!(refusal, Err(refused(9, 0)));
+    let refusal = begin(LETTERS, LENGTHS, PAIR, 2, &mut saved[..63]);
+    assert_eq!(refusal, Err(refused(17, 0)));
+    let refusal = save(LETTERS, LENGTHS, &at(2, 1, 0), &SHAPE, &mut saved[..63]);
+    assert_eq!(refusal, Err(refused(17, 0)));
+    assert_eq!(saved, [7; 64]);
+
+    let mut out = [7; 6];
+    let wide = [1, 0, 0, 1, 0, 256];
+    let template = Template {
+        components: 2,
+        shape: &wide,
+    };
+    let refusal = recover(LETTERS, LENGTHS, template, 2, 0, &mut out);
+    assert_eq!(refusal, Err(refused(8, 2)));
+    let refusal = recover(LETTERS, LENGTHS, PAIR, 16, 0, &mut out);
+    assert_eq!(refusal, Err(refused(14, 0)));
+    let refusal = recover(LETTERS, LENGTHS, PAIR, 2, 4, &mut out);
+    assert_eq!(refusal, Err(refused(15, 0)));
+
+    let refusal = join(&[1, 4], &[3, 5], 13, 0, 1, &mut out);
+    assert_eq!(refusal, Err(refused(6, 1)));
+    let refusal = join(&[4, 1], &[3, 5], 1, 0, 1, &mut out);
+    assert_eq!(refusal, Err(refused(16, 0)));
+    let refusal = join(&[1, 4], &[3, 5], 1, 0, 1, &mut out[..1]);
+    assert_eq!(refusal, Err(refused(17, 0)));
+    assert_eq!(out, [7; 6]);
+}
+
+#[test]
+fn a_shape_that_ends_early_has_nothing_after_its_end() {
+    let mut saved = [7; 64];
+    let template = Template {
+        components: 2,
+        shape: &SHAPE[..3],
+    };
+    let refusal = begin(LETTERS, LENGTHS, template, 2, &mut saved);
+    assert_eq!(refusal, Err(refused(6, 2)));
+    // N[0,0]N: the last number is left out.
+    let template = Template {
+        components: 2,
+        shape: &SHAPE[..5],
+    };
+    assert_eq!(begin(LETTERS, LENGTHS, template, 2, &mut saved), Ok(64));
+    let mut shape = [7; 6];
+    restore(LETTERS, LENGTHS, &saved, &mut shape).unwrap();
+    assert_eq!(shape, [1, 0, 0, 1, 0, 0]);
+}

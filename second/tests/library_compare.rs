@@ -1,0 +1,264 @@
+//! The linked library beside the second program, by the requests that the
+//! program `calls` is compared by (src/requests): every number told and the
+//! whole of every lent table, refused calls too. A search goes from call to
+//! call as its saved bytes, and one that no call gave comes about by a save.
+
+use second::library::{self, Stop, Template};
+use second::requests::answer::{self, Answer, DONE, REFUSED};
+use second::requests::random::Random;
+use second::requests::request::{Kind, Request, Slot, Value};
+use second::requests::{Seen, GROUPS};
+use second::Refusal;
+
+/// What the header says of numbers told is held to in `second::library`; what
+/// is told is laid out here as the second program's answers are.
+fn told(outcome: u64, counts: [u64; 2], value: &Value) -> Vec<u64> {
+    let mut told = vec![outcome, 0, 0];
+    told.extend(counts);
+    told.extend(value.words());
+    told
+}
+
+fn told_refusal(refusal: Refusal, value: &Value) -> Vec<u64> {
+    let mut told = vec![REFUSED, refusal.number.into(), refusal.place, 0, 0];
+    told.extend(value.words());
+    told
+}
+
+fn shape(value: &Value) -> Vec<u16> {
+    let numbers = |slot: &Slot| [slot.length, slot.low, slot.high];
+    value.slots.iter().flat_map(numbers).collect()
+}
+
+fn told_search(value: &Value) -> library::Search {
+    library::Search {
+        components: value.count,
+        quorum: value.quorum,
+        sequences: value.sequences,
+        total: value.letters,
+        next_letters: value.place,
+        next_number: value.number,
+    }
+}
+
+/// The search that the library says some bytes hold.
+fn restored(request: &Request, saved: &[u8]) -> Result<Value, Refusal> {
+    let (letters, lengths) = (&request.set.letters[..], &request.set.lengths[..]);
+    let mut shape = [7; 18];
+    let told = library::restore(letters, lengths, saved, &mut shape).inspect_err(|_| {
+        assert_eq!(shape, [7; 18], "a refused restore wrote a shape");
+    })?;
+    let mut value = Value {
+        count: told.components,
+        quorum: told.quorum,
+        sequences: told.sequences,
+        letters: told.total,
+        place: told.next_letters,
+        number: told.next_number,
+        ..Value::default()
+    };
+    for (slot, numbers) in value.slots.iter_mut().zip(shape.chunks(3)) {
+        *slot = Slot::new(numbers[0], numbers[1], numbers[2]);
+    }
+    Ok(value)
+}
+
+/// The same value, with nothing in the slots that it does not count: those do
+/// not get into a save.
+fn trimmed(value: &Value) -> Value {
+    let mut value = *value;
+    for slot in value.slots.iter_mut().skip(value.count.into()) {
+        *slot = Slot::default();
+    }
+    value
+}
+
+/// A leg from saved bytes on, which are then those of the new place.
+fn leg(request: &Request, saved: &mut [u8], answer: &mut Answer) -> Result<(), Refusal> {
+    let before = saved.to_vec();
+    let leg = library::leg(
+        &request.set.letters,
+        &request.set.lengths,
+        saved,
+        request.budget,
+        &mut answer.motifs,
+        &mut answer.supports,
+        &mut answer.weights,
+    )
+    .inspect_err(|_| assert_eq!(saved, before, "a refused leg wrote over its save"))?;
+    let outcome = match leg.stop {
+        Stop::Ended => DONE,
+        Stop::Spent => 2,
+        Stop::Full => 3,
+    };
+    let value = restored(request, saved).expect("what a leg saves is restored");
+    answer.told = told(outcome, [leg.steps, leg.rows as u64], &value);
+    Ok(())
+}
+
+/// The leg of a search value: it is saved, and the leg goes on from there. What
+/// the save refuses, the leg of the value would: both check the same.
+fn leg_of_value(request: &Request, answer: &mut Answer) -> Result<(), Refusal> {
+    let (letters, lengths) = (&request.set.letters[..], &request.set.lengths[..]);
+    let value = &request.value;
+    let mut saved = [0; 128];
+    let search = told_search(value);
+    let size = library::save(letters, lengths, &search, &shape(value), &mut saved)?;
+    leg(request, &mut saved[..size], answer)
+}
+
+fn call(request: &Request, answer: &mut Answer) -> Result<(), Refusal> {
+    let (letters, lengths) = (&request.set.letters[..], &request.set.lengths[..]);
+    let value = &request.value;
+    let shape = shape(value);
+    let template = Template {
+        components: value.count,
+        shape: &shape,
+    };
+    let none = Value::default();
+    match request.kind {
+        Kind::Begin => {
+            let mut saved = [7; 140];
+            let begun = library::begin(letters, lengths, template, value.quorum, &mut saved);
+            let size = begun.unwrap_or(0);
+            assert!(
+                saved[size..].iter().all(|byte| *byte == 7),
+                "a begin wrote too much"
+            );
+            begun?;
+            let value = restored(request, &saved[..size])?;
+            answer.told = told(DONE, [0, 0], &value);
+        }
+        Kind::Leg => leg_of_value(request, answer)?,
+        Kind::Save => {
+            let search = told_search(value);
+            let size = library::save(letters, lengths, &search, &shape, &mut answer.saved)?;
+            answer.told = told(DONE, [size as u64, 0], &none);
+        }
+        Kind::Restore => {
+            let value = restored(request, &request.saved)?;
+            answer.told = told(DONE, [0, 0], &value);
+        }
+        Kind::Recover => {
+            let (motif, first) = (request.motif, request.first_row);
+            let rows = &mut answer.rows;
+            let found = library::recover(letters, lengths, template, motif, first, rows)?;
+            answer.told = told(DONE, [found.rows as u64, found.length], &none);
+        }
+        Kind::Join => {
+            let (head, low, high) = (request.head, request.low, request.high);
+            let partners = &request.partners;
+            let kept = library::join(lengths, partners, head, low, high, &mut answer.rows)?;
+            answer.told = told(DONE, [kept as u64, 0], &none);
+        }
+    }
+    Ok(())
+}
+
+/// What the library answers to a request. Tables that it does not write stay
+/// as they were lent.
+fn answered(request: &Request) -> Answer {
+    let mut answer = Answer {
+        told: Vec::new(),
+        motifs: request.motifs.clone(),
+        supports: request.supports.clone(),
+        weights: request.weights.clone(),
+        rows: request.rows.clone(),
+        saved: request.saved.clone(),
+    };
+    if let Err(refusal) = call(request, &mut answer) {
+        // A refused leg hands back the search that it was given.
+        let value = match request.kind {
+            Kind::Leg => request.value,
+            _ => Value::default(),
+        };
+        answer.told = told_refusal(refusal, &value);
+    }
+    answer
+}
+
+/// A leg straight from bytes that may hold no search: it is refused as their
+/// restore is, or goes on as the second program does from what they hold.
+fn leg_from_bytes(restore: &Request) -> Option<String> {
+    let mut request = Request {
+        kind: Kind::Leg,
+        budget: 3,
+        motifs: vec![7; 2],
+        supports: vec![7; 2],
+        weights: vec![7; 2],
+        ..restore.clone()
+    };
+    let (letters, lengths) = (&request.set.letters[..], &request.set.lengths[..]);
+    let expected = match second::restore(letters, lengths, &restore.saved) {
+        Ok(search) => {
+            request.value = answer::value_of(&search);
+            let mut expected = Answer::expected(&request);
+            let search = answer::search(&expected.search());
+            let saved = &mut expected.saved;
+            second::save(letters, lengths, &search, saved).expect("what a leg gives is saved");
+            expected
+        }
+        Err(refusal) => Answer {
+            told: told_refusal(refusal, &Value::default()),
+            motifs: request.motifs.clone(),
+            supports: request.supports.clone(),
+            weights: request.weights.clone(),
+            rows: request.rows.clone(),
+            saved: request.saved.clone(),
+        },
+    };
+    let mut found = Answer {
+        told: Vec::new(),
+        ..expected.clone()
+    };
+    found.motifs.fill(7);
+    found.supports.fill(7);
+    found.weights.fill(7);
+    let mut saved = request.saved.clone();
+    if let Err(refusal) = leg(&request, &mut saved, &mut found) {
+        found.told = told_refusal(refusal, &Value::default());
+    }
+    found.saved = saved;
+    found.difference(&expected)
+}
+
+fn difference(request: &Request) -> Option<String> {
+    let mut expected = request.clone();
+    if request.kind == Kind::Leg {
+        // A refused leg hands back all slots; others have gone through a save.
+        let accepted = Answer::expected(request).outcome() != REFUSED;
+        if accepted {
+            expected.value = trimmed(&request.value);
+        }
+    }
+    answered(request).difference(&Answer::expected(&expected))
+}
+
+fn compare(name: &str, seen: &mut Seen) {
+    let (name, seed, make) = GROUPS
+        .into_iter()
+        .find(|group| group.0 == name)
+        .expect("a group");
+    let requests = make(&mut Random::new(seed));
+    for request in &requests {
+        if let Some(difference) = difference(request) {
+            panic!("{name}, seed {seed}: the library differs in {difference}\n{request}");
+        }
+        if request.kind == Kind::Restore {
+            if let Some(difference) = leg_from_bytes(request) {
+                panic!("{name}, seed {seed}: a leg from these bytes differs in {difference}\n{request}");
+            }
+        }
+        seen.count(request.kind, Answer::expected(request).refusal());
+    }
+    println!("{name}: {} requests, seed {seed}", requests.len());
+}
+
+#[test]
+fn every_answer_is_the_same() {
+    let mut seen = Seen::default();
+    for (name, _, _) in GROUPS {
+        compare(name, &mut seen);
+    }
+    println!("{}", seen.told().unwrap().join("\n"));
+}

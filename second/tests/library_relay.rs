@@ -1,0 +1,180 @@
+//! The linked library over many calls: the bytes of a search passed on from
+//! leg to leg, and a motif's list recovered page by page, each beside the
+//! second program.
+
+use second::library::{self, Stop, Template};
+use second::requests::answer::search;
+use second::requests::random::Random;
+use second::requests::request::{Set, Slot, Value};
+use second::Answer;
+
+/// A random set, a template within the rules, and a quorum.
+fn search_over(random: &mut Random) -> (Set, Value) {
+    let (most, longest, alphabet) = (
+        random.within(1, 12),
+        random.pick(&[8, 30, 120]),
+        random.within(1, 4),
+    );
+    let set = random.set(most, longest, alphabet);
+    let (most, widest) = (random.within(1, 7), random.pick(&[0, 3, 20, 255]));
+    let quorum = random
+        .within(1, set.lengths.len() as u64)
+        .min(random.within(1, 12));
+    (set, random.template(most, widest).with_quorum(quorum))
+}
+
+fn shape(value: &Value) -> Vec<u16> {
+    let numbers = |slot: &Slot| [slot.length, slot.low, slot.high];
+    value.slots.iter().flat_map(numbers).collect()
+}
+
+fn template<'a>(value: &Value, shape: &'a [u16]) -> Template<'a> {
+    Template {
+        components: value.count,
+        shape,
+    }
+}
+
+/// Tables with the same contents, lent to both programs.
+#[derive(Clone, Debug, PartialEq)]
+struct Tables {
+    motifs: Vec<u64>,
+    supports: Vec<u32>,
+    weights: Vec<u64>,
+}
+
+impl Tables {
+    fn new(random: &mut Random) -> Tables {
+        let room = random.pick(&[0, 1, 2, 7, 60]);
+        let mut room = || room + random.below(3) as usize;
+        let (a, b, c) = (room(), room(), room());
+        Tables {
+            motifs: random.wide(a),
+            supports: random.narrow(b),
+            weights: random.wide(c),
+        }
+    }
+}
+
+fn relay(random: &mut Random) {
+    let (set, value) = search_over(random);
+    let (letters, lengths) = (&set.letters[..], &set.lengths[..]);
+    let shape = shape(&value);
+    let mut saved = random.bytes(128);
+    let mut beside = saved.clone();
+    let begun = library::begin(
+        letters,
+        lengths,
+        template(&value, &shape),
+        value.quorum,
+        &mut saved,
+    );
+    let size = begun.expect("a search within the rules");
+    let mut there = second::begin(letters, lengths, &search(&value).template, value.quorum)
+        .expect("a search within the rules");
+    assert_eq!(
+        second::save(letters, lengths, &there, &mut beside),
+        Ok(size)
+    );
+    assert_eq!(saved, beside);
+
+    for _ in 0..60 {
+        let budget = random.pick(&[0, 1, 2, 5, 17, 100, u64::MAX]);
+        let mut tables = Tables::new(random);
+        let mut tables_there = tables.clone();
+        let (m, s, w) = (
+            &mut tables.motifs,
+            &mut tables.supports,
+            &mut tables.weights,
+        );
+        let leg = library::leg(letters, lengths, &mut saved[..size], budget, m, s, w)
+            .expect("the bytes of a search");
+        let (m, s, w) = (
+            &mut tables_there.motifs,
+            &mut tables_there.supports,
+            &mut tables_there.weights,
+        );
+        let leg_there = second::leg(letters, lengths, &there, budget, m, s, w);
+        let stop = match leg.stop {
+            Stop::Ended => Answer::Ended,
+            Stop::Spent => Answer::Spent,
+            Stop::Full => Answer::Full,
+        };
+        let told = (stop, leg.steps, leg.rows);
+        assert_eq!(told, (leg_there.answer, leg_there.steps, leg_there.rows));
+        assert_eq!(tables, tables_there);
+        there = leg_there.search;
+        assert_eq!(
+            second::save(letters, lengths, &there, &mut beside),
+            Ok(size)
+        );
+        assert_eq!(saved, beside);
+        if leg.stop == Stop::Ended && leg.steps == 0 {
+            break;
+        }
+    }
+}
+
+fn pages(random: &mut Random) {
+    let (set, value) = search_over(random);
+    let (letters, lengths) = (&set.letters[..], &set.lengths[..]);
+    let shape = shape(&value);
+    let template_there = search(&value).template;
+    let motif = random.below(1 << (2 * template_there.letters_in_all()));
+    let row = usize::from(value.count) + 1;
+    let whole = second::recover(letters, lengths, &template_there, motif, 0, &mut []);
+    let length = whole.expect("a motif within the rules").length;
+    // The first rows of a long list.
+    let mut first = if length > 3_000 {
+        length - random.below(3_000)
+    } else {
+        0
+    };
+    for _ in 0..200 {
+        let room = random.below(40) as usize * row + random.below(row as u64) as usize;
+        let mut page = random.narrow(room);
+        let mut page_there = page.clone();
+        let template = template(&value, &shape);
+        let told = library::recover(letters, lengths, template, motif, first, &mut page)
+            .expect("a row of the list");
+        let told_there = second::recover(
+            letters,
+            lengths,
+            &template_there,
+            motif,
+            first,
+            &mut page_there,
+        )
+        .expect("a row of the list");
+        assert_eq!(
+            (told.rows, told.length),
+            (told_there.rows, told_there.length)
+        );
+        assert_eq!(page, page_there);
+        first += told.rows as u64;
+        if first == length {
+            break;
+        }
+    }
+}
+
+/// Runs it from one seed after another, and names the one at which it fails.
+fn from_seeds(seeds: std::ops::Range<u64>, what: fn(&mut Random)) {
+    for seed in seeds {
+        let run = std::panic::catch_unwind(|| what(&mut Random::new(seed)));
+        if let Err(cause) = run {
+            println!("seed {seed}");
+            std::panic::resume_unwind(cause);
+        }
+    }
+}
+
+#[test]
+fn legs_pass_on_their_bytes() {
+    from_seeds(1_000..4_000, relay);
+}
+
+#[test]
+fn pages_laid_end_to_end_are_the_list() {
+    from_seeds(4_000..8_000, pages);
+}
