@@ -4,6 +4,7 @@ pub mod Decimal
 pub mod Letters
 pub mod Shape
 pub mod Line
+pub mod Page
 pub mod Scan
 pub mod Numbers
 pub mod Components

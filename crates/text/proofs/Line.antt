@@ -4,7 +4,8 @@ use mathlib.Core.List.{List, [], _∷_, _++_, append-assoc}
 use Prim.Native.Nat.{ℕ, _+_, _^_, _≤_, _<_}
 use native.Mathlib.Nat.{zero-add}
 use native.Mathlib.Omega.{arith}
-use lib.ListN.{length, length-append}
+use lib.ListN.{length, take, length-append}
+use Rattle.rules.proofs.Tables.{put-front}
 use Rattle.rules.specs.Support.{support, weight}
 use Rattle.rules.specs.Template.{Part}
 use Rattle.rules.specs.Text.{decimal, print-row}
@@ -43,3 +44,7 @@ module _ (head : List ℕ) (x y : ℕ) where
 pub print-row-is : (ss : List (List ℕ)) (cs : List Part) → print-row ss cs ≡ row cs (support cs ss) (weight cs ss)
 unfolding print-row row
 print-row-is ss cs = refl
+
+-- a line stands at the front of its buffer
+pub line-front : {text a b : List ℕ} {r : ℕ} → Line text a b r → take r b ≡ text
+line-front {text} {a} {b} {r} l = rw (l .out) (put-front r text a (sym (l .end)))

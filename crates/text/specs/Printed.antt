@@ -1,14 +1,15 @@
 -- What printing leaves in a buffer, and a row from its motif and its two numbers.
 use mathlib.Core.List.{List, [], _∷_, _++_, map}
 use mathlib.Core.Path.{_≡_}
-use Prim.Native.Nat.{ℕ, _+_, _≤_}
+use Prim.Native.Nat.{ℕ, _+_, _*_, _≤_}
 use lib.ListN.{length, take, drop}
 use lib.Seq.{sets}
 use Rattle.rules.specs.Letters.{letter}
 use Rattle.rules.specs.Limits.{Letter-BASES}
 use Rattle.rules.specs.Lists.{put, sum}
 use Rattle.rules.specs.Motif.{spell}
-use Rattle.rules.specs.Template.{Part, components, cut}
+use Rattle.rules.specs.Support.{parts}
+use Rattle.rules.specs.Template.{Part, components, cut, size}
 use Rattle.rules.specs.Text.{decimal, shape, shape-rest}
 use Rattle.rules.specs.declared.Component.{Component}
 use Rattle.rules.specs.declared.Template.{Template}
@@ -55,3 +56,16 @@ shape-from t i m = shape-rest (cut (drop i (components t)) (spell Letter-BASES (
 -- a row: the motif in the template's shape, its support and its weighted support
 unfoldable pub row : List Part → ℕ → ℕ → List ℕ
 row cs support weight = shape cs ++ 32 ∷ decimal support ++ 32 ∷ decimal weight ++ 10 ∷ []
+
+-- a page: the lines of the rows of three tables, one after another
+unfoldable pub page : Template → List ℕ → List ℕ → List ℕ → List ℕ
+page t (m ∷ ms) (s ∷ ss) (w ∷ ws) = row (parts t (size t) m) s w ++ page t ms ss ws
+page t [] ss ws = []
+page t (m ∷ ms) [] ws = []
+page t (m ∷ ms) (s ∷ ss) [] = []
+
+-- a page of n rows stands at the front of a buffer, `next` bytes long, and what lies past it is as it was
+pub record Page (n : ℕ) (text before after : List ℕ) (next : ℕ) : Type 0 where
+  pub out : after ≡ put text before
+  pub end : next ≡ length text
+  pub short : next ≤ n * Line-ROOM

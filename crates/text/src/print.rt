@@ -4,14 +4,14 @@ use rules::Letter;
 use rules::Template;
 ghost use mathlib.Core.Path.{_≡_};
 ghost use mathlib.Core.List.{[], _∷_};
-ghost use Prim.Native.Nat.{_+_, _<_, _≤_};
-ghost use lib.ListN.{length, getD};
+ghost use Prim.Native.Nat.{_+_, _*_, _<_, _≤_};
+ghost use lib.ListN.{length, getD, take};
 ghost use Rattle.rules.specs.Limits.{Template-COMPONENTS, Template-LETTERS};
 ghost use Rattle.rules.specs.Text.{decimal, shape, print-end, print-refused};
 ghost use Rattle.rules.specs.Template.{slots, none, size};
 ghost use Rattle.rules.specs.Support.{parts};
 ghost use Rattle.rules.specs.Sound.{SoundTemplate};
-ghost use Rattle.text.specs.Printed.{Line-ROOM, Wrote, Line, pair, letters, ranged-word, size-from, shape-from, row};
+ghost use Rattle.text.specs.Printed.{Line-ROOM, Wrote, Line, pair, letters, ranged-word, size-from, shape-from, row, page, Page};
 
 // A byte.
 fn print_byte(b: u8, at: usize, out: &mut [u8]) -> usize
@@ -96,22 +96,6 @@ fn component(template: Template, i: usize) -> Component
     slots[i]
 }
 
-// The letters of a template, K.
-fn size(template: Template) -> u64
-    requires { ⌜ SoundTemplate template ⌝ }
-    ensures { λ r. ⌜ r ≡ size template ⌝ }
-{
-    let count = template.count as usize;
-    let mut letters: u64 = 0;
-    let mut i: usize = 0;
-    while i < count {
-        let c = component(template, i);
-        letters += c.length as u64;
-        i += 1;
-    }
-    letters
-}
-
 // The components after the first, which have the last `left` letters of the motif.
 fn print_rest(template: Template, motif: u64, left: u64, at: usize, out: &mut [u8]) -> usize
     requires { ⌜ SoundTemplate template × (left ≡ size-from template 1) × (at + length (shape-from template 1 motif) ≤ length (now out)) ⌝ }
@@ -135,7 +119,7 @@ fn print_motif(template: Template, motif: u64, out: &mut [u8]) -> usize
     requires { ⌜ SoundTemplate template × (Line-ROOM ≤ length (now out)) ⌝ }
     ensures { λ r. ⌜ Wrote 0 (shape (parts template (size template) motif)) (now (out .entry)) (now (out .exit)) r ⌝ }
 {
-    let k = size(template);
+    let k = template.letters() as u64;
     let c1 = template.c1;
     let length = c1.length as u64;
     let next = print_letters(motif, k, length, 0, out);
@@ -150,6 +134,44 @@ pub fn print_row(template: Template, motif: u64, support: u32, weight: u64, out:
     let next = print_motif(template, motif, out);
     let marks = support as u64;
     print_pair(b' ', marks, b' ', weight, b'\n', next, out)
+}
+
+// A row, from a place on.
+fn print_row_at(
+    template: Template,
+    motif: u64,
+    support: u32,
+    weight: u64,
+    at: usize,
+    out: &mut [u8],
+) -> usize
+    requires { ⌜ SoundTemplate template × (at + Line-ROOM ≤ length (now out)) ⌝ }
+    ensures { λ r. ⌜ Wrote at (row (parts template (size template) motif) support weight) (now (out .entry)) (now (out .exit)) r × (r ≤ at + Line-ROOM) ⌝ }
+{
+    at + print_row(template, motif, support, weight, &mut out[at..])
+}
+
+// A page: the lines of the first `rows` rows of three tables, which hold motifs, their supports and their weighted supports.
+pub fn print_page(
+    template: Template,
+    motifs: &[u64],
+    supports: &[u32],
+    weights: &[u64],
+    rows: usize,
+    out: &mut [u8],
+) -> usize
+    requires { ⌜ (1 ≤ rows → SoundTemplate template) ⌝ }
+    requires { ⌜ (rows ≤ length (now motifs)) × (rows ≤ length (now supports)) × (rows ≤ length (now weights)) ⌝ }
+    requires { ⌜ rows * Line-ROOM ≤ length (now out) ⌝ }
+    ensures { λ r. ⌜ Page rows (page template (take rows (now (motifs .entry))) (take rows (now (supports .entry))) (take rows (now (weights .entry)))) (now (out .entry)) (now (out .exit)) r ⌝ }
+{
+    let mut next: usize = 0;
+    let mut i: usize = 0;
+    while i < rows {
+        next = print_row_at(template, motifs[i], supports[i], weights[i], next, out);
+        i += 1;
+    }
+    next
 }
 
 // Some bytes, as they are.

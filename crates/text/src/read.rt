@@ -43,27 +43,6 @@ fn find_line(n: usize, input: &[u8]) -> Span
     }
 }
 
-// Refusal 18 at a line where a test says so.
-fn refuse_line(bad: bool, line: usize) -> Checked
-    ensures { λ r. ⌜ toldChecked r ≡ refuse-line bad line ⌝ }
-{
-    if bad {
-        Checked::Refused(Refusal::TextLine(line))
-    } else {
-        Checked::Fine
-    }
-}
-
-// The first of two checks that refuses.
-fn first_of(check: Checked, next: Checked) -> Checked
-    ensures { λ r. ⌜ toldChecked r ≡ _else_ (toldChecked check) (toldChecked next) ⌝ }
-{
-    match check {
-        Checked::Fine => next,
-        Checked::Refused(why) => Checked::Refused(why),
-    }
-}
-
 // The first line is a template's.
 fn check_template(input: &[u8]) -> Checked
     requires { ⌜ length (now input) ≤ Text-BYTES ⌝ }
@@ -73,7 +52,7 @@ fn check_template(input: &[u8]) -> Checked
     let start = span.start;
     let end = span.end;
     let good = is_template(&input[start..end]);
-    refuse_line(!good, 1)
+    Checked::refuse_if(!good, Refusal::TextLine(1))
 }
 
 // The second line is a number.
@@ -84,7 +63,7 @@ fn check_quorum(input: &[u8]) -> Checked
     let start = span.start;
     let end = span.end;
     let good = is_number(Text::QUORUM_DIGITS, &input[start..end]);
-    refuse_line(!good, 2)
+    Checked::refuse_if(!good, Refusal::TextLine(2))
 }
 
 // The last line has its end.
@@ -93,7 +72,8 @@ fn check_end(input: &[u8]) -> Checked
 {
     let rest = tail(b'\n', input);
     let start = rest.start;
-    refuse_line(start < input.len(), rest.before + 1)
+    let line = rest.before + 1;
+    Checked::refuse_if(start < input.len(), Refusal::TextLine(line))
 }
 
 // What is wrong with the text of the input, the lowest line first: too long, the first line, the second, a last line without
@@ -105,8 +85,8 @@ pub fn check_text(input: &[u8]) -> Checked
         return Checked::Refused(Refusal::TextLine(0));
     }
     let end = check_end(input);
-    let quorum = first_of(check_quorum(input), end);
-    first_of(check_template(input), quorum)
+    let quorum = check_quorum(input).then(end);
+    check_template(input).then(quorum)
 }
 
 // The template that a sound input says.

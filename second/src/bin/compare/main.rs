@@ -1,15 +1,17 @@
 //! Compares the proved library with the second program: thousands of calls,
 //! made of the program `calls`, which only passes them on to the library, and
 //! of the second program. Every number told and every lent table has to be the
-//! same, refused calls too.
+//! same, refused calls too. Then hundreds of texts, printed by the program
+//! `motifs` and by the second program: every byte has to be the same.
 //!
-//!     compare COMMAND..
+//!     compare CALLS.. -- MOTIFS..
 //!
-//! COMMAND runs `calls`. Every input follows from the seeds that are printed.
-//! The first difference is printed with its request, and ends the run with
-//! status 1.
+//! CALLS and MOTIFS are the commands that run the two programs. Every input
+//! follows from the seeds that are printed. The first difference is printed
+//! with its input, and ends the run with status 1.
 
 mod program;
+mod texts;
 mod wire;
 
 use program::Program;
@@ -30,16 +32,21 @@ fn compare(program: &mut Program) -> Result<(), String> {
 }
 
 fn main() -> ExitCode {
-    let command: Vec<String> = std::env::args().skip(1).collect();
-    if command.is_empty() {
-        eprintln!("compare COMMAND..: the command that runs `calls`");
+    let words: Vec<String> = std::env::args().skip(1).collect();
+    let commands: Vec<&[String]> = words.split(|word| word == "--").collect();
+    let [calls, motifs] = commands[..] else {
+        eprintln!("compare CALLS.. -- MOTIFS..: the commands that run the two programs");
+        return ExitCode::from(2);
+    };
+    if calls.is_empty() || motifs.is_empty() {
+        eprintln!("compare CALLS.. -- MOTIFS..: a command has at least one word");
         return ExitCode::from(2);
     }
     let mut program = Program {
-        command,
+        command: calls.to_vec(),
         seen: Default::default(),
     };
-    match compare(&mut program) {
+    match compare(&mut program).and_then(|()| texts::compare(motifs)) {
         Ok(()) => {
             println!("every answer is the same");
             ExitCode::SUCCESS

@@ -20,11 +20,11 @@ part-is-number-end c = search needs
 is-number-requires : tie.Need-is-number-requires
 is-number-requires c κs = search needs
 
-refuse-line-requires : tie.Need-refuse-line-requires
-refuse-line-requires c κs = search needs
+refuse-if-requires : tie.Need-refuse-if-requires
+refuse-if-requires c κs = search needs
 
 returns : tie.Need-returns
-returns c = c .refuse-line .ensures ∙ rw (c .before .is-number .ensures, c .before .before .before .find-line .ensures .2, number-well)
+returns c = c .refuse-if .ensures ∙ rw (c .before .is-number .ensures, c .before .before .before .find-line .ensures .2, number-well)
 
 pub check-quorum-spec : {M : Type 1} → statement M
 check-quorum-spec =
@@ -35,5 +35,5 @@ check-quorum-spec =
     part-is-number-start
     part-is-number-end
     is-number-requires
-    refuse-line-requires
+    refuse-if-requires
     returns)

@@ -23,11 +23,11 @@ is-template-requires c κs =
     let l = c .before .before .before .args .input .now in
     omega (arith, part-short (c .before .find-line .result .start) (c .before .find-line .result .end) l, c .before .before .before .pre)
 
-refuse-line-requires : tie.Need-refuse-line-requires
-refuse-line-requires c κs = search needs
+refuse-if-requires : tie.Need-refuse-if-requires
+refuse-if-requires c κs = search needs
 
 returns : tie.Need-returns
-returns c = c .refuse-line .ensures ∙ rw (c .before .is-template .ensures, c .before .before .before .find-line .ensures .2)
+returns c = c .refuse-if .ensures ∙ rw (c .before .is-template .ensures, c .before .before .before .find-line .ensures .2)
 
 pub check-template-spec : {M : Type 1} → statement M
 check-template-spec =
@@ -38,5 +38,5 @@ check-template-spec =
     part-is-template-start
     part-is-template-end
     is-template-requires
-    refuse-line-requires
+    refuse-if-requires
     returns)

@@ -1,0 +1,370 @@
+//! Texts for the printing program: searches that are printed whole, lists
+//! about as long as the program's tables and far longer, and texts that are
+//! malformed, cut or too long.
+
+use crate::program;
+use second::requests::random::Random;
+use std::collections::BTreeMap;
+
+const SEED: u64 = 109;
+
+/// The refusals that an input can come to, all of which have to come up, as
+/// has a search (0). No text has too many letters (2) or lengths that do not
+/// add up (3).
+const REFUSALS: [u64; 9] = [0, 1, 4, 5, 6, 7, 8, 9, 18];
+
+/// "Input over 60,000 bytes".
+const MOST_BYTES: usize = 60_000;
+
+fn text(template: &str, quorum: &str, sequences: &[Vec<u8>]) -> Vec<u8> {
+    let mut text = format!("{template}\n{quorum}\n").into_bytes();
+    for sequence in sequences {
+        text.extend(sequence);
+        text.push(b'\n');
+    }
+    text
+}
+
+fn e() -> Vec<Vec<u8>> {
+    ["ACGTA", "CAGGT", "AT"]
+        .map(|sequence| sequence.as_bytes().to_vec())
+        .to_vec()
+}
+
+/// A template's text, of at most `most` letters.
+fn template(random: &mut Random, most: u64) -> String {
+    let mut left = random.within(1, most);
+    let mut text = String::new();
+    for component in 0..6 {
+        if left == 0 {
+            break;
+        }
+        if component > 0 {
+            let low = random.below(3);
+            let widest = random.pick(&[3, 12, 100, 255]);
+            let high = random.within(low, widest);
+            text.push_str(&format!("[{low},{high}]"));
+        }
+        let length = random.within(1, left.min(12));
+        text.push_str(&"N".repeat(length as usize));
+        left -= length;
+    }
+    text
+}
+
+/// A text with nothing wrong.
+fn sound(random: &mut Random) -> Vec<u8> {
+    let (most, alphabet) = (random.within(1, 6), random.within(1, 4));
+    let sequences: Vec<Vec<u8>> = (0..most)
+        .map(|_| {
+            let length = random.below(40);
+            random.letters(length, alphabet)
+        })
+        .collect();
+    let letters = random.pick(&[2, 4, 6]);
+    let quorum = random.within(1, most).to_string();
+    text(&template(random, letters), &quorum, &sequences)
+}
+
+/// Lists of exactly so many rows: each sequence is one word, all different.
+fn long_lists() -> Vec<Vec<u8>> {
+    let word = |number: usize| {
+        (0..5)
+            .rev()
+            .map(|i| b"ACGT"[(number >> (2 * i)) % 4])
+            .collect()
+    };
+    [255, 256, 257, 511, 512, 513, 769, 1_023, 1_024]
+        .map(|rows| {
+            // 389 has no factor in common with 1,024: no word comes twice.
+            let words: Vec<Vec<u8>> = (0..rows).map(|i| word(i * 389 % 1_024)).collect();
+            text("NNNNN", "1", &words)
+        })
+        .to_vec()
+}
+
+/// Searches of more steps than one leg of the program takes: with few rows,
+/// and with many.
+fn long_searches(random: &mut Random) -> Vec<Vec<u8>> {
+    ["NNN[0,60]NNNNNN", "NN[0,90]NN[0,90]NNNN"]
+        .map(|template| {
+            let sequences: Vec<Vec<u8>> = (0..2).map(|_| random.letters(180, 4)).collect();
+            text(template, "2", &sequences)
+        })
+        .to_vec()
+}
+
+/// Malformed, and well formed but beyond a limit, in each of the first lines.
+fn faulty_lines() -> Vec<Vec<u8>> {
+    let templates = [
+        "",
+        "n",
+        "NA",
+        " N",
+        "N ",
+        "N\r",
+        "N\t",
+        "N[0,1]",
+        "[0,1]N",
+        "N[]N",
+        "N[0]N",
+        "N[0,]N",
+        "N[,1]N",
+        "N[,]N",
+        "N[0,1N",
+        "N0,1]N",
+        "N[00,1]N",
+        "N[0,01]N",
+        "N[0,1000]N",
+        "N[1000,1]N",
+        "N[-1,1]N",
+        "N[0, 1]N",
+        "N[0,1,2]N",
+        "N[0,1]]N",
+        "N[[0,1]N",
+        "N[0,1][0,1]N",
+        "N[0,1]n",
+        "N(0,1)N",
+        "N[a,b]N",
+        "N,N",
+        "N]N",
+        "NN[0,1]N[",
+        "N\0N",
+        // Well formed.
+        "N[0,255]N",
+        "N[0,256]N",
+        "N[255,255]N",
+        "N[256,256]N",
+        "N[3,1]N",
+        "N[0,999]N",
+        "N[999,0]N",
+        "N[0,0]N",
+        "NNNNNNNNNNNN",
+        "NNNNNNNNNNNNN",
+        "N[0,1]NNNNNNNNNNNNN",
+        "N[0,0]N[0,0]N[0,0]N[0,0]N[0,0]N",
+        "N[0,0]N[0,0]N[0,0]N[0,0]N[0,0]N[0,0]N",
+        "NNNNNNNNNNNN[0,1]NNNNNNNNNNNN[0,1]NNNNNNNN",
+        "NNNNNNNNNNNN[0,1]NNNNNNNNNNNN[0,1]NNNNNNNNN",
+    ];
+    let quorums = [
+        "", " ", "0", "1", "2", "3", "4", "00", "01", "02", "+2", "-1", " 2", "2 ", "2\r", "2.0",
+        "two", "2x", "99999", "100000", "12345", "1e3", "0x2", "\0",
+    ];
+    let mut texts: Vec<Vec<u8>> = templates
+        .iter()
+        .map(|template| text(template, "2", &e()))
+        .collect();
+    texts.extend(quorums.iter().map(|quorum| text("N[0,1]N", quorum, &e())));
+    // Both at once: the lowest line is told.
+    texts.push(text("M", "x", &e()));
+    texts.push(text("N[3,1]N", "x", &e()));
+    texts.push(text(&"N".repeat(300), "2", &e()));
+    texts.push(text(&vec!["N"; 300].join("[0,1]"), "2", &e()));
+    texts.push(text(&vec!["N"; 7].join("[0,1]"), "9", &[]));
+    texts
+}
+
+/// Lines that are missing, have no end, or end otherwise.
+fn faulty_ends() -> Vec<Vec<u8>> {
+    let whole = text("N[0,1]N", "2", &e());
+    // Cut at every byte.
+    let mut texts: Vec<Vec<u8>> = (0..=whole.len()).map(|n| whole[..n].to_vec()).collect();
+    let crs = String::from_utf8(whole.clone())
+        .expect("text")
+        .replace('\n', "\r\n");
+    texts.push(crs.into_bytes());
+    for sequences in [
+        "ACGTA\r\nCAGGT\r\n",
+        "acgta\ncaggt\n",
+        "ACGTa\nCAGGT\n",
+        "ACG TA\nCAGGT\n",
+        "ACGTA \nCAGGT\n",
+        "ACGNA\nCAGGT\n",
+        "ACGTA\n\nCAGGT\n",
+        "\n\n\n",
+        "\n",
+        "",
+        ">one\nACGTA\n",
+        "ACGTA\nCAGGT\n\u{e9}\n",
+        "ACGTA\nCAGGT\nX",
+        "A\0C\n",
+    ] {
+        texts.push(format!("N[0,1]N\n1\n{sequences}").into_bytes());
+    }
+    texts.push(b"\n".to_vec());
+    texts.push(b"\n\n\n\n".to_vec());
+    texts
+}
+
+/// Texts of the most bytes and of one more, and sets of the most sequences.
+fn long_texts(random: &mut Random) -> Vec<Vec<u8>> {
+    let mut texts = Vec::new();
+    for length in [MOST_BYTES, MOST_BYTES + 1] {
+        // Four sequences, nothing of which is frequent but single letters.
+        let head = text(
+            "N[0,255]N",
+            "4",
+            &[b"A".to_vec(), b"C".to_vec(), b"G".to_vec()],
+        );
+        let mut whole = head.clone();
+        whole.extend(random.letters((length - head.len() - 1) as u64, 4));
+        whole.push(b'\n');
+        texts.push(whole.clone());
+        // The same without its last line end, and with a byte that is no letter.
+        whole[length - 1] = b'T';
+        texts.push(whole.clone());
+        whole[length - 1] = b'\n';
+        whole[length - 2] = b'N';
+        texts.push(whole);
+        texts.push(vec![b'N'; length]);
+        texts.push(vec![b'\n'; length]);
+        let mut empty = b"N\n1\n".to_vec();
+        empty.resize(length, b'\n');
+        texts.push(empty);
+        let mut run = vec![b'N'; length - 5];
+        run.extend(b"\n1\nA\n");
+        texts.push(run);
+    }
+    for sequences in [1_023, 1_024, 1_025] {
+        texts.push(text("N", "1", &vec![b"C".to_vec(); sequences]));
+    }
+    texts
+}
+
+/// A sound text with a few bytes changed, put in or left out.
+fn damaged(random: &mut Random) -> Vec<u8> {
+    let mut text = sound(random);
+    for _ in 0..random.within(1, 3) {
+        let byte = match random.below(4) {
+            0 => random.any() as u8,
+            _ => random.pick(b"\n\n\r NN[],0123456789ACGTacgt"),
+        };
+        // Mostly in the first two lines.
+        let most = if random.once_in(3) {
+            text.len()
+        } else {
+            text.len().min(16)
+        };
+        let at = random.below(most as u64 + 1) as usize;
+        match random.below(3) {
+            0 => text.insert(at, byte),
+            1 if at < text.len() => text[at] = byte,
+            _ if at < text.len() => drop(text.remove(at)),
+            _ => text.push(byte),
+        }
+    }
+    text
+}
+
+/// A well-formed text that breaks one or two limits.
+fn beyond(random: &mut Random) -> Vec<u8> {
+    let sequences = random.within(1, 5);
+    let mut sequences: Vec<Vec<u8>> = (0..sequences)
+        .map(|_| {
+            let length = random.within(1, 12);
+            random.letters(length, 4)
+        })
+        .collect();
+    let mut runs = vec![
+        random.within(1, 4),
+        random.within(1, 4),
+        random.within(1, 4),
+    ];
+    let mut range = (0, random.below(256));
+    let mut quorum = random.within(1, sequences.len() as u64);
+    for _ in 0..random.within(1, 2) {
+        match random.below(6) {
+            0 => runs = vec![1; random.within(7, 20) as usize],
+            1 => runs[1] = random.within(13, 40),
+            2 => runs = vec![12, 12, random.within(9, 12)],
+            3 => range = random.pick(&[(0, 256), (256, 300), (9, 8), (255, 0), (0, 999)]),
+            4 => quorum = random.pick(&[0, sequences.len() as u64 + 1, 1_025, 99_999]),
+            _ => sequences[0][0] = random.pick(b"acgtN-. \r"),
+        }
+    }
+    let runs: Vec<String> = runs.iter().map(|run| "N".repeat(*run as usize)).collect();
+    text(
+        &runs.join(&format!("[{},{}]", range.0, range.1)),
+        &quorum.to_string(),
+        &sequences,
+    )
+}
+
+fn texts() -> Vec<Vec<u8>> {
+    let random = &mut Random::new(SEED);
+    let mut texts = long_lists();
+    texts.extend(long_searches(random));
+    texts.extend(faulty_lines());
+    texts.extend(faulty_ends());
+    texts.extend(long_texts(random));
+    texts.extend((0..150).map(|_| sound(random)));
+    texts.extend((0..60).map(|_| beyond(random)));
+    texts.extend((0..240).map(|_| damaged(random)));
+    texts
+}
+
+/// What the last line of a printout tells: a refusal's number, 0 where there
+/// is none; and a search's steps and rows.
+fn told(printout: &[u8]) -> (u64, u64, u64) {
+    let printout = String::from_utf8_lossy(printout);
+    let last: Vec<&str> = printout.lines().last().unwrap_or("").split(' ').collect();
+    let number = |word: &str| word.parse().expect("a printout ends in two numbers");
+    match last[..] {
+        ["refused", refusal, _] => (number(refusal), 0, 0),
+        ["end", steps, rows] => (0, number(steps), number(rows)),
+        _ => panic!("a printout ends in `end` or `refused`"),
+    }
+}
+
+/// Some bytes of a text from a place on, as they are shown beside a difference.
+fn shown(text: &[u8], from: usize) -> String {
+    let rest = &text[from.min(text.len())..];
+    rest[..rest.len().min(300)].escape_ascii().to_string()
+}
+
+/// Prints every text with the program and with the second one, and compares
+/// the two; at the first difference, says what it is.
+pub fn compare(command: &[String]) -> Result<(), String> {
+    let texts = texts();
+    let mut seen: BTreeMap<u64, usize> = BTreeMap::new();
+    let (mut most_steps, mut most_rows) = (0, 0);
+    for text in &texts {
+        let expected = second::printout(text);
+        let printed = program::run(command, text.clone())?;
+        if printed != expected {
+            let same = printed
+                .iter()
+                .zip(&expected)
+                .take_while(|(a, b)| a == b)
+                .count();
+            return Err(format!(
+                "texts, seed {SEED}: for a text of {} bytes, {}\nthe program differs from the second one from byte {same} on: {}\ninstead of: {}",
+                text.len(),
+                shown(text, 0),
+                shown(&printed, same),
+                shown(&expected, same)
+            ));
+        }
+        let (refusal, steps, rows) = told(&expected);
+        *seen.entry(refusal).or_default() += 1;
+        (most_steps, most_rows) = (most_steps.max(steps), most_rows.max(rows));
+    }
+    println!(
+        "texts: {} printed, seed {SEED}, with up to {most_steps} steps and {most_rows} rows",
+        texts.len()
+    );
+    let count = |refusal: &u64| seen.get(refusal).copied().unwrap_or(0);
+    let counts: Vec<String> = REFUSALS
+        .iter()
+        .map(|r| format!("{r}: {}", count(r)))
+        .collect();
+    println!("texts, by refusal (0 is none): {}", counts.join(", "));
+    match REFUSALS.iter().find(|refusal| count(refusal) == 0) {
+        Some(refusal) => Err(format!("no text came to refusal {refusal}")),
+        None if seen.len() > REFUSALS.len() => {
+            Err(format!("a text came to another refusal: {seen:?}"))
+        }
+        None => Ok(()),
+    }
+}
