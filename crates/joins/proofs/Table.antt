@@ -2,24 +2,14 @@
 use mathlib.Core.Path.{_≡_, refl, sym, ap, _∙_}
 use mathlib.Core.Bool.{Bool, true, false}
 use mathlib.Core.List.{List, [], _∷_, _++_, append-nil}
-use Prim.Native.Nat.{ℕ, suc, _+_, _≤_, _<_}
+use Prim.Native.Nat.{ℕ, _+_, _≤_, _<_}
 use native.Mathlib.Numerals.{add-one}
 use native.Mathlib.Omega.{arith}
 use lib.ListN.{length, take, getD, set, length-append}
 use lib.Seq.{take-suc, take-all, length-take-le}
 use Rattle.rules.specs.Lists.{if, keep, put}
-use Rattle.rules.proofs.Lists.{keep-append}
+use Rattle.rules.proofs.Lists.{keep-append, keep-few}
 use Rattle.rules.proofs.Tables.{put-more}
-
--- no more are kept than there are
-keep-few : (f : ℕ → Bool) (xs : List ℕ) → length (keep f xs) ≤ length xs
-unfolding keep
-keep-few f [] = omega arith
-keep-few f (x ∷ xs) = go (f x) (keep-few f xs)
-  where
-    go : (b : Bool) → length (keep f xs) ≤ length xs → length (if b (x ∷ keep f xs) (keep f xs)) ≤ suc (length xs)
-    go true h = omega arith
-    go false h = omega arith
 
 -- of the first i of a list n pass a test, and a table that was `out` holds these
 pub record Kept (f : ℕ → Bool) (xs : List ℕ) (i : ℕ) (out table : List ℕ) (n : ℕ) : Type 0 where

@@ -1,13 +1,13 @@
 -- What a leg's rule says of its rows and steps, refused or not, and that its rows printed are its page.
 use mathlib.Core.Path.{_≡_, refl, sym, ap, _∙_}
-use mathlib.Core.Bool.{Bool, true, false, false≢true}
+use mathlib.Core.Bool.{false, false≢true}
 use mathlib.Core.List.{List, [], _∷_, _++_, map}
-use Prim.Native.Nat.{ℕ, suc, _≤_}
+use Prim.Native.Nat.{ℕ, _≤_}
 use native.Mathlib.Omega.{arith}
 use lib.ListN.{length, take, length-map}
 use Rattle.rules.specs.Calls.{LegRule, on-refusal, leg-rule, stretch, motif-parts, supports-of, weights-of}
 use Rattle.rules.specs.Legs.{Stop, ended, spent, full, Stretch}
-use Rattle.rules.specs.Lists.{if, keep, each, put}
+use Rattle.rules.specs.Lists.{each, put}
 use Rattle.rules.specs.Refusals.{first, search-checks}
 use Rattle.rules.specs.Sequences.{sequences}
 use Rattle.rules.specs.Sound.{SoundTemplate}
@@ -21,6 +21,7 @@ use Rattle.rules.specs.declared.Template.{Template}
 use Rattle.rules.proofs.Legs.{Passed, leg-law, Why, leg-why}
 use Rattle.rules.proofs.Places.{walk-of, place-deep}
 use Rattle.rules.proofs.Prefix.{exact-pos}
+use Rattle.rules.proofs.Lists.{keep-few}
 use Rattle.rules.proofs.Tables.{put-front}
 use Rattle.rules.proofs.Sound.{search-sound}
 use Rattle.text.specs.Printed.{row, page, Page}
@@ -31,16 +32,6 @@ use Rattle.motifs.specs.Pages.{room-of, ended-told?, print-rows, leg-pag
 by-verdict : (P : LegRule → Type 0) (v : Verdict) (f : ℕ → ℕ → LegRule) (l : LegRule) → ((n p : ℕ) → v ≡ refused n p → P (f n p)) → (v ≡ fine → P l) → P (on-refusal v f l)
 by-verdict P fine f l r a = a refl
 by-verdict P (refused n p) f l r a = r n p refl
-
--- those of some candidates that are listed are no more than they
-keep-few : {A : Type 0} (f : A → Bool) (xs : List A) → length (keep f xs) ≤ length xs
-unfolding keep
-keep-few f [] = omega arith
-keep-few f (x ∷ xs) = go (f x) (keep-few f xs)
-  where
-    go : (b : Bool) → length (keep f xs) ≤ length xs → length (if b (x ∷ keep f xs) (keep f xs)) ≤ suc (length xs)
-    go true h = omega arith
-    go false h = omega arith
 
 pub listed-few : (W : Walk) (ps : List Place) → length (listed W ps) ≤ length ps
 unfolding listed

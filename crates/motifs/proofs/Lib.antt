@@ -1,3 +1,4 @@
+-- The laws of this crate, in the order in which they build on each other. `Program` is the file to read first.
 pub mod Leg
 pub mod Passage
 pub mod Onward

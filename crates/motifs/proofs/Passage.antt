@@ -15,9 +15,9 @@ use Rattle.rules.specs.Walk.{from, listed}
 use Rattle.rules.specs.declared.Place.{Place}
 use Rattle.rules.specs.declared.Search.{Search}
 use Rattle.rules.proofs.Legs.{Passed}
-use Rattle.rules.proofs.Passing.{Passing, passing-leg}
 use Rattle.rules.proofs.Places.{walk-of, sound-passing, moved-sound}
-use Rattle.rules.proofs.Prefix.{exact-anti, exact-root, exact-pos, exact-deep}
+use Rattle.rules.proofs.Prefix.{exact-pos}
+use Rattle.rules.proofs.Relayed.{leg-passing}
 use Rattle.rules.proofs.Sound.{search-sound, search-fine}
 use Rattle.rules.proofs.Step.{at-end}
 use Rattle.motifs.specs.Pages.{room-of, ended-told?, print-rows, leg-page}
@@ -39,10 +39,8 @@ module _ (letters lengths : List ℕ) where
   next-fine : (s : Search) (budget room : ℕ) → first (search-checks letters lengths s) ≡ fine → first (search-checks letters lengths (moved s ((stretch letters lengths s budget room) .at))) ≡ fine
   unfolding stretch
   next-fine s budget room e =
-      let t = s .template in let q = s .quorum in let ss = sequences letters lengths in
       let o = search-sound letters lengths s e in
-      let p : Passing (walk-of letters lengths s) ((leg (walk-of letters lengths s) budget room (s .place)) .at) =
-      passing-leg (walk-of letters lengths s) (exact-pos t q ss) (exact-anti t q ss) (exact-deep t q ss (o .template)) (exact-root t q ss) budget room (s .place) (sound-passing letters lengths s o) in
+      let p = leg-passing letters lengths s o budget room (s .place) (sound-passing letters lengths s o) in
       search-fine letters lengths (moved s ((leg (walk-of letters lengths s) budget room (s .place)) .at)) (moved-sound letters lengths s o _ p)
 
   pub passage : (s : Search) (budget : ℕ) (motifs supports weights : List ℕ) → first (search-checks letters lengths s) ≡ fine

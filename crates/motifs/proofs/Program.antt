@@ -5,7 +5,7 @@
 use mathlib.Core.Path.{_≡_, refl, sym, ap, subst, _∙_}
 use mathlib.Core.Bool.{Bool, true, false}
 use mathlib.Core.List.{List, [], _∷_, _++_, append-nil}
-use Prim.Native.Nat.{ℕ}
+use Prim.Native.Nat.{ℕ, _^_, _≤_, _<_}
 use native.Mathlib.Omega.{arith}
 use lib.ListN.{length, length-append}
 use Rattle.rules.specs.Calls.{moved, begin-rule, leg-rule}
@@ -26,6 +26,7 @@ use Rattle.rules.proofs.Places.{walk-of}
 use Rattle.rules.proofs.Plain.{start-plain}
 use Rattle.rules.proofs.Prefix.{exact-pos, exact-plain}
 use Rattle.rules.proofs.Sound.{search-fine}
+use Rattle.rules.proofs.StepsSoFar.{from-first, begun-steps-few}
 use Rattle.rules.proofs.Whole.{listed-append}
 use Rattle.motifs.specs.Input.{input-rule}
 use Rattle.motifs.specs.Pages.{room-of, ended-told?, print-rows, leg-page, Printed, printed, followed, last?, pages}
@@ -39,6 +40,9 @@ pub record Program : Type 0 where
   -- end line with their steps and rows added up
   pub searched : (input letters lengths : List ℕ) (s : Search) (gs : List Lent) → (input-rule input letters lengths) .told ≡ gives s
       → let r = pages (parse-letters input) (parse-lengths input) gs s in r .answer ≡ gives ended → print-rule input ≡ r .text ++ print-end (r .steps) (r .rows)
+  -- their steps never run over what a number of 64 bits can count, so the program never stops for that
+  pub few : (input letters lengths : List ℕ) (s : Search) (gs : List Lent) → (input-rule input letters lengths) .told ≡ gives s
+      → (pages (parse-letters input) (parse-lengths input) gs s) .steps < 2 ^ 63
 
 -- ---- THE PROOF
 
@@ -99,6 +103,36 @@ module _ (letters lengths : List ℕ) where
       go true ih e = whole-last s l text p (ap ended-told? e)
       go false ih e = whole-more s l text (pages letters lengths gs (l .search)) p (ih e)
 
+  -- the steps of legs are no more than the candidates from the first one on
+  pub steps-within : (gs : List Lent) (s : Search) → first (search-checks letters lengths s) ≡ fine → (pages letters lengths gs s) .steps ≤ length (from (walk-of letters lengths s) (s .place))
+  unfolding pages
+  steps-within [] s f = omega arith
+  steps-within (g ∷ gs) s f = go (last? (l .answer)) (steps-within gs (l .search) (p .fine))
+    where
+      l : LegTold
+      l = (leg-rule letters lengths s (g .budget) (g .motifs) (g .supports) (g .weights)) .told
+
+      text : List ℕ
+      text = leg-page letters lengths s (g .budget) (room-of (g .motifs) (g .supports) (g .weights))
+
+      p : Passage letters lengths s l text
+      p = passage letters lengths s (g .budget) (g .motifs) (g .supports) (g .weights) f
+
+      same : walk-of letters lengths (l .search) ≡ walk-of letters lengths s
+      same = ap (walk-of letters lengths) (p .search)
+
+      go : (b : Bool) → (pages letters lengths gs (l .search)) .steps ≤ length (from (walk-of letters lengths (l .search)) (l .search .place))
+          → (if b (printed l text) (followed (printed l text) (pages letters lengths gs (l .search)))) .steps ≤ length (from (walk-of letters lengths s) (s .place))
+      go true ih = rw (p .split, length-append) (omega (arith, p .steps))
+      go false ih = let left = rw same at ih in rw (p .split, length-append) (omega (arith, p .steps, left))
+
+  -- and so fewer than 2 ^ 63
+  pub steps-few : (t : Template) (quorum : ℕ) (s : Search) (gs : List Lent) → begin-rule letters lengths t quorum ≡ gives s → (pages letters lengths gs s) .steps < 2 ^ 63
+  steps-few t quorum s gs e =
+      let b = begins letters lengths t quorum s e in
+      let w = rw (b .walk, b .at) at (steps-within gs s (search-fine letters lengths s (b .sound))) in
+      omega (arith, w, from-first t quorum (sequences letters lengths) (b .template), begun-steps-few letters lengths t quorum s e)
+
   -- a search from its start on, printed: all its rows, and the end line
   pub search-printed : (t : Template) (quorum : ℕ) (s : Search) → begin-rule letters lengths t quorum ≡ gives s
       → print-search (sequences letters lengths) s ≡ print-rows letters lengths s (rows-from letters lengths s (s .place)) ++ last-line letters lengths s
@@ -148,4 +182,5 @@ program =
     record {
       refused = rule-refused;
       searched = λ input letters lengths s gs h e. let o = opened input letters lengths s h in rule-searched input s o ∙ pages-printed (parse-letters input) (parse-lengths input) (parse-template input) (parse-quorum input) s gs (o .begun) e;
+      few = λ input letters lengths s gs h. steps-few (parse-letters input) (parse-lengths input) (parse-template input) (parse-quorum input) s gs (opened input letters lengths s h .begun);
     }

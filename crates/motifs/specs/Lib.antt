@@ -1,3 +1,4 @@
+-- What the contracts of this crate say, beside the definitions of `rules` and `text`.
 pub mod Pages
 pub mod Input
 pub mod Way

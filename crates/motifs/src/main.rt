@@ -38,7 +38,7 @@ const BUDGET: u64 = 16384;
 
 // How far the printing of a search has come: the search where it goes on, the steps and rows so far, whether there is more to
 // do, and whether all is printed. Neither holds where a write failed, which ends the program, and where all steps that a number
-// of 64 bits can count are used, which takes centuries.
+// of 64 bits can count are used, which no search takes (`Program.few` in proofs/).
 struct Way {
     search: Search,
     steps: u64,

@@ -10,7 +10,7 @@ use lib.ListN.{length, getD, take, drop, length-append, length-map, length-take,
 use lib.Seq.{getD-take}
 use Rattle.rules.specs.Letters.{value}
 use Rattle.rules.specs.Limits.{Letter-BASES}
-use Rattle.rules.specs.Lists.{run, if, each, sum}
+use Rattle.rules.specs.Lists.{if, each, sum}
 use Rattle.rules.specs.Motif.{spell}
 use Rattle.rules.specs.Occurrence.{stands, reach, starts, occurrences, ways}
 use Rattle.rules.specs.Recovery.{whole-list}
@@ -20,7 +20,7 @@ use Rattle.rules.specs.Support.{rows-from, occurrence-rows, parts}
 use Rattle.rules.specs.Template.{Part, part, none, slots, components, size, cut}
 use Rattle.rules.specs.declared.Component.{Component}
 use Rattle.rules.specs.declared.Template.{Template}
-use Rattle.rules.proofs.Lists.{length-run}
+use Rattle.rules.proofs.Lengths.{each-run}
 use Rattle.rules.proofs.Ways.{ways-count}
 
 -- ---- under one start
@@ -28,15 +28,6 @@ use Rattle.rules.proofs.Ways.{ways-count}
 -- the range before each part has at most b positions
 abbrev pub Near : ℕ → List Part → Type 0
 Near b cs = (i : ℕ) → i < length cs → (getD cs i (part 0 0 [])) .high + 1 - (getD cs i (part 0 0 [])) .low ≤ b
-
-reach-count : (n low high p : ℕ) → length (reach n low high p) ≡ high + 1 - low
-unfolding reach
-reach-count n low high p = length-run (p + n + low) (high + 1 - low)
-
-each-most : {A B : Type 0} (f : A → List B) (n : ℕ) → ((x : A) → length (f x) ≤ n) → (xs : List A) → length (each f xs) ≤ length xs * n
-unfolding each
-each-most f n h [] = omega arith
-each-most f n h (x ∷ xs) = omega (arith, length-append (f x) (each f xs), h x, each-most f n h xs)
 
 -- of parts that start at p, the k later ones can follow in at most b ^ k ways
 pub starts-most : (b : ℕ) (c : Part) (cs : List Part) (s : List ℕ) → Near b (c ∷ cs) → (p : ℕ) → length (starts (c ∷ cs) s p) ≤ b ^ length cs
@@ -51,10 +42,11 @@ starts-most b c (d ∷ ds) s h p = go (stands (c .word) s p) (starts-most b d ds
     later : List ℕ
     later = reach (length (c .word)) (d .low) (d .high) p
 
+    few : ((q : ℕ) → length (starts (d ∷ ds) s q) ≤ b ^ length ds) → length (each (starts (d ∷ ds) s) later) ≤ (d .high + 1 - d .low) * b ^ length ds
+    few ih = unfold reach in each-run (starts (d ∷ ds) s) (b ^ length ds) ih (p + length (c .word) + d .low) (d .high + 1 - d .low)
+
     go : (a : Bool) → ((q : ℕ) → length (starts (d ∷ ds) s q) ≤ b ^ length ds) → length (if a (map (λ t. p ∷ t) (each (starts (d ∷ ds) s) later)) []) ≤ b ^ suc (length ds)
-    go true ih =
-        let few : length later ≤ b = omega (arith, reach-count (length (c .word)) (d .low) (d .high) p, h 1 (omega arith)) in
-        rw pow-succ' (omega (arith, length-map (each (starts (d ∷ ds) s) later) (λ t. p ∷ t), each-most (starts (d ∷ ds) s) (b ^ length ds) ih later, mul-le-mul-right (b ^ length ds) few))
+    go true ih = rw pow-succ' (omega (arith, length-map (each (starts (d ∷ ds) s) later) (λ t. p ∷ t), few ih, mul-le-mul-right (b ^ length ds) (h 1 (omega arith))))
     go false ih = omega arith
 
 -- counted without being listed, they are as few
@@ -129,7 +121,7 @@ unfolding rows-from sum occurrences
 rows-most n cs h i [] = omega arith
 rows-most n cs h i (s ∷ ss) =
     omega
-    (arith, length-append (map (λ t. i ∷ t) (occurrences cs s)) (rows-from (suc i) cs ss), length-map (occurrences cs s) (λ t. i ∷ t), rw (length-run 1 (length s)) at (each-most (starts cs s) n (h s) (run 1 (length s))), rows-most n cs h (suc i) ss)
+    (arith, length-append (map (λ t. i ∷ t) (occurrences cs s)) (rows-from (suc i) cs ss), length-map (occurrences cs s) (λ t. i ∷ t), each-run (starts cs s) n (h s) 1 (length s), rows-most n cs h (suc i) ss)
 
 -- at most five parts after the first, each in at most 256 ways
 few-starts : (cs : List Part) → length cs ≤ 6 → Near 256 cs → (s : List ℕ) (p : ℕ) → length (starts cs s p) ≤ 2 ^ 40

@@ -17,6 +17,16 @@ keep-append f (x ∷ xs) ys = go (f x) (keep-append f xs ys)
     go true h = ap (λ l. x ∷ l) h
     go false h = h
 
+-- no more are kept than there are
+pub keep-few : {A : Type 0} (f : A → Bool) (xs : List A) → length (keep f xs) ≤ length xs
+unfolding keep
+keep-few f [] = omega arith
+keep-few f (x ∷ xs) = go (f x) (keep-few f xs)
+  where
+    go : (b : Bool) → length (keep f xs) ≤ length xs → length (if b (x ∷ keep f xs) (keep f xs)) ≤ suc (length xs)
+    go true h = omega arith
+    go false h = omega arith
+
 pub each-append : {A B : Type 0} (f : A → List B) (xs ys : List A) → each f (xs ++ ys) ≡ each f xs ++ each f ys
 unfolding each
 each-append f [] ys = refl
