@@ -12,7 +12,7 @@ use Rattle.rules.specs.Calls.{moved, begin-rule, leg-rule}
 use Rattle.rules.specs.Legs.{ended}
 use Rattle.rules.specs.Lists.{if}
 use Rattle.rules.specs.Refusals.{first, search-checks}
-use Rattle.rules.specs.Relay.{Lent}
+use Rattle.rules.specs.Relay.{Lent, whole-steps}
 use Rattle.rules.specs.Sequences.{sequences}
 use Rattle.rules.specs.Text.{text-checks, parse-template, parse-quorum, parse-letters, parse-lengths, print-end, print-refused, print-search, print-rule}
 use Rattle.rules.specs.Told.{Verdict, fine, refused, gives, refuses, LegTold}
@@ -130,8 +130,8 @@ module _ (letters lengths : List ℕ) where
   pub steps-few : (t : Template) (quorum : ℕ) (s : Search) (gs : List Lent) → begin-rule letters lengths t quorum ≡ gives s → (pages letters lengths gs s) .steps < 2 ^ 63
   steps-few t quorum s gs e =
       let b = begins letters lengths t quorum s e in
-      let w = rw (b .walk, b .at) at (steps-within gs s (search-fine letters lengths s (b .sound))) in
-      omega (arith, w, from-first t quorum (sequences letters lengths) (b .template), begun-steps-few letters lengths t quorum s e)
+      let all : length (from (walk-of letters lengths s) (s .place)) ≡ whole-steps t quorum (sequences letters lengths) = rw (b .walk, b .at) (from-first t quorum (sequences letters lengths) (b .template)) in
+      omega (arith, steps-within gs s (search-fine letters lengths s (b .sound)), all, begun-steps-few letters lengths t quorum s e)
 
   -- a search from its start on, printed: all its rows, and the end line
   pub search-printed : (t : Template) (quorum : ℕ) (s : Search) → begin-rule letters lengths t quorum ≡ gives s
