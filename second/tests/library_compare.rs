@@ -158,14 +158,7 @@ fn call(request: &Request, answer: &mut Answer) -> Result<(), Refusal> {
 /// What the library answers to a request. Tables that it does not write stay
 /// as they were lent.
 fn answered(request: &Request) -> Answer {
-    let mut answer = Answer {
-        told: Vec::new(),
-        motifs: request.motifs.clone(),
-        supports: request.supports.clone(),
-        weights: request.weights.clone(),
-        rows: request.rows.clone(),
-        saved: request.saved.clone(),
-    };
+    let mut answer = Answer::lent(request);
     if let Err(refusal) = call(request, &mut answer) {
         // A refused leg hands back the search that it was given.
         let value = match request.kind {

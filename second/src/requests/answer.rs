@@ -32,16 +32,21 @@ pub struct Answer {
 }
 
 impl Answer {
-    /// What the second program answers.
-    pub fn expected(request: &Request) -> Answer {
-        let mut answer = Answer {
+    /// Nothing told yet, and every table as it is lent.
+    pub fn lent(request: &Request) -> Answer {
+        Answer {
             told: Vec::new(),
             motifs: request.motifs.clone(),
             supports: request.supports.clone(),
             weights: request.weights.clone(),
             rows: request.rows.clone(),
             saved: request.saved.clone(),
-        };
+        }
+    }
+
+    /// What the second program answers.
+    pub fn expected(request: &Request) -> Answer {
+        let mut answer = Answer::lent(request);
         let (letters, lengths) = (&request.set.letters[..], &request.set.lengths[..]);
         let value = &request.value;
         answer.told = match request.kind {
