@@ -1,25 +1,29 @@
--- One step of the descent: without a flag there is nothing to hand out, the last component hands out its row, and any other
--- hands out what stands under each next start, one after the other; a full buffer takes nothing more.
-use mathlib.Core.Path.{_≡_, sym, ap, _∙_}
-use mathlib.Core.Bool.{Bool, true, false, _&&_, not}
-use mathlib.Core.List.{List, [], _∷_, _++_}
+-- One step of the descent: at a start with a flag the last component hands out its row, and any other what stands under each
+-- next start; a full buffer takes nothing more.
+use mathlib.Core.Path.{_≡_, refl, sym, ap, _∙_}
+use mathlib.Core.Bool.{Bool, true, _&&_}
+use mathlib.Core.List.{List, [], _∷_, _++_, append-nil}
 use Prim.Native.Nat.{ℕ, suc, min, _+_, _-_, _≤_, _<_}
+use native.Mathlib.Nat.{zero-add}
 use native.Mathlib.Numerals.{add-one}
 use native.Mathlib.Omega.{arith}
 use lib.Dec.{leb, ltb}
-use lib.ListN.{length, take, drop, getD, set, length-set}
+use lib.ListN.{length, take, drop, getD, set, length-set, length-drop}
 use lib.Seq.{take-suc-set, length-take-le}
-use borrow.Author.Tests.{leb-true, ltb-true, not-true, not-false}
-use Rattle.descent.specs.Buffer.{Buffer, buffer, emit, emits}
-use Rattle.descent.specs.Paths.{flag, handed}
+use borrow.Author.Tests.{leb-true, ltb-true}
+use Rattle.descent.specs.Buffer.{Buffer, buffer, emit, emits, after}
+use Rattle.descent.specs.Paths.{flag, paths, handed, listed}
 use Rattle.descent.specs.declared.Progress.{Progress}
-use Rattle.descent.proofs.Buffer.{emits-none, emits-one, emits-full, after-none, after-one, after-more}
-use Rattle.rules.proofs.Components.{components-more, components-none}
-use Rattle.descent.proofs.Paths.{paths-closed, paths-last, paths-more, going, going-done}
+use Rattle.descent.proofs.Buffer.{emits-one, emits-full, after-one, after-more}
+use Rattle.rules.proofs.Components.{components-length, components-more, components-none}
+use Rattle.descent.proofs.Paths.{paths-last, paths-more, handed-within}
 use Rattle.rules.specs.Limits.{Template-COMPONENTS}
+use Rattle.rules.specs.Lists.{run, each}
 use Rattle.rules.specs.Occurrence.{reach}
 use Rattle.rules.specs.Template.{slots, none, components}
+use Rattle.rules.specs.declared.Component.{Component}
 use Rattle.rules.specs.declared.Template.{Template}
+use Rattle.rules.proofs.Lists.{each-same}
 use Rattle.rules.proofs.Tests.{both}
 
 -- a full buffer stays as it is, whatever rows there are
@@ -35,44 +39,67 @@ stays w rows g l inside e t =
 row-more : (row : List ℕ) (c p : ℕ) → c + 1 < length row → take (suc (c + 1)) (set row (c + 1) p) ≡ take (suc c) row ++ (p ∷ [])
 row-more row c p h = rw (take-suc-set row (c + 1) p h, add-one c)
 
-module _ (t : Template) (few : t .count ≤ Template-COMPONENTS) (n : ℕ) (flags row : List ℕ) (c p : ℕ) (s : Buffer) {starts : Bool} (test : starts ≡ flag n flags c p) where
-  -- without a flag nothing is handed out
-  pub closed : not starts ≡ true → s ≡ handed t n flags row c p s
-  closed e = rw (paths-closed n flags c p (drop c (components t)) (sym test ∙ not-true starts e), after-none (take (suc c) row)) (sym (emits-none (suc (t .count)) s))
+module _ (n : ℕ) (flags row : List ℕ) (c : ℕ) where
+  -- of one start, the rows under it
+  pub handed-one : (xs : List Component) (q : ℕ) (s : Buffer) → handed xs n flags row c q (q + 1) s ≡ emits (suc (c + length xs)) (after (take (suc c) row) (paths n flags xs c q)) s
+  unfolding handed each run
+  handed-one xs q s = let one : q + 1 - q ≡ 1 = omega arith in rw (one, append-nil (paths n flags xs c q))
 
-  module _ (e : not starts ≡ false) (h : c + 1 < length row) where
-    flagged : flag n flags c p ≡ true
-    flagged = sym test ∙ not-false starts e
-
+  module _ (q : ℕ) (s : Buffer) (flagged : flag n flags c q ≡ true) (longer : List ℕ) (same : take (suc c) longer ≡ take (suc c) row) (h : c + 1 < length longer) where
     -- the row of the last component
-    pub last : {r : Buffer} {row′ : List ℕ} → row′ ≡ take (t .count + 1) (set row (c + 1) p) → r ≡ emit (length row′) row′ s → c + 1 + 1 ≡ t .count + 1 → r ≡ handed t n flags row c p s
-    last {r} {row′} q k l =
-        let z : row′ ≡ take (suc c) row ++ (p ∷ []) = q ∙ rw (← l, add-one (c + 1)) (row-more row c p h) in
-        let w : length row′ ≡ suc (t .count) = rw q (length-take-le (t .count + 1) (set row (c + 1) p) (rw (length-set row (c + 1) p) (omega arith)) ∙ add-one (t .count)) in
-        let f : drop c (components t) ≡ getD (slots t) c none ∷ [] = components-more t few c (omega arith) ∙ ap (λ l. getD (slots t) c none ∷ l) (components-none t few (suc c) (omega arith)) in
-        k ∙ rw (w, z, paths-last n flags c p (getD (slots t) c none) f flagged, after-one (take (suc c) row) (p ∷ [])) (sym (emits-one (suc (t .count)) (take (suc c) row ++ (p ∷ [])) s))
+    pub last-turn : {r : Buffer} {row′ : List ℕ} → row′ ≡ take (c + 1 + 1) (set longer (c + 1) q) → r ≡ emit (length row′) row′ s → r ≡ handed (none ∷ []) n flags row c q (q + 1) s
+    last-turn {r} {row′} e k =
+        let z : row′ ≡ take (suc c) row ++ (q ∷ []) = e ∙ rw (add-one (c + 1), row-more longer c q h, same) in
+        let w : length row′ ≡ suc (c + 1) = rw e (length-take-le (c + 1 + 1) (set longer (c + 1) q) (rw (length-set longer (c + 1) q) (omega arith)) ∙ add-one (c + 1)) in
+        k ∙ rw (w, z, handed-one (none ∷ []) q s, paths-last n flags c q none refl flagged, after-one (take (suc c) row) (q ∷ [])) (sym (emits-one (suc (c + 1)) (take (suc c) row ++ (q ∷ [])) s))
 
-    -- of any other component, what stands under the next starts, which lie from one position to another
-    module _ (l : c + 1 < t .count) where
+    -- of any other component, what stands under the next starts
+    module _ (t : Template) (few : t .count ≤ Template-COMPONENTS) (l : c + 1 < t .count) where
       abbrev from : ℕ
-      from = p + getD (slots t) c none .length + getD (slots t) (c + 1) none .low
+      from = q + getD (slots t) c none .length + getD (slots t) (c + 1) none .low
 
       abbrev to : ℕ
-      to = p + getD (slots t) c none .length + getD (slots t) (c + 1) none .high
+      to = q + getD (slots t) c none .length + getD (slots t) (c + 1) none .high
 
-      abbrev on : ℕ → ℕ → Buffer → Buffer
-      on = going (suc (t .count)) (take (suc (c + 1)) (set row (c + 1) p)) n flags (drop (c + 1) (components t)) (c + 1)
-
-      begun : on from (to + 1) s ≡ handed t n flags row c p s
-      unfolding going reach
-      begun =
+      under : handed (drop (c + 1) (components t)) n flags (set longer (c + 1) q) (c + 1) from (to + 1) s
+          ≡ emits (suc (c + length (drop c (components t)))) (after (take (suc c) row) (paths n flags (drop c (components t)) c q)) s
+      unfolding handed reach
+      under =
           let x = getD (slots t) c none in
           let y = getD (slots t) (c + 1) none in
           let k : to + 1 - from ≡ y .high + 1 - y .low = omega arith in
-          let q : drop c (components t) ≡ x ∷ drop (c + 1) (components t) = rw (add-one c) (components-more t few c (omega arith)) in
-          rw (k, row-more row c p h, paths-more n flags c p x y (drop (suc (c + 1)) (components t)) q (components-more t few (c + 1) l) flagged, after-more (take (suc c) row) p, add-one c)
+          let z : drop c (components t) ≡ x ∷ drop (c + 1) (components t) = rw (add-one c) (components-more t few c (omega arith)) in
+          let w : c + length (drop c (components t)) ≡ c + 1 + length (drop (c + 1) (components t)) = rw z (omega arith) in
+          rw (w, k, row-more longer c q h, same, paths-more n flags c q x y (drop (suc (c + 1)) (components t)) z (components-more t few (c + 1) l) flagged, after-more (take (suc c) row) q, add-one c)
 
-      -- once each of them has had its turn, all is handed out
-      pub ended : {q₀ q end : ℕ} {s′ : Buffer} → q₀ ≡ from → end ≡ min n to + 1 → end ≤ q → on q (to + 1) s′ ≡ on q₀ (to + 1) s → s′ ≡ handed t n flags row c p s
-      ended {q₀} {q} {end} {s′} e₀ k h r =
-          sym (going-done (suc (t .count)) (take (suc (c + 1)) (set row (c + 1) p)) n flags (drop (c + 1) (components t)) (c + 1) q to s′ (omega arith)) ∙ r ∙ rw e₀ begun
+      pub next-turn : {a e : ℕ} {r : Buffer} → a ≡ from → e ≡ min n to + 1
+          → r ≡ handed (drop (c + 1) (components t)) n flags (set longer (c + 1) q) (c + 1) a e s → r ≡ handed (drop c (components t)) n flags row c q (q + 1) s
+      next-turn ea ee k =
+          k ∙ rw (ea, ee) (handed-within (drop (c + 1) (components t)) n flags (set longer (c + 1) q) (c + 1) from to s ∙ under ∙ sym (handed-one (drop c (components t)) q s))
+
+-- ---- the components of a template from c on
+
+module _ (t : Template) (few : t .count ≤ Template-COMPONENTS) (n : ℕ) (flags row : List ℕ) (c : ℕ) where
+  -- whatever the last of them is
+  pub handed-last : (a e : ℕ) (s : Buffer) {r : Buffer} → c + 1 ≡ t .count → r ≡ handed (none ∷ []) n flags row c a e s → r ≡ handed (drop c (components t)) n flags row c a e s
+  unfolding handed paths
+  handed-last a e s h k =
+      let x = getD (slots t) c none in
+      let f : drop c (components t) ≡ x ∷ [] = components-more t few c (omega arith) ∙ ap (λ l. x ∷ l) (components-none t few (suc c) (omega arith)) in
+      k ∙ rw f (ap (λ l. emits (suc (c + 1)) (after (take (suc c) row) l) s) (each-same (paths n flags (none ∷ []) c) (paths n flags (x ∷ []) c) (run a (e - a)) (λ p. refl)))
+
+  -- nothing is left to hand out into a full buffer
+  pub handed-full : (q e : ℕ) (g : Progress) (l : List ℕ) {full : Bool} → c ≤ t .count → g .at ≤ length l → full ≡ leb (g .skip) 0 && ltb (length l - g .at) (t .count + 1) → full ≡ true
+      → handed (drop c (components t)) n flags row c q e (buffer g l) ≡ buffer g l
+  unfolding handed
+  handed-full q e g l h inside k z =
+      let w : c + length (drop c (components t)) ≡ t .count = rw (length-drop c (components t), components-length t few) (omega arith) in
+      rw w (sym (stays (t .count) _ g l inside k z))
+
+-- from the first component and position on, all that there is
+pub handed-all : (t : Template) → t .count ≤ Template-COMPONENTS → (n : ℕ) (flags row : List ℕ) (i : ℕ) (s : Buffer) → take 1 row ≡ i ∷ []
+    → handed (components t) n flags row 0 1 (n + 1) s ≡ listed t n flags i s
+unfolding handed
+handed-all t few n flags row i s e =
+    let k : n + 1 - 1 ≡ n = omega arith in
+    rw (zero-add (length (components t)), components-length t few, k, e)

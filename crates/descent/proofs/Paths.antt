@@ -1,21 +1,23 @@
 -- Reading starts off the flags, step by step: without a flag there is nothing, with one the start alone or all later starts
 -- under it; and one position after the other, up to the end of the range or of the sequence.
-use mathlib.Core.Path.{_≡_, refl, sym, _∙_}
+use mathlib.Core.Path.{_≡_, refl, sym, ap, _∙_}
 use mathlib.Core.Bool.{Bool, true, false}
-use mathlib.Core.List.{List, [], _∷_, map}
+use mathlib.Core.List.{List, [], _∷_, map, append-nil}
 use Prim.Native.Nat.{ℕ, zero, suc, min, _+_, _-_, _*_, _≤_, _<_}
+use native.Mathlib.Nat.{add-zero, sub-zero, zero-sub, sub-self}
 use native.Mathlib.Numerals.{add-one}
 use native.Mathlib.Omega.{arith}
 use lib.Dec.{ltb, eqb}
-use lib.ListN.{length, getD}
+use lib.ListN.{length, take, getD}
 use borrow.Author.Tests.{le-leb, lt-leb, ltb-true, ltb-false}
 use Rattle.descent.specs.Buffer.{Buffer, emits, after}
-use Rattle.descent.specs.Paths.{flag, paths}
+use Rattle.descent.specs.Paths.{flag, Unflagged, paths, handed}
 use Rattle.descent.proofs.Buffer.{emits-append, after-none, after-append}
 use Rattle.rules.specs.Limits.{SequenceSet-LETTERS}
 use Rattle.rules.specs.Lists.{run, each}
 use Rattle.rules.specs.Occurrence.{reach}
 use Rattle.rules.specs.declared.Component.{Component}
+use Rattle.rules.proofs.Lists.{each-append, run-append}
 
 -- ---- flags
 
@@ -51,41 +53,72 @@ module _ (n : ℕ) (flags : List ℕ) (c p : ℕ) where
   unfolding paths
   paths-more x y zs q r e = rw (q, r, e)
 
+-- one position more without a flag
+pub unflagged-more : (n : ℕ) (flags : List ℕ) (c a q : ℕ) → Unflagged n flags c a q → flag n flags c q ≡ false → Unflagged n flags c a (q + 1)
+unflagged-more n flags c a q h e p l k = go (ltb p q) refl
+  where
+    go : (b : Bool) → ltb p q ≡ b → flag n flags c p ≡ false
+    go true t = h p l (ltb-true p q t)
+    go false t = let z : p ≡ q = omega (arith, ltb-false) in rw z e
+
+-- the next k positions may be passed over if they have none
+each-unflagged : (n : ℕ) (flags : List ℕ) (xs : List Component) (c k q m : ℕ) → Unflagged n flags c q (q + k)
+    → each (paths n flags xs c) (run q m) ≡ each (paths n flags xs c) (run (q + k) (m - k))
+unfolding each run
+each-unflagged n flags xs c zero q m u = rw (add-zero q, sub-zero m)
+each-unflagged n flags xs c (suc k) q zero u = rw (zero-sub (suc k))
+each-unflagged n flags xs c (suc k) q (suc m) u =
+    let e : q + suc k ≡ suc q + k = omega arith in
+    let l : suc m - suc k ≡ m - k = omega arith in
+    rw (paths-closed n flags c q xs (u q (omega arith) (omega arith)), e, l) (each-unflagged n flags xs c k (suc q) m (λ p h j. u p (omega arith) (omega arith)))
+
 -- past the end of the sequence there is nothing
 each-past : (n : ℕ) (flags : List ℕ) (xs : List Component) (c q m : ℕ) → n < q → each (paths n flags xs c) (run q m) ≡ []
 unfolding each run
-each-past n flags xs c q zero h = refl
-each-past n flags xs c q (suc m) h = rw (paths-closed n flags c q xs (flag-past n flags c q h)) (each-past n flags xs c (suc q) m (omega arith))
+each-past n flags xs c q m h = each-unflagged n flags xs c m q m (λ p l k. flag-past n flags c p (omega arith)) ∙ rw (sub-self m)
+
+-- so those past it may be left out
+each-within : (n : ℕ) (flags : List ℕ) (xs : List Component) (c q k m : ℕ) → n < q + k → each (paths n flags xs c) (run q k) ≡ each (paths n flags xs c) (run q (k + m))
+each-within n flags xs c q k m h =
+    rw (← (run-append q k m), each-append (paths n flags xs c) (run q k) (run (q + k) m), each-past n flags xs c (q + k) m h, append-nil (each (paths n flags xs c) (run q k)))
 
 -- ---- one start after the other
 
-module _ (w : ℕ) (front : List ℕ) (n : ℕ) (flags : List ℕ) (xs : List Component) (c : ℕ) where
-  -- a buffer after the rows of the starts from q up to e
-  unfoldable pub going : ℕ → ℕ → Buffer → Buffer
-  going q e s = emits w (after front (each (paths n flags xs c) (run q (e - q)))) s
-
+module _ (xs : List Component) (n : ℕ) (flags row : List ℕ) (c : ℕ) where
   -- first those under q
-  going-on : (q e : ℕ) (s : Buffer) → q < e → going q e s ≡ going (q + 1) e (emits w (after front (paths n flags xs c q)) s)
-  unfolding going each run
-  going-on q e s h =
+  handed-on : (q e : ℕ) (s : Buffer) → q < e → handed xs n flags row c q e s ≡ handed xs n flags row c (q + 1) e (handed xs n flags row c q (q + 1) s)
+  unfolding handed each run
+  handed-on q e s h =
       let k : e - q ≡ suc (e - (q + 1)) = omega arith in
-      rw (k, add-one q, after-append front (paths n flags xs c q) (each (paths n flags xs c) (run (suc q) (e - suc q))))
-      (emits-append w (after front (paths n flags xs c q)) (after front (each (paths n flags xs c) (run (suc q) (e - suc q)))) s)
+      let one : q + 1 - q ≡ 1 = omega arith in
+      rw (k, one, add-one q, append-nil (paths n flags xs c q), after-append (take (suc c) row) (paths n flags xs c q) (each (paths n flags xs c) (run (suc q) (e - suc q))))
+      (emits-append _ (after (take (suc c) row) (paths n flags xs c q)) (after (take (suc c) row) (each (paths n flags xs c) (run (suc q) (e - suc q)))) s)
 
-  -- so after the turn at q there is as much left to do
-  pub going-again : (q e : ℕ) (s : Buffer) {s′ x : Buffer} → q < e → s′ ≡ emits w (after front (paths n flags xs c q)) s → going q e s ≡ x → going (q + 1) e s′ ≡ x
-  going-again q e s h k r = rw k (sym (going-on q e s h) ∙ r)
+  -- those without a flag may be passed over
+  pub handed-past : (q r e : ℕ) (s : Buffer) → (q ≤ r) × Unflagged n flags c q r → handed xs n flags row c q e s ≡ handed xs n flags row c r e s
+  unfolding handed
+  handed-past q r e s h =
+      let k : q + (r - q) ≡ r = omega arith in
+      let m : e - q - (r - q) ≡ e - r = omega arith in
+      ap (λ l. emits (suc (c + length xs)) (after (take (suc c) row) l) s) (each-unflagged n flags xs c (r - q) q (e - q) (λ p l j. h .1 p l (omega arith)) ∙ rw (k, m))
 
-  -- at the end of them, or of the sequence, nothing is left
-  pub going-done : (q m : ℕ) (s : Buffer) → min n m + 1 ≤ q → going q (m + 1) s ≡ s
-  unfolding going emits each run
-  going-done q m s h = go (ltb n q) refl
+  -- so after the turn at q, with r the next that has one, there is as much left to do
+  pub handed-again : (q r e : ℕ) (s : Buffer) {s′ x : Buffer} → q < e → (q + 1 ≤ r) × Unflagged n flags c (q + 1) r
+      → s′ ≡ handed xs n flags row c q (q + 1) s → handed xs n flags row c q e s ≡ x → handed xs n flags row c r e s′ ≡ x
+  handed-again q r e s h u k z = rw k (sym (handed-past (q + 1) r e _ u) ∙ sym (handed-on q e s h) ∙ z)
+
+  -- at the end nothing is left
+  pub handed-done : (q e : ℕ) (s : Buffer) → e ≤ q → handed xs n flags row c q e s ≡ s
+  unfolding handed emits each run
+  handed-done q e s h = let k : e - q ≡ 0 = omega arith in rw (k, after-none (take (suc c) row))
+
+  -- nor past the end of the sequence
+  pub handed-within : (q m : ℕ) (s : Buffer) → handed xs n flags row c q (min n m + 1) s ≡ handed xs n flags row c q (m + 1) s
+  unfolding handed
+  handed-within q m s = ap (λ l. emits (suc (c + length xs)) (after (take (suc c) row) l) s) (go (ltb n (q + (min n m + 1 - q))) refl)
     where
-      go : (b : Bool) → ltb n q ≡ b → emits w (after front (each (paths n flags xs c) (run q (m + 1 - q)))) s ≡ s
-      go true e = rw (each-past n flags xs c q (m + 1 - q) (ltb-true n q e), after-none front)
-      go false e = let k : m + 1 - q ≡ 0 = omega (arith, ltb-false) in rw (k, after-none front)
-
-  -- all positions of the sequence
-  pub going-all : (s : Buffer) → going 1 (n + 1) s ≡ emits w (after front (each (paths n flags xs c) (run 1 n))) s
-  unfolding going
-  going-all s = let k : n + 1 - 1 ≡ n = omega arith in rw k
+      go : (b : Bool) → ltb n (q + (min n m + 1 - q)) ≡ b → each (paths n flags xs c) (run q (min n m + 1 - q)) ≡ each (paths n flags xs c) (run q (m + 1 - q))
+      go true e =
+          let k : min n m + 1 - q + (m + 1 - q - (min n m + 1 - q)) ≡ m + 1 - q = omega arith in
+          rw (← k) (each-within n flags xs c q (min n m + 1 - q) (m + 1 - q - (min n m + 1 - q)) (ltb-true n (q + (min n m + 1 - q)) e))
+      go false e = let k : min n m + 1 - q ≡ m + 1 - q = omega (arith, ltb-false) in rw k

@@ -1,6 +1,6 @@
 -- The occurrences as they are read off flags: a flag for each component and position says whether an occurrence of the
 -- components from that one on starts there.
-use mathlib.Core.Bool.{Bool, _&&_}
+use mathlib.Core.Bool.{Bool, false, _&&_}
 use mathlib.Core.List.{List, [], _∷_, map}
 use mathlib.Core.Path.{_≡_}
 use Prim.Native.Nat.{ℕ, suc, _+_, _-_, _*_, _≤_, _<_}
@@ -18,6 +18,10 @@ use Rattle.rules.specs.declared.Template.{Template}
 unfoldable pub flag : ℕ → List ℕ → ℕ → ℕ → Bool
 flag n flags c p = leb 1 p && leb p n && eqb (getD flags (c * SequenceSet-LETTERS + (p - 1)) 0) 1
 
+-- no position from a up to b has one
+abbrev pub Unflagged : ℕ → List ℕ → ℕ → ℕ → ℕ → Type 0
+Unflagged n flags c a b = (p : ℕ) → a ≤ p → p < b → flag n flags c p ≡ false
+
 -- the starts of some components, the first of them number c, whose first start is p: those with a flag
 unfoldable pub paths : ℕ → List ℕ → List Component → ℕ → ℕ → List (List ℕ)
 paths n flags [] c p = []
@@ -25,9 +29,9 @@ paths n flags (x ∷ []) c p = if (flag n flags c p) ((p ∷ []) ∷ []) []
 paths n flags (x ∷ y ∷ ys) c p =
     if (flag n flags c p) (map (λ t. p ∷ t) (each (paths n flags (y ∷ ys) (suc c)) (reach (x .length) (y .low) (y .high) p))) []
 
--- a buffer after the rows whose numbers up to component c stand in `row` and whose start of c is p
-abbrev pub handed : Template → ℕ → List ℕ → List ℕ → ℕ → ℕ → Buffer → Buffer
-handed t n flags row c p s = emits (suc (t .count)) (after (take (suc c) row) (paths n flags (drop c (components t)) c p)) s
+-- a buffer after the rows whose numbers before component c stand in `row`, and whose start of c is one of those from a up to e
+unfoldable pub handed : List Component → ℕ → List ℕ → List ℕ → ℕ → ℕ → ℕ → Buffer → Buffer
+handed xs n flags row c a e s = emits (suc (c + length xs)) (after (take (suc c) row) (each (paths n flags xs c) (run a (e - a)))) s
 
 -- a buffer after all rows of the sequence with number i
 abbrev pub listed : Template → ℕ → List ℕ → ℕ → Buffer → Buffer

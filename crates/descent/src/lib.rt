@@ -5,14 +5,14 @@ use rules::SequenceNumber;
 use rules::SequenceSet;
 use rules::Template;
 use rules::least;
-ghost use mathlib.Core.Bool.{_&&_};
-ghost use mathlib.Core.List.{_++_};
+ghost use mathlib.Core.Bool.{true, _&&_};
+ghost use mathlib.Core.List.{[], _∷_, _++_};
 ghost use mathlib.Core.Path.{_≡_};
 ghost use Prim.Native.Nat.{min, _+_, _-_, _*_, _^_, _≤_, _<_};
 ghost use lib.Dec.{leb, ltb};
 ghost use lib.ListN.{length, take, drop, getD};
 ghost use Rattle.descent.specs.Buffer.{buffer, Inside, emit};
-ghost use Rattle.descent.specs.Paths.{flag, paths, handed, listed, Counted};
+ghost use Rattle.descent.specs.Paths.{flag, Unflagged, paths, handed, listed, Counted};
 ghost use Rattle.rules.specs.Limits.{SequenceSet-LETTERS, SequenceSet-SEQUENCES, Template-COMPONENTS};
 ghost use Rattle.rules.specs.Sound.{SoundTemplate};
 ghost use Rattle.rules.specs.Template.{components, slots, none};
@@ -95,6 +95,23 @@ fn can_start(flags: &[u8], component: usize, at: Position, letters: usize) -> bo
     flags[i] == 1
 }
 
+// The first position from `from` on and below `end` at which a component can start; `end` or a later one where there is none.
+fn seek(flags: &[u8], component: usize, from: usize, end: usize, letters: usize) -> usize
+    requires { ⌜ (component < Template-COMPONENTS) × (1 ≤ from) × (end ≤ letters + 1) × (letters ≤ SequenceSet-LETTERS) ⌝ }
+    requires { ⌜ length (now flags) ≡ Template-COMPONENTS * SequenceSet-LETTERS ⌝ }
+    ensures { λ r. ⌜ (from ≤ r) × Unflagged letters (now (flags .entry)) component from r ⌝ }
+    ensures { λ r. ⌜ (r < end → flag letters (now (flags .entry)) component r ≡ true) ⌝ }
+{
+    let mut q = from;
+    while q < end {
+        if can_start(flags, component, Position(q), letters) {
+            return q;
+        }
+        q += 1;
+    }
+    q
+}
+
 // A number of a component, for sums.
 fn wide(x: u16) -> usize
     ensures { λ r. ⌜ (r ≡ x) × (r < 2 ^ 16) ⌝ }
@@ -128,13 +145,42 @@ fn next_starts(template: Template, component: usize, at: Position, letters: usiz
     }
 }
 
-// Hands out, one by one, the occurrences whose starts before `component` stand in `row` and whose start of it is `at`: all
-// later starts under it, component by component, before the next. A start without a flag has none, and once the buffer is full
-// no more are made.
+// Hands out a row for each of some starts of the last component: the numbers before it stand in `row`.
+fn list_last(
+    component: usize,
+    starts: Span,
+    letters: usize,
+    flags: &[u8],
+    row: [u32; ROW],
+    done: Progress,
+    out: &mut [u32],
+) -> Progress
+    requires { ⌜ (component < Template-COMPONENTS) × (1 ≤ starts .from) × (starts .end ≤ letters + 1) × (letters ≤ SequenceSet-LETTERS) ⌝ }
+    requires { ⌜ (length row ≡ Template-COMPONENTS + 1) × (length (now flags) ≡ Template-COMPONENTS * SequenceSet-LETTERS) ⌝ }
+    requires { ⌜ Inside done (length (now out)) ⌝ }
+    ensures { λ r. ⌜ Inside r (length (now (out .exit))) ⌝ }
+    ensures { λ r. ⌜ buffer r (now (out .exit)) ≡ handed (none ∷ []) letters (now (flags .entry)) row component (starts .from) (starts .end) (buffer done (now (out .entry))) ⌝ }
+{
+    let last = component + 1;
+    let width = last + 1;
+    let end = starts.end;
+    let mut longer = row;
+    let mut p = done;
+    let mut q = seek(flags, component, starts.from, end, letters);
+    while q < end {
+        longer[last] = q as u32;
+        p = emit(&longer[..width], p, out);
+        q = seek(flags, component, q + 1, end, letters);
+    }
+    p
+}
+
+// Hands out, one by one, the occurrences whose starts before `component` stand in `row` and whose start of it is one of some:
+// all later starts under it, component by component, before the next. Once the buffer is full no more are made.
 fn descend(
     template: Template,
     component: usize,
-    at: Position,
+    starts: Span,
     letters: usize,
     flags: &[u8],
     row: [u32; ROW],
@@ -142,33 +188,30 @@ fn descend(
     out: &mut [u32],
 ) -> Progress
     requires { ⌜ SoundTemplate template ⌝ }
-    requires { ⌜ (component < template .count) × (1 ≤ at .0) × (at .0 ≤ letters) × (letters ≤ SequenceSet-LETTERS) ⌝ }
+    requires { ⌜ (component < template .count) × (1 ≤ starts .from) × (starts .end ≤ letters + 1) × (letters ≤ SequenceSet-LETTERS) ⌝ }
     requires { ⌜ (length row ≡ Template-COMPONENTS + 1) × (length (now flags) ≡ Template-COMPONENTS * SequenceSet-LETTERS) ⌝ }
     requires { ⌜ Inside done (length (now out)) ⌝ }
     ensures { λ r. ⌜ Inside r (length (now (out .exit))) ⌝ }
-    ensures { λ r. ⌜ buffer r (now (out .exit)) ≡ handed template letters (now (flags .entry)) row component (at .0) (buffer done (now (out .entry))) ⌝ }
+    ensures { λ r. ⌜ buffer r (now (out .exit)) ≡ handed (drop component (components template)) letters (now (flags .entry)) row component (starts .from) (starts .end) (buffer done (now (out .entry))) ⌝ }
 {
-    let width = template.count as usize + 1;
-    if !can_start(flags, component, at, letters) {
-        return done;
-    }
-    if full(done, width, out.len()) {
-        return done;
-    }
+    let count = template.count as usize;
     let next = component + 1;
-    let start = at.0 as u32;
-    let mut longer = row;
-    longer[next] = start;
-    if next + 1 == width {
-        return emit(&longer[..width], done, out);
+    if next == count {
+        return list_last(component, starts, letters, flags, row, done, out);
     }
-    let starts = next_starts(template, component, at, letters);
+    let width = count + 1;
     let end = starts.end;
+    let mut longer = row;
     let mut p = done;
-    let mut q = starts.from;
+    let mut q = seek(flags, component, starts.from, end, letters);
     while q < end {
-        p = descend(template, next, Position(q), letters, flags, longer, p, out);
-        q += 1;
+        if full(p, width, out.len()) {
+            return p;
+        }
+        longer[next] = q as u32;
+        let later = next_starts(template, component, Position(q), letters);
+        p = descend(template, next, later, letters, flags, longer, p, out);
+        q = seek(flags, component, q + 1, end, letters);
     }
     p
 }
@@ -191,9 +234,10 @@ fn list_start(
     requires { ⌜ Inside done (length (now out)) ⌝ }
     requires { ⌜ getD (now ways) (at .0 - 1) 0 ≡ length (paths letters (now flags) (components template) 0 (at .0)) ⌝ }
     ensures { λ r. ⌜ Inside r (length (now (out .exit))) ⌝ }
-    ensures { λ r. ⌜ buffer r (now (out .exit)) ≡ handed template letters (now (flags .entry)) row 0 (at .0) (buffer done (now (out .entry))) ⌝ }
+    ensures { λ r. ⌜ buffer r (now (out .exit)) ≡ handed (components template) letters (now (flags .entry)) row 0 (at .0) (at .0 + 1) (buffer done (now (out .entry))) ⌝ }
 {
-    let i = at.0 - 1;
+    let from = at.0;
+    let i = from - 1;
     let under = ways[i];
     let skip = done.skip;
     if under <= skip {
@@ -203,7 +247,11 @@ fn list_start(
             at: done.at,
         };
     }
-    descend(template, 0, at, letters, flags, row, done, out)
+    let starts = Span {
+        from,
+        end: from + 1,
+    };
+    descend(template, 0, starts, letters, flags, row, done, out)
 }
 
 // Hands out all occurrences in a sequence of so many letters, each with the sequence's number in front.
@@ -224,13 +272,18 @@ pub fn list_starts(
     ensures { λ r. ⌜ Inside r (length (now (out .exit))) ⌝ }
     ensures { λ r. ⌜ buffer r (now (out .exit)) ≡ listed template letters (now (flags .entry)) (number .0) (buffer done (now (out .entry))) ⌝ }
 {
+    let width = template.count as usize + 1;
     let mut row = [0u32; ROW];
     row[0] = number.0 as u32;
+    let end = letters + 1;
     let mut p = done;
-    let mut at = 1;
-    while at <= letters {
+    let mut at = seek(flags, 0, 1, end, letters);
+    while at < end {
+        if full(p, width, out.len()) {
+            return p;
+        }
         p = list_start(template, Position(at), letters, flags, ways, row, p, out);
-        at += 1;
+        at = seek(flags, 0, at + 1, end, letters);
     }
     p
 }

@@ -7,21 +7,20 @@ use Prim.Native.Nat.{ℕ, suc, _+_, _-_, _*_, _≤_, _<_}
 use native.Mathlib.Omega.{arith}
 use lib.Dec.{ltb, eqb}
 use lib.ListN.{length, take, drop, getD, length-append, length-map, List·getD-append, List·getD-map}
-use lib.Seq.{getD-append-add, getD-drop, length-take-le, take-at}
+use lib.Seq.{getD-append-add, getD-drop, getD-take, length-take-le, take-at}
 use borrow.Author.Tests.{lt-ltb, ltb-true, ltb-false}
-use Rattle.descent.specs.Paths.{flag, Flagged, Counted}
+use Rattle.descent.specs.Paths.{flag, paths, Flagged, Counted}
 use Rattle.descent.proofs.Flags.{parts-count, paths-are}
 use Rattle.descent.proofs.Paths.{flag-in}
 use Rattle.recovery.specs.Flags.{sign}
-use Rattle.rules.specs.Letters.{value}
 use Rattle.rules.specs.Limits.{SequenceSet-LETTERS, Template-COMPONENTS}
-use Rattle.rules.specs.Lists.{some?, put}
-use Rattle.rules.specs.Occurrence.{starts, ways}
+use Rattle.rules.specs.Lists.{some?, sum}
+use Rattle.rules.specs.Occurrence.{starts, occurrences, ways}
 use Rattle.rules.specs.Sound.{SoundTemplate}
 use Rattle.rules.specs.Support.{parts}
 use Rattle.rules.specs.Template.{Part, components, size}
 use Rattle.rules.specs.declared.Template.{Template}
-use Rattle.rules.proofs.Ways.{ways-count}
+use Rattle.rules.proofs.Ways.{ways-count, occurrences-count}
 use Rattle.ways.specs.Counts.{counts}
 use Rattle.ways.proofs.Counting.{length-counts}
 use Rattle.rules.proofs.Over.{getD-map-run}
@@ -47,31 +46,21 @@ module _ (b : ℕ) (table m : List ℕ) (fits : b ≤ length table) where
       ∙ getD-drop (b + length m) table (i - (b + length m)) 0
       ∙ ap (λ j. getD table j 0) (sym k)
 
--- ---- the ways of some parts at the front of a table
+-- ---- the ways of some parts
 
--- the front is the counts
-pub front-counts : (cs : List Part) (s table : List ℕ) {x : List ℕ} → x ≡ put (counts cs (map value s)) table → take (length s) x ≡ counts cs (map value s)
-unfolding put
-front-counts cs s table e =
-    rw e (take-at (counts cs (map value s)) (drop (length (counts cs (map value s))) table) (length s) (length-counts cs (map value s) ∙ length-map s value))
+-- a table with them at its front
+pub front-counts : (cs : List Part) (s table : List ℕ) {y : List ℕ} → y ≡ counts cs s → take (length s) (y ++ drop (length s) table) ≡ counts cs s
+front-counts cs s table {y} e = take-at y (drop (length s) table) (length s) (ap length e ∙ length-counts cs s) ∙ e
+
+-- they add up to the occurrences
+pub counts-sum : (cs : List Part) (s : List ℕ) {y : List ℕ} → y ≡ counts cs s → sum y ≡ length (occurrences cs s)
+unfolding counts
+counts-sum cs s e = ap sum e ∙ sym (occurrences-count cs s)
 
 -- at each position of the sequence
-module _ (cs : List Part) (s : List ℕ) (p : ℕ) (some : 1 ≤ p) (inside : p ≤ length s) where
-  counts-at : getD (counts cs s) (p - 1) 0 ≡ length (starts cs s p)
-  unfolding counts
-  counts-at = let e : 1 + (p - 1) ≡ p = omega arith in getD-map-run (ways cs s) 1 (length s) (p - 1) (omega arith) ∙ ap (ways cs s) e ∙ ways-count cs s p
-
-  put-at : (table : List ℕ) → getD (put (counts cs s) table) (p - 1) 0 ≡ length (starts cs s p)
-  unfolding put
-  put-at table = List·getD-append (counts cs s) (drop (length (counts cs s)) table) 0 (p - 1) (rw (length-counts cs s) (omega arith)) ∙ counts-at
-
--- a table has, for each position, how many occurrences start there
-abbrev pub Weighed : List Part → List ℕ → List ℕ → Type 0
-Weighed cs s table = (p : ℕ) → 1 ≤ p → p ≤ length s → getD table (p - 1) 0 ≡ length (starts cs s p)
-
--- so has one with the counts at its front
-pub weighed : (cs : List Part) (s table : List ℕ) {x : List ℕ} → x ≡ put (counts cs s) table → Weighed cs s x
-weighed cs s table e p some inside = rw e (put-at cs s p some inside table)
+counts-at : (cs : List Part) (s : List ℕ) (p : ℕ) → 1 ≤ p → p ≤ length s → getD (counts cs s) (p - 1) 0 ≡ length (starts cs s p)
+unfolding counts
+counts-at cs s p some inside = let e : 1 + (p - 1) ≡ p = omega arith in getD-map-run (ways cs s) 1 (length s) (p - 1) (omega arith) ∙ ap (ways cs s) e ∙ ways-count cs s p
 
 sign-at : (l : List ℕ) (i : ℕ) → getD (map sign l) i 0 ≡ sign (getD l i 0)
 unfolding sign
@@ -131,7 +120,10 @@ module _ {t : Template} (sound : SoundTemplate t) (m : ℕ) (s : List ℕ) where
   pub flagged-none : (flags : List ℕ) → Flagged (parts t (size t) m) s flags (t .count)
   flagged-none flags i l k = absurd (omega (arith, parts-count sound m))
 
-  -- the ways of the first component and those after it count what is read off under each position
+  -- the ways of the first component and those after it, at the front of a table, count what is read off under each position
   pub counted : (flags : List ℕ) → Flagged (parts t (size t) m) s flags 0 → (n : ℕ) → length s ≡ n → (table : List ℕ)
-      → Weighed (parts t (size t) m) s table → Counted n flags (components t) table
-  counted flags flagged n e table h p some inside = rw (← e) (h p some (rw e inside) ∙ ap length (sym (paths-are sound m s flags flagged p)))
+      → take n table ≡ counts (parts t (size t) m) s → Counted n flags (components t) table
+  counted flags flagged n e table h p some inside =
+      let l : p ≤ length s = rw e inside in
+      sym (getD-take n table (p - 1) 0 (omega arith)) ∙ ap (λ x. getD x (p - 1) 0) h ∙ counts-at (parts t (size t) m) s p some l
+      ∙ ap length (sym (paths-are sound m s flags flagged p)) ∙ ap (λ k. length (paths k flags (components t) 0 p)) e

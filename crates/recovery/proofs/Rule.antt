@@ -3,20 +3,19 @@
 use mathlib.Core.Path.{_≡_, refl, sym, ap, _∙_}
 use mathlib.Core.Bool.{Bool, true, false}
 use mathlib.Core.List.{List, [], _∷_, _++_, List·Memᴰ}
-use Prim.Native.Nat.{ℕ, suc, _^_, _/_, _≤_, _<_}
+use Prim.Native.Nat.{ℕ, suc, _-_, _^_, _≤_, _<_}
 use native.Mathlib.Omega.{arith}
 use lib.Dec.{ltb}
-use lib.ListN.{length, take, drop, drop-of-length-le}
-use lib.Seq.{take-nil}
+use lib.ListN.{length, drop, drop-of-length-le}
 use borrow.Author.Tests.{lt-ltb, le-ltb, le-leb, lt-leb, ltb-true, ltb-false}
 use Rattle.descent.specs.Buffer.{buffer, progress, emits}
 use Rattle.descent.specs.declared.Progress.{Progress}
+use Rattle.descent.proofs.Buffer.{emits-none, emits-passed}
 use Rattle.descent.proofs.Flags.{parts-count}
 use Rattle.recovery.specs.Rule.{first-checks, rows-rule}
 use Rattle.recovery.proofs.Page.{emits-page}
 use Rattle.rules.specs.Calls.{recover-rule}
 use Rattle.rules.specs.Limits.{Letter-BASES}
-use Rattle.rules.specs.Lists.{joined, put}
 use Rattle.rules.specs.Recovery.{whole-list}
 use Rattle.rules.specs.Recovery as list
 use Rattle.rules.specs.Refusals.{_else_, first, check14, check15, set-checks, recover-checks}
@@ -55,12 +54,9 @@ first-sound letters lengths t m found e =
     (set-sound letters lengths (h .0), template-sound t (k .0))
 
 module _ (letters lengths : List ℕ) (t : Template) (m f : ℕ) (out : List ℕ) where
-  -- the whole list, and the rows of it that are asked for and fit
+  -- the whole list
   abbrev whole : List (List ℕ)
   whole = occurrence-rows (parts t (size t) m) (sequences letters lengths)
-
-  rows : List (List ℕ)
-  rows = take (length out / suc (t .count)) (drop f whole)
 
   -- each row has a number for the sequence and one for each component
   row-width : SoundTemplate t → (row : List ℕ) → List·Memᴰ row whole → length row ≡ suc (t .count)
@@ -87,30 +83,21 @@ module _ (letters lengths : List ℕ) (t : Template) (m f : ℕ) (out : List ℕ
   unfolding recover-rule rows-rule _else_
   rule-fine found e k q = rw (then-15, ← found, e) (k, q)
 
-  -- ---- the rest: n is the length of the whole list
-  module _ {n : ℕ} (all : n ≡ length whole) where
-    -- a first row above it is refused
-    pub past-the-end : n < f → (refuses 15 0 ≡ rows-rule letters lengths t m f out .told) × (out ≡ rows-rule letters lengths t m f out .out)
+  -- ---- the rest: n is the length of the whole list, and all of it went out
+  module _ {n : ℕ} (all : n ≡ length whole) {g : Progress} {out′ : List ℕ} (went : buffer g out′ ≡ emits (suc (t .count)) whole (buffer (progress f 0 0) out)) where
+    -- a first row above it is refused, and nothing was written
+    pub past-the-end : n < f → (refuses 15 0 ≡ rows-rule letters lengths t m f out .told) × (out′ ≡ rows-rule letters lengths t m f out .out)
     unfolding rows-rule check15 whole-list
-    past-the-end h = rw (← all, lt-ltb n f h) (refl, refl)
-
-    -- a page, told by its rows and written to the front of the buffer
-    paged : f ≤ n → {k : ℕ} {out′ : List ℕ} → k ≡ length rows → out′ ≡ put (joined rows) out
-        → (gives (record { rows = k; length = n }) ≡ rows-rule letters lengths t m f out .told) × (out′ ≡ rows-rule letters lengths t m f out .out)
-    unfolding rows-rule check15 whole-list list.page rows
-    paged h e q = let l : f ≤ length whole = rw all at h in rw (e, q, all, le-ltb (length whole) f l) (refl, refl)
-
-    -- one equal to it gives no rows
-    pub at-the-end : f ≡ n → (gives (record { rows = 0; length = n }) ≡ rows-rule letters lengths t m f out .told) × (out ≡ rows-rule letters lengths t m f out .out)
-    unfolding rows put joined
-    at-the-end h =
-        let e : rows ≡ [] = rw (drop-of-length-le whole {i = f} (omega arith)) (take-nil {A = List ℕ} (length out / suc (t .count))) in
-        paged (omega arith) (rw e) (rw e)
+    past-the-end h =
+        let none : drop f whole ≡ [] = drop-of-length-le whole {i = f} (omega arith) in
+        let passed : emits (suc (t .count)) whole (buffer (progress f 0 0) out) ≡ buffer (progress (f - length whole) 0 0) out =
+        emits-passed (suc (t .count)) whole f 0 0 out ∙ rw none (emits-none (suc (t .count)) (buffer (progress (f - length whole) 0 0) out)) in
+        rw (← all, lt-ltb n f h) (refl, ap (λ s. s .table) (went ∙ passed))
 
     -- and else what went out is the page
-    pub listed : f ≤ n → SoundTemplate t → {g : Progress} {out′ : List ℕ} → buffer g out′ ≡ emits (suc (t .count)) whole (buffer (progress f 0 0) out)
-        → (gives (record { rows = g .rows; length = n }) ≡ rows-rule letters lengths t m f out .told) × (out′ ≡ rows-rule letters lengths t m f out .out)
-    unfolding rows
-    listed h sound e =
-        let r = emits-page (suc (t .count)) whole (row-width sound) (omega arith) f out (rw all at h) e in
-        paged h (r .0) (r .1)
+    pub listed : f ≤ n → SoundTemplate t → (gives (record { rows = g .rows; length = n }) ≡ rows-rule letters lengths t m f out .told) × (out′ ≡ rows-rule letters lengths t m f out .out)
+    unfolding rows-rule check15 whole-list list.page
+    listed h sound =
+        let l : f ≤ length whole = rw all at h in
+        let r = emits-page (suc (t .count)) whole (row-width sound) (omega arith) f out l went in
+        rw (r .0, r .1, all, le-ltb (length whole) f l) (refl, refl)

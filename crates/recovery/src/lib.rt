@@ -5,25 +5,25 @@ use checks::spelled_by;
 use descent::Progress;
 use descent::list_starts;
 use rules::Checked;
+use rules::Letter;
 use rules::Recovered;
 use rules::Refusal;
 use rules::SequenceNumber;
 use rules::SequenceSet;
 use rules::Template;
-use ways::fill;
-use ways::tally;
+use ways::count;
+use ways::step;
 ghost use mathlib.Core.List.{[], _∷_, _++_, map};
 ghost use mathlib.Core.Path.{_≡_};
-ghost use Prim.Native.Nat.{suc, _+_, _*_, _≤_, _<_};
+ghost use Prim.Native.Nat.{suc, _+_, _*_, _^_, _≤_, _<_};
 ghost use lib.ListN.{length, take, drop};
 ghost use Rattle.descent.specs.Buffer.{buffer, progress, Inside, emits, after};
-ghost use Rattle.descent.specs.Paths.{Flagged, Counted};
+ghost use Rattle.descent.specs.Paths.{Flagged};
 ghost use Rattle.recovery.specs.Flags.{sign};
 ghost use Rattle.recovery.specs.Rule.{first-checks, rows-rule};
 ghost use Rattle.rules.specs.Calls.{recover-rule};
 ghost use Rattle.rules.specs.Letters.{value};
 ghost use Rattle.rules.specs.Limits.{SequenceSet-LETTERS, SequenceSet-SEQUENCES, Template-COMPONENTS};
-ghost use Rattle.rules.specs.Lists.{put};
 ghost use Rattle.rules.specs.Occurrence.{occurrences};
 ghost use Rattle.rules.specs.Refusals.{first, check14};
 ghost use Rattle.rules.specs.Sequences.{sequences};
@@ -31,7 +31,7 @@ ghost use Rattle.rules.specs.Sound.{SoundSet, SoundTemplate};
 ghost use Rattle.rules.specs.Support.{occurrence-rows, parts};
 ghost use Rattle.rules.specs.Template.{components, size};
 ghost use Rattle.rules.specs.Told.{toldChecked, toldRecovered};
-ghost use Rattle.ways.specs.Counts.{counts};
+ghost use Rattle.ways.specs.Counts.{counts, aligned};
 
 // 1 of a number above 0.
 fn sign(x: u64) -> u8
@@ -52,22 +52,24 @@ fn set_flags(ways: &[u64], flags: &mut [u8])
     }
 }
 
-// The flags of a component in a sequence, from the ways of it and those after it.
+// The flags of a component in a sequence, from the ways of it and those after it. `ways` has those of the ones after it, and
+// then its own. The motif's letters are the last of `word`.
 fn mark_component(
     sequence: &[u8],
     template: Template,
-    motif: u64,
+    word: &[u8],
     component: usize,
     ways: &mut [u64],
     flags: &mut [u8],
 )
     requires { ⌜ SoundTemplate template ⌝ }
-    requires { ⌜ (component < template .count) × (length (now sequence) ≤ SequenceSet-LETTERS) × (length (now ways) ≡ SequenceSet-LETTERS) × (length (now flags) ≡ Template-COMPONENTS * SequenceSet-LETTERS) ⌝ }
-    ensures { λ _. ⌜ now (ways .exit) ≡ put (counts (drop component (parts template (size template) motif)) (map value (now (sequence .entry)))) (now (ways .entry)) ⌝ }
-    ensures { λ _. ⌜ now (flags .exit) ≡ take (component * SequenceSet-LETTERS) (now (flags .entry)) ++ (map sign (counts (drop component (parts template (size template) motif)) (map value (now (sequence .entry)))) ++ drop (component * SequenceSet-LETTERS + length (now (sequence .entry))) (now (flags .entry))) ⌝ }
+    requires { ⌜ (component < template .count) × (size template ≤ length (now word)) × (length (now sequence) ≤ SequenceSet-LETTERS) × (length (now ways) ≡ SequenceSet-LETTERS) × (length (now flags) ≡ Template-COMPONENTS * SequenceSet-LETTERS) ⌝ }
+    requires { ⌜ (component + 1 < template .count → take (length (now sequence)) (now ways) ≡ counts (aligned (drop (component + 1) (components template)) (now word)) (now sequence)) ⌝ }
+    ensures { λ _. ⌜ take (length (now (sequence .entry))) (now (ways .exit)) ≡ counts (aligned (drop component (components template)) (now (word .entry))) (now (sequence .entry)) ⌝ }
+    ensures { λ _. ⌜ now (flags .exit) ≡ take (component * SequenceSet-LETTERS) (now (flags .entry)) ++ (map sign (take (length (now (sequence .entry))) (now (ways .exit))) ++ drop (component * SequenceSet-LETTERS + length (now (sequence .entry))) (now (flags .entry))) ⌝ }
 {
-    fill(sequence, template, motif, component, ways);
     let n = sequence.len();
+    step(sequence, template, word, component, &mut ways[..n]);
     let begin = component * SequenceSet::LETTERS;
     let end = begin + n;
     set_flags(&ways[..n], &mut flags[begin..end]);
@@ -78,16 +80,24 @@ fn mark(sequence: &[u8], template: Template, motif: u64, ways: &mut [u64], flags
     requires { ⌜ SoundTemplate template ⌝ }
     requires { ⌜ (length (now sequence) ≤ SequenceSet-LETTERS) × (length (now ways) ≡ SequenceSet-LETTERS) × (length (now flags) ≡ Template-COMPONENTS * SequenceSet-LETTERS) ⌝ }
     ensures { λ _. ⌜ Flagged (parts template (size template) motif) (map value (now (sequence .entry))) (now (flags .exit)) 0 ⌝ }
-    ensures { λ _. ⌜ Counted (length (now (sequence .entry))) (now (flags .exit)) (components template) (now (ways .exit)) ⌝ }
+    ensures { λ _. ⌜ take (length (now (sequence .entry))) (now (ways .exit)) ≡ counts (parts template (size template) motif) (map value (now (sequence .entry))) ⌝ }
 {
+    let mut word = [0u8; Template::LETTERS as usize];
+    Letter::spell(motif, &mut word);
     let mut c = template.count as usize;
     while 0 < c {
         c -= 1;
-        mark_component(sequence, template, motif, c, ways, flags);
+        mark_component(sequence, template, &word, c, ways, flags);
     }
 }
 
-// The rows of one sequence.
+// How far the rows have come, and how many there are of some sequences.
+struct Listing {
+    progress: Progress,
+    length: u64,
+}
+
+// The rows of one sequence, and how many there are.
 fn list_sequence(
     sequence: &[u8],
     number: SequenceNumber,
@@ -97,18 +107,24 @@ fn list_sequence(
     flags: &mut [u8],
     done: Progress,
     out: &mut [u32],
-) -> Progress
+) -> Listing
     requires { ⌜ SoundTemplate template ⌝ }
     requires { ⌜ (number .0 ≤ SequenceSet-SEQUENCES) × (length (now sequence) ≤ SequenceSet-LETTERS) × (length (now ways) ≡ SequenceSet-LETTERS) × (length (now flags) ≡ Template-COMPONENTS * SequenceSet-LETTERS) ⌝ }
     requires { ⌜ Inside done (length (now out)) ⌝ }
-    ensures { λ r. ⌜ Inside r (length (now (out .exit))) ⌝ }
-    ensures { λ r. ⌜ buffer r (now (out .exit)) ≡ emits (suc (template .count)) (after (number .0 ∷ []) (occurrences (parts template (size template) motif) (map value (now (sequence .entry))))) (buffer done (now (out .entry))) ⌝ }
+    requires { ⌜ length (occurrences (parts template (size template) motif) (map value (now sequence))) < 2 ^ 64 ⌝ }
+    ensures { λ r. ⌜ Inside (r .progress) (length (now (out .exit))) ⌝ }
+    ensures { λ r. ⌜ buffer (r .progress) (now (out .exit)) ≡ emits (suc (template .count)) (after (number .0 ∷ []) (occurrences (parts template (size template) motif) (map value (now (sequence .entry))))) (buffer done (now (out .entry))) ⌝ }
+    ensures { λ r. ⌜ r .length ≡ length (occurrences (parts template (size template) motif) (map value (now (sequence .entry)))) ⌝ }
 {
     mark(sequence, template, motif, ways, flags);
-    list_starts(template, number, sequence.len(), flags, ways, done, out)
+    let n = sequence.len();
+    let counted = count(&ways[..n]);
+    let length = counted.occurrences;
+    let progress = list_starts(template, number, n, flags, ways, done, out);
+    Listing { progress, length }
 }
 
-// The rows of all sequences, each by its own part of the letters, from row `first` on.
+// The rows of all sequences, each by its own part of the letters, from row `first` on, and how many there are.
 fn list_sequences(
     letters: &[u8],
     lengths: &[u32],
@@ -118,37 +134,41 @@ fn list_sequences(
     ways: &mut [u64],
     flags: &mut [u8],
     out: &mut [u32],
-) -> Progress
+) -> Listing
     requires { ⌜ SoundSet (now letters) (now lengths) ⌝ }
     requires { ⌜ SoundTemplate template ⌝ }
     requires { ⌜ (length (now ways) ≡ SequenceSet-LETTERS) × (length (now flags) ≡ Template-COMPONENTS * SequenceSet-LETTERS) ⌝ }
-    ensures { λ r. ⌜ buffer r (now (out .exit)) ≡ emits (suc (template .count)) (occurrence-rows (parts template (size template) motif) (sequences (now (letters .entry)) (now (lengths .entry)))) (buffer (progress first 0 0) (now (out .entry))) ⌝ }
+    ensures { λ r. ⌜ buffer (r .progress) (now (out .exit)) ≡ emits (suc (template .count)) (occurrence-rows (parts template (size template) motif) (sequences (now (letters .entry)) (now (lengths .entry)))) (buffer (progress first 0 0) (now (out .entry))) ⌝ }
+    ensures { λ r. ⌜ r .length ≡ length (occurrence-rows (parts template (size template) motif) (sequences (now (letters .entry)) (now (lengths .entry)))) ⌝ }
 {
-    let mut p = Progress {
+    let mut progress = Progress {
         skip: first,
         rows: 0,
         at: 0,
     };
+    let mut length: u64 = 0;
     let mut begin: usize = 0;
     let mut i = 0;
     while i < lengths.len() {
         let n = lengths[i] as usize;
         let end = begin + n;
         let number = SequenceNumber(i + 1);
-        p = list_sequence(
+        let listed = list_sequence(
             &letters[begin..end],
             number,
             template,
             motif,
             ways,
             flags,
-            p,
+            progress,
             out,
         );
+        progress = listed.progress;
+        length += listed.length;
         begin = end;
         i += 1;
     }
-    p
+    Listing { progress, length }
 }
 
 // 14: a number that is no motif's.
@@ -172,7 +192,8 @@ fn check_recovery(letters: &[u8], lengths: &[u32], template: Template, motif: u6
         .then(check_motif(template, motif))
 }
 
-// What comes of it once those have passed. The list's length is counted, not listed; where no row is asked for, that is all.
+// What comes of it once those have passed. The list's length is counted, not listed; where the first row asked for lies above
+// it, all rows are passed over and nothing is written.
 fn recover_rows(
     letters: &[u8],
     lengths: &[u32],
@@ -187,16 +208,8 @@ fn recover_rows(
     ensures { λ r. ⌜ now (out .exit) ≡ (rows-rule (now (letters .entry)) (now (lengths .entry)) template motif first (now (out .entry))) .out ⌝ }
 {
     let mut ways = [0u64; SequenceSet::LETTERS];
-    let found = tally(letters, lengths, template, motif, &mut ways);
-    let length = found.occurrences;
-    if length < first {
-        return Recovered::Refused(Refusal::FirstRow);
-    }
-    if first == length {
-        return Recovered::Rows { written: 0, length };
-    }
     let mut flags = [0u8; Template::COMPONENTS as usize * SequenceSet::LETTERS];
-    let p = list_sequences(
+    let listed = list_sequences(
         letters,
         lengths,
         template,
@@ -206,7 +219,11 @@ fn recover_rows(
         &mut flags,
         out,
     );
-    let written = p.rows;
+    let length = listed.length;
+    if length < first {
+        return Recovered::Refused(Refusal::FirstRow);
+    }
+    let written = listed.progress.rows;
     Recovered::Rows { written, length }
 }
 

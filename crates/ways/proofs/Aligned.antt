@@ -1,20 +1,21 @@
 -- The parts that components are over the last letters of a word: each next one to the front takes the letters just before
 -- those of the later ones, and a pass of it turns their counts into its own.
-use mathlib.Core.Path.{_≡_, ap, _∙_}
+use mathlib.Core.Path.{_≡_, refl, sym, ap, _∙_}
 use mathlib.Core.List.{List, [], _∷_, map}
-use Prim.Native.Nat.{ℕ, zero, suc, _+_, _-_, _≤_, _<_}
+use Prim.Native.Nat.{ℕ, zero, suc, _+_, _-_, _^_, _≤_, _<_}
+use native.Mathlib.Nat.{le-trans, add-zero, pow-zero, pow-succ', pow-le-pow-right}
 use native.Mathlib.Omega.{arith}
 use lib.ListN.{length, take, drop, getD, length-take, length-drop, drop-of-length-le}
 use lib.Seq.{drop-cons, drop-drop, getD-take}
-use Rattle.rules.specs.Limits.{Template-LENGTH}
+use Rattle.rules.specs.Limits.{Template-COMPONENTS, Template-LENGTH, Template-GAP}
 use Rattle.rules.specs.Lists.{run, sum}
 use Rattle.rules.specs.Sound.{SoundComponent, SoundTemplate}
 use Rattle.rules.specs.Template.{Part, part, none, slots, components, size, cut}
 use Rattle.rules.specs.declared.Component.{Component}
 use Rattle.rules.specs.declared.Template.{Template}
 use Rattle.rules.proofs.Components.{cut-some}
-use Rattle.ways.specs.Counts.{counts, ending, leading, letters-of, aligned}
-use Rattle.ways.proofs.Counting.{ending-counts, leading-counts}
+use Rattle.ways.specs.Counts.{counts, most-ways, entry, ending, leading, letters-of, aligned}
+use Rattle.ways.proofs.Counting.{ending-counts, ending-most, leading-counts, leading-most}
 
 -- ---- dealing out the letters
 
@@ -48,8 +49,8 @@ module _ {t : Template} {cs : List Component} {w : List ℕ} (held : Held t cs w
   onward-step : (c : ℕ) → c < t .count → onward cs (t .count) c ≡ getD cs c none ∷ onward cs (t .count) (suc c)
   onward-step c h = let l : c < length (take (t .count) cs) = rw counted h in drop-cons (take (t .count) cs) c none l ∙ rw (getD-take (t .count) cs c none h)
 
-  onward-end : (c : ℕ) → suc c ≡ t .count → onward cs (t .count) (suc c) ≡ []
-  onward-end c h = drop-of-length-le (take (t .count) cs) {i = suc c} (rw counted (omega arith))
+  onward-end : (c : ℕ) → t .count ≤ c → onward cs (t .count) c ≡ []
+  onward-end c h = drop-of-length-le (take (t .count) cs) {i = c} (rw counted h)
 
   letters-step : (c : ℕ) → c < t .count → letters-of (onward cs (t .count) c) ≡ (getD cs c none) .length + letters-of (onward cs (t .count) (suc c))
   unfolding letters-of sum
@@ -59,36 +60,34 @@ module _ {t : Template} {cs : List Component} {w : List ℕ} (held : Held t cs w
   unfolding size components letters-of
   letters-fit c = let e : letters-of (take (t .count) cs) ≡ size t = rw (held .slotted) in omega (arith, held .fits, letters-within (take (t .count) cs) c)
 
-  -- where the letters of the last component begin
-  pub last-begins : (c : ℕ) → suc c ≡ t .count → ((getD cs c none) .length ≤ length w) × ((length w - (getD cs c none) .length) + letters-of (onward cs (t .count) c) ≡ length w)
+  -- past the last component none begin
+  pub begins-none : length w + letters-of (onward cs (t .count) (t .count)) ≡ length w
   unfolding letters-of sum
-  last-begins c h =
-      let l : letters-of (onward cs (t .count) c) ≡ (getD cs c none) .length + 0 = letters-step c (omega arith) ∙ rw (onward-end c h) in
-      let n = letters-fit c in
-      (omega arith, omega arith)
+  begins-none = rw (onward-end (t .count) (omega arith), add-zero (length w))
 
-  -- and those of the component d before the component c, whose own begin at b
-  module _ (c d b : ℕ) (after : suc d ≡ c) (within : c < t .count) (begins : b + letters-of (onward cs (t .count) c) ≡ length w) where
-    pub next-begins : ((getD cs d none) .length ≤ b) × ((b - (getD cs d none) .length) + letters-of (onward cs (t .count) d) ≡ length w)
-    next-begins =
-        let l : letters-of (onward cs (t .count) d) ≡ (getD cs d none) .length + letters-of (onward cs (t .count) c) = rw (← after) (letters-step d (omega arith)) in
-        let n = letters-fit d in
-        (omega arith, omega arith)
+  -- those of a component end at b, where those of the next begin
+  pub begins-more : (c b : ℕ) → c < t .count → b + letters-of (onward cs (t .count) (suc c)) ≡ length w → ((getD cs c none) .length ≤ b) × ((b - (getD cs c none) .length) + letters-of (onward cs (t .count) c) ≡ length w)
+  begins-more c b h e = let l = letters-step c h in let n = letters-fit c in (omega arith, omega arith)
 
-    -- they are no more than a component may have
-    pub next-short : length (take (b - (b - (getD cs d none) .length)) (drop (b - (getD cs d none) .length) w)) ≤ Template-LENGTH
-    next-short = simp (length-take, length-drop) (omega (arith, component-sound d (omega arith) .short))
-
-  -- the first of the parts from the component c on, whose letters begin at b
-  first-part : ℕ → ℕ → Part
-  first-part c b = part ((getD cs c none) .low) ((getD cs c none) .high) (take ((getD cs c none) .length) (drop b w))
-
+  -- the letters of the component c, which begin at b
   module _ (c b : ℕ) (within : c < t .count) (begins : b + letters-of (onward cs (t .count) c) ≡ length w) where
-    first-some : 0 < length ((first-part c b) .word)
-    unfolding first-part
-    first-some = simp (length-take, length-drop) (omega (arith, letters-step c within, component-sound c within .some))
+    abbrev pub own : List ℕ
+    own = take (b + (getD cs c none) .length - b) (drop b w)
 
-    aligned-step : aligned (onward cs (t .count) c) w ≡ first-part c b ∷ aligned (onward cs (t .count) (suc c)) w
+    pub own-ends : b + (getD cs c none) .length ≤ length w
+    own-ends = omega (arith, letters-step c within)
+
+    own-length : length own ≡ (getD cs c none) .length
+    own-length = simp (length-take, length-drop) (omega (arith, own-ends))
+
+    -- they are no more than a component may have, and at least one
+    pub own-short : length own ≤ Template-LENGTH
+    own-short = rw own-length (component-sound c within .short)
+
+    first-part : Part
+    first-part = part ((getD cs c none) .low) ((getD cs c none) .high) own
+
+    aligned-step : aligned (onward cs (t .count) c) w ≡ first-part ∷ aligned (onward cs (t .count) (suc c)) w
     unfolding aligned first-part
     aligned-step =
         let x = getD cs c none in
@@ -97,29 +96,42 @@ module _ {t : Template} {cs : List Component} {w : List ℕ} (held : Held t cs w
         let here : length w - letters-of (onward cs (t .count) c) ≡ b = omega arith in
         let next : b + x .length ≡ length w - letters-of (onward cs (t .count) (suc c)) = omega arith in
         let left : 0 < length (drop b w) = simp length-drop (omega arith) in
+        let whole : b + x .length - b ≡ x .length = omega arith in
         ap (λ n. cut (onward cs (t .count) c) (drop n w)) here
         ∙ ap (λ l. cut l (drop b w)) (onward-step c within)
         ∙ cut-some x (onward cs (t .count) (suc c)) (drop b w) left
-        ∙ ap (λ v. part (x .low) (x .high) (take (x .length) (drop b w)) ∷ cut (onward cs (t .count) (suc c)) v) (drop-drop (x .length) b w ∙ ap (λ n. drop n w) next)
+        ∙ rw whole (ap (λ v. part (x .low) (x .high) (take (x .length) (drop b w)) ∷ cut (onward cs (t .count) (suc c)) v) (drop-drop (x .length) b w ∙ ap (λ n. drop n w) next))
 
-  -- the pass of the last component
-  pub last-made : (s : List ℕ) (c : ℕ) → suc c ≡ t .count → {y : List ℕ}
-      → y ≡ map (ending (take (length w - (length w - (getD cs c none) .length)) (drop (length w - (getD cs c none) .length) w)) s) (run 1 (length s))
+    -- the pass of the last component
+    pub last-made : (s : List ℕ) → suc c ≡ t .count → {y : List ℕ} → y ≡ map (ending own s) (run 1 (length s)) → y ≡ counts (aligned (onward cs (t .count) c) w) s
+    unfolding aligned cut first-part
+    last-made s h e = e ∙ rw (aligned-step, onward-end (suc c) (omega arith)) (ending-counts first-part s)
+
+  -- the pass of a component c before others, d the next
+  pub next-made : (s : List ℕ) (c d b : ℕ) (after : d ≡ suc c) (h : d < t .count) (k : c < t .count) (e : b + letters-of (onward cs (t .count) c) ≡ length w) → {x y : List ℕ}
+      → x ≡ counts (aligned (onward cs (t .count) d) w) s
+      → y ≡ map (leading (own c b k e) ((getD cs d none) .low) ((getD cs d none) .high) s x) (run 1 (length s))
       → y ≡ counts (aligned (onward cs (t .count) c) w) s
-  unfolding aligned cut first-part
-  last-made s c h {y} e =
-      let l = last-begins c h in
-      let n : length w - (length w - (getD cs c none) .length) ≡ (getD cs c none) .length = omega arith in
-      e ∙ rw (n, aligned-step c (length w - (getD cs c none) .length) (omega arith) (l .1), onward-end c h) (ending-counts _ s)
-
-  -- the pass of the component d before the component c
-  pub next-made : (s : List ℕ) (c d b : ℕ) → suc d ≡ c → c < t .count → b + letters-of (onward cs (t .count) c) ≡ length w → {x y : List ℕ}
-      → x ≡ counts (aligned (onward cs (t .count) c) w) s
-      → y ≡ map (leading (take (b - (b - (getD cs d none) .length)) (drop (b - (getD cs d none) .length) w)) ((getD cs c none) .low) ((getD cs c none) .high) s x) (run 1 (length s))
-      → y ≡ counts (aligned (onward cs (t .count) d) w) s
   unfolding first-part
-  next-made s c d b q h e {x} {y} ex ey =
-      let l = next-begins c d b q h e in
-      let n : b - (b - (getD cs d none) .length) ≡ (getD cs d none) .length = omega arith in
-      let k : onward cs (t .count) (suc d) ≡ onward cs (t .count) c = rw q in
-      ey ∙ rw (n, ex, aligned-step d (b - (getD cs d none) .length) (omega arith) (l .1), k, aligned-step c b h e) (leading-counts _ (first-part c b) _ s (first-some c b h e))
+  next-made s c d b after h k e {x} {y} ex ey =
+      let b′ = b + (getD cs c none) .length in
+      let l : onward cs (t .count) (suc c) ≡ onward cs (t .count) d = rw after in
+      let e′ : b′ + letters-of (onward cs (t .count) d) ≡ length w = rw after (omega (arith, letters-step c k)) in
+      let some : 0 < length (own d b′ h e′) = rw (own-length d b′ h e′) (component-sound d h .some) in
+      ey ∙ rw (ex, aligned-step c b k e, l, aligned-step d b′ h e′) (leading-counts (first-part c b k e) (first-part d b′ h e′) _ s some)
+
+  -- no count is too large: k components follow, each at one of so many distances
+  counts-most : (s : List ℕ) (k c : ℕ) → suc (c + k) ≡ t .count → (p : ℕ) → entry (counts (aligned (onward cs (t .count) c) w) s) p ≤ (Template-GAP + 1) ^ k
+  counts-most s zero c h p =
+      let e : length w - letters-of (onward cs (t .count) c) + letters-of (onward cs (t .count) c) ≡ length w = omega (arith, letters-fit c) in
+      rw pow-zero (ending-most _ s (length s) (sym (last-made c _ (omega arith) e s (omega arith) refl)) p)
+  counts-most s (suc k) c h p =
+      let e : length w - letters-of (onward cs (t .count) c) + letters-of (onward cs (t .count) c) ≡ length w = omega (arith, letters-fit c) in
+      let next : suc c < t .count = omega arith in
+      rw pow-succ' (leading-most _ _ _ s _ _ (length s) (component-sound (suc c) next .near) (counts-most s k (suc c) (omega arith)) (sym (next-made s c (suc c) _ refl next (omega arith) e refl refl)) p)
+
+  pub counts-small : (s : List ℕ) (c : ℕ) → c < t .count → {y : List ℕ} → y ≡ counts (aligned (onward cs (t .count) c) w) s → (p : ℕ) → entry y p ≤ most-ways
+  counts-small s c h e p =
+      let k : suc (c + (t .count - suc c)) ≡ t .count = omega arith in
+      let few : t .count - suc c ≤ Template-COMPONENTS - 1 = omega (arith, held .sound .few) in
+      rw e (le-trans (counts-most s (t .count - suc c) c k p) (pow-le-pow-right {n = Template-GAP + 1} (omega arith) few))

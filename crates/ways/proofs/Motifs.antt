@@ -1,13 +1,13 @@
 -- The bytes that a motif is spelled in give its own parts: what is dropped from the front of a spelling leaves the spelling of
 -- the later letters, so the components from one on have the last letters whatever stands before them.
 use mathlib.Core.Path.{_≡_, refl, sym, ap, _∙_}
-use mathlib.Core.List.{List, [], _∷_, _++_, map}
+use mathlib.Core.List.{List, [], _∷_, map}
 use Prim.Native.Nat.{ℕ, zero, suc, _+_, _-_, _^_, _≤_, _<_}
 use native.Mathlib.Omega.{arith}
 use lib.ListN.{length, drop, getD, length-map}
 use Rattle.rules.specs.Letters.{letter, value}
 use Rattle.rules.specs.Limits.{Letter-BASES}
-use Rattle.rules.specs.Lists.{each, sum, put}
+use Rattle.rules.specs.Lists.{each, sum}
 use Rattle.rules.specs.Motif.{spell}
 use Rattle.rules.specs.Recovery.{whole-list}
 use Rattle.rules.specs.Sequences.{sequences}
@@ -24,7 +24,6 @@ use Rattle.rules.proofs.Tables.{map-drop}
 use Rattle.ways.specs.Counts.{counts, all-counts, positives, Tally, letters-of, aligned}
 use Rattle.ways.proofs.Aligned.{letters-within}
 use Rattle.ways.proofs.Bytes.{counts-bytes, all-bytes}
-use Rattle.ways.proofs.Counting.{length-counts}
 use Rattle.ways.proofs.Totals.{weight-counts, rows-counts}
 
 -- the parts from the component c on are those of the later components and letters alone
@@ -60,11 +59,10 @@ module _ {t : Template} (sound : SoundTemplate t) (m n : ℕ) (fits : size t ≤
   unfolding size letters-of
   aligned-from c = rw (parts-from c) (aligned-bytes (drop c (components t)) n m (omega (arith, letters-within (components t) c)))
 
-  -- the counts from the component c on in one sequence, at the front of a table
-  pub counts-motif : (c : ℕ) (s l : List ℕ) {w y : List ℕ} → w ≡ map letter (spell Letter-BASES n m)
-      → y ≡ counts (aligned (drop c (components t)) w) s → y ++ drop (length s) l ≡ put (counts (drop c (parts t (size t) m)) (map value s)) l
-  unfolding put
-  counts-motif c s l ew ey = rw (ey, ew, aligned-from c, counts-bytes _ s (spelled-from c), length-counts, length-map s value)
+  -- the counts from the component c on in one sequence
+  pub counts-motif : (c : ℕ) (s : List ℕ) {w y : List ℕ} → w ≡ map letter (spell Letter-BASES n m)
+      → y ≡ counts (aligned (drop c (components t)) w) s → y ≡ counts (drop c (parts t (size t) m)) (map value s)
+  counts-motif c s ew ey = rw (ey, ew, aligned-from c, counts-bytes _ s (spelled-from c))
 
   -- those of the whole motif in all sequences
   module _ (letters lengths : List ℕ) {w : List ℕ} (spelled : w ≡ map letter (spell Letter-BASES n m)) where

@@ -8,15 +8,14 @@ ghost use mathlib.Core.List.{map};
 ghost use Prim.Native.Nat.{ℕ, suc, _+_, _^_, _≤_, _<_};
 ghost use lib.Dec.{ltb};
 ghost use lib.ListN.{length, drop};
-ghost use Rattle.rules.specs.Letters.{value};
 ghost use Rattle.rules.specs.Limits.{Template-LENGTH, Template-GAP};
-ghost use Rattle.rules.specs.Lists.{if, run, sum, put};
+ghost use Rattle.rules.specs.Lists.{if, run, sum};
 ghost use Rattle.rules.specs.Occurrence.{stands};
 ghost use Rattle.rules.specs.Sequences.{sequences};
 ghost use Rattle.rules.specs.Sound.{SoundSet, SoundComponent, SoundTemplate};
 ghost use Rattle.rules.specs.Support.{weight, occurrence-rows, parts};
 ghost use Rattle.rules.specs.Template.{size, components};
-ghost use Rattle.ways.specs.Counts.{counts, all-counts, most-ways, Tally, entry, cell, ending, leading, aligned};
+ghost use Rattle.ways.specs.Counts.{counts, all-counts, most-ways, Tally, entry, cell, ending, leading, letters-of, aligned};
 
 // Whether the letters of `word` stand in `s` at the offset `o`.
 fn stands(word: &[u8], s: &[u8], o: usize) -> bool
@@ -98,41 +97,58 @@ fn pass(word: &[u8], next: Component, s: &[u8], ways: &mut [u64])
     }
 }
 
-// The ways of the components from `from` on. The motif's letters are the last of `word`.
-fn passes(sequence: &[u8], template: Template, word: &[u8], from: usize, ways: &mut [u64])
+// Where the letters of a component begin. The motif's letters are the last of `word`.
+fn begins(template: Template, word: &[u8], component: usize) -> usize
     requires { ⌜ SoundTemplate template ⌝ }
-    requires { ⌜ (from < template .count) × (size template ≤ length (now word)) × (length (now ways) ≡ length (now sequence)) ⌝ }
-    ensures { λ _. ⌜ now (ways .exit) ≡ counts (aligned (drop from (components template)) (now (word .entry))) (now (sequence .entry)) ⌝ }
+    requires { ⌜ (component ≤ template .count) × (size template ≤ length (now word)) ⌝ }
+    ensures { λ r. ⌜ r + letters-of (drop component (components template)) ≡ length (now (word .entry)) ⌝ }
 {
     let components = template.components();
-    let count = template.count as usize;
-    let mut c = count - 1;
-    let final_component = components[c];
-    let final_length = final_component.length as usize;
-    let mut begin = word.len() - final_length;
-    last(&word[begin..], sequence, ways);
-    while from < c {
-        let next = components[c];
+    let mut begin = word.len();
+    let mut c = template.count as usize;
+    while component < c {
         c -= 1;
         let here = components[c];
         let length = here.length as usize;
-        let end = begin;
-        begin = end - length;
-        pass(&word[begin..end], next, sequence, ways);
+        begin -= length;
     }
+    begin
 }
 
-// For each place of `sequence`, in how many ways the components from `from` on (0 is the first) can stand from there, written
-// to the front of `ways`. A start can be continued exactly if its number is above 0.
-pub fn fill(sequence: &[u8], template: Template, motif: u64, from: usize, ways: &mut [u64])
+// The ways of the components from `component` on, from those of the ones after it; of the last, whatever `ways` holds. The
+// motif's letters are the last of `word`. A start can be continued exactly if its number is above 0.
+pub fn step(sequence: &[u8], template: Template, word: &[u8], component: usize, ways: &mut [u64])
     requires { ⌜ SoundTemplate template ⌝ }
-    requires { ⌜ (from < template .count) × (length (now sequence) ≤ length (now ways)) ⌝ }
-    ensures { λ _. ⌜ now (ways .exit) ≡ put (counts (drop from (parts template (size template) motif)) (map value (now (sequence .entry)))) (now (ways .entry)) ⌝ }
+    requires { ⌜ (component < template .count) × (size template ≤ length (now word)) × (length (now ways) ≡ length (now sequence)) ⌝ }
+    requires { ⌜ (component + 1 < template .count → now ways ≡ counts (aligned (drop (component + 1) (components template)) (now word)) (now sequence)) ⌝ }
+    ensures { λ _. ⌜ now (ways .exit) ≡ counts (aligned (drop component (components template)) (now (word .entry))) (now (sequence .entry)) ⌝ }
 {
-    let mut word = [0u8; Template::LETTERS as usize];
-    Letter::spell(motif, &mut word);
-    let n = sequence.len();
-    passes(sequence, template, &word, from, &mut ways[..n]);
+    let components = template.components();
+    let count = template.count as usize;
+    let here = components[component];
+    let length = here.length as usize;
+    let begin = begins(template, word, component);
+    let end = begin + length;
+    let next = component + 1;
+    if next == count {
+        last(&word[begin..end], sequence, ways);
+        return;
+    }
+    let later = components[next];
+    pass(&word[begin..end], later, sequence, ways);
+}
+
+// The ways of all components, from the last to the first.
+fn passes(sequence: &[u8], template: Template, word: &[u8], ways: &mut [u64])
+    requires { ⌜ SoundTemplate template ⌝ }
+    requires { ⌜ (size template ≤ length (now word)) × (length (now ways) ≡ length (now sequence)) ⌝ }
+    ensures { λ _. ⌜ now (ways .exit) ≡ counts (aligned (components template) (now (word .entry))) (now (sequence .entry)) ⌝ }
+{
+    let mut c = template.count as usize;
+    while 0 < c {
+        c -= 1;
+        step(sequence, template, word, c, ways);
+    }
 }
 
 // What is found of a motif: at how many first starts an occurrence begins, and how many occurrences there are.
@@ -149,7 +165,7 @@ fn sign(x: u64) -> u64
 }
 
 // How many of the ways are above 0, and their sum.
-fn count(ways: &[u64]) -> Tallied
+pub fn count(ways: &[u64]) -> Tallied
     requires { ⌜ sum (now ways) < 2 ^ 64 ⌝ }
     ensures { λ r. ⌜ Tally (now (ways .entry)) (r .firsts) (r .occurrences) ⌝ }
 {
@@ -175,7 +191,7 @@ fn examine(sequence: &[u8], template: Template, word: &[u8], ways: &mut [u64]) -
     requires { ⌜ sum (counts (aligned (components template) (now word)) (now sequence)) < 2 ^ 64 ⌝ }
     ensures { λ r. ⌜ Tally (counts (aligned (components template) (now (word .entry))) (now (sequence .entry))) (r .firsts) (r .occurrences) ⌝ }
 {
-    passes(sequence, template, word, 0, ways);
+    passes(sequence, template, word, ways);
     count(ways)
 }
 

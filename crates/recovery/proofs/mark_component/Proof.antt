@@ -1,21 +1,28 @@
 -- `mark_component` meets its contract: the front of the ways is the counts, and its signs go to the component's part of the flags.
 use borrow.Author.Needs.{needs}
-use mathlib.Core.Path.{ap, _∙_}
+use mathlib.Core.Path.{sym}
 use Prim.Native.Nat.{_*_}
 use native.Mathlib.Omega.{arith}
-use mathlib.Core.List.{map}
 use lib.ListN.{drop, length-take, length-drop}
-use Rattle.recovery.specs.Flags.{sign}
-use Rattle.recovery.proofs.Marks.{front-counts}
+use lib.Seq.{length-take-le}
 use Rattle.descent.proofs.Parts.{put-back}
+use Rattle.recovery.proofs.Marks.{front-counts}
 use Rattle.rules.specs.Limits.{SequenceSet-LETTERS}
-use Rattle.rules.specs.Support.{parts}
-use Rattle.rules.specs.Template.{size}
+use Rattle.rules.specs.Template.{components}
+use Rattle.ways.specs.Counts.{aligned}
 use Rattle.recovery.proofs.mark_component.Statement.{statement}
 use Rattle.recovery.proofs.mark_component.Tie as tie
 
-fill-requires : tie.Need-fill-requires
-fill-requires c κs = search needs
+slice-relend-prefix-step : tie.Need-slice-relend-prefix-step
+slice-relend-prefix-step c = search needs
+
+slice-aggregate-step : tie.Need-slice-aggregate-step
+slice-aggregate-step c = let b = c .before .before .before .before .before in sym (length-take-le _ (b .args .ways .now) (omega (arith, b .pre .1 .0)))
+
+step-requires : tie.Need-step-requires
+step-requires c κs =
+    let b = c .before .before .before .before .before in
+    (b .pre .0, ((b .pre .1 .0 .0, b .pre .1 .0 .1, length-take-le _ (b .args .ways .now) (omega (arith, b .pre .1 .0))), b .pre .1 .1))
 
 mul-begin : tie.Need-mul-begin
 mul-begin c = search needs
@@ -49,16 +56,17 @@ same-length-2 c = search needs
 
 returns : tie.Need-returns
 returns c =
-    let a = c .before .before .before .before .before .before .before .before .before .before .before .before .args in
-    let e = c .before .before .before .before .before .before .before .fill .ensures in
-    let front = front-counts (drop (a .component) (parts (a .template) (size (a .template)) (a .motif))) (a .sequence .now) (a .ways .now) e in
-    (e, put-back (a .component * SequenceSet-LETTERS) _ (a .flags .now) (omega arith) (c .before .before .set-flags .ensures ∙ ap (map sign) front))
+    let a = c .before .before .before .before .before .before .before .before .before .before .before .before .before .args in
+    let e = c .before .before .before .before .before .before .before .step .ensures in
+    (front-counts (aligned (drop (a .component) (components (a .template))) (a .word .now)) (a .sequence .now) (a .ways .now) e, put-back (a .component * SequenceSet-LETTERS) _ (a .flags .now) (omega arith) (c .before .before .set-flags .ensures))
 
 pub mark-component-spec : {M : Type 1} → statement M
 mark-component-spec =
     tie.close
     (tie.spec
-    fill-requires
+    slice-relend-prefix-step
+    slice-aggregate-step
+    step-requires
     mul-begin
     add-end
     slice-reshare-prefix-set-flags
