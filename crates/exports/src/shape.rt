@@ -1,10 +1,11 @@
 // A template from and to numbers: length, low and high of each of its slots in turn.
 ghost use mathlib.Core.Path.{_≡_};
-ghost use Prim.Native.Nat.{_≤_, min};
+ghost use Prim.Native.Nat.{_≤_};
 ghost use lib.ListN.{getD};
 ghost use Rattle.exports.specs.Shape.{slot-at, template-of, shape-of, fill};
 use rules::Component;
 use rules::Template;
+use rules::least;
 
 // The number at an index of a shape, and 0 past its end.
 fn at(shape: &[u16], i: usize) -> u16
@@ -63,13 +64,6 @@ fn numbers(t: Template) -> [u16; 18]
         t.c6.low,
         t.c6.high,
     ]
-}
-
-// The lesser of two.
-fn least(a: usize, b: usize) -> usize
-    ensures { λ r. ⌜ r ≡ min a b ⌝ }
-{
-    if a <= b { a } else { b }
 }
 
 // Copies numbers to the front of a table, as many as it has room for.
