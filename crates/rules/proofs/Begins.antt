@@ -5,7 +5,6 @@ use mathlib.Core.Logic.{inr}
 use mathlib.Core.Bool.{true}
 use mathlib.Core.List.{List}
 use Prim.Native.Nat.{ℕ, zero, suc}
-use native.Mathlib.Omega.{arith}
 use Rattle.rules.specs.Calls.{begun, begin-rule}
 use Rattle.rules.specs.Limits.{Letter-BASES}
 use Rattle.rules.specs.Refusals.{first, new-checks}
@@ -14,25 +13,20 @@ use Rattle.rules.specs.Sound.{SoundTemplate}
 use Rattle.rules.specs.Support.{frequent}
 use Rattle.rules.specs.Template.{trimmed}
 use Rattle.rules.specs.Told.{gives}
-use Rattle.rules.specs.Walk.{exact, first-place, candidate, spelled}
+use Rattle.rules.specs.Walk.{exact, walk-over, walk-of, first-place}
 use Rattle.rules.specs.declared.Search.{Search}
 use Rattle.rules.specs.declared.Template.{Template}
-use Rattle.rules.proofs.Candidates.{Candidate}
-use Rattle.rules.proofs.Places.{walk-of, passing-rule, passing-passes}
-use Rattle.rules.proofs.Prefix.{exact-deep}
+use Rattle.rules.proofs.Candidates.{first-candidate}
+use Rattle.rules.proofs.Places.{passing-rule, passing-passes}
+use Rattle.rules.proofs.Prefix.{walk-lawful}
 use Rattle.rules.proofs.Saves.{unless-gives}
 use Rattle.rules.proofs.Sound.{SoundNew, SoundSearch, new-sound}
 use Rattle.rules.proofs.Trimmed.{trimmed-twice, trimmed-sound, trimmed-size, trimmed-parts}
 
--- A is a candidate of every search
-pub first-candidate : (t : Template) (quorum : ℕ) (ss : List (List ℕ)) → SoundTemplate t → Candidate (exact t quorum ss) first-place
-unfolding candidate spelled exact frequent
-first-candidate t quorum ss o = record { most = exact-deep t quorum ss o; below = omega arith; is = refl }
-
 -- the walk of a trimmed template is the walk of the template
-pub exact-trimmed : (t : Template) (quorum : ℕ) (ss : List (List ℕ)) → exact (trimmed t) quorum ss ≡ exact t quorum ss
+pub walk-trimmed : (t : Template) (quorum : ℕ) (ss : List (List ℕ)) → walk-over (trimmed t) quorum ss ≡ walk-over t quorum ss
 unfolding exact frequent
-exact-trimmed t quorum ss = λ i. record { base = Letter-BASES; may = λ j m. true; good = fun-ext (λ j. fun-ext (same j)) i; depth = trimmed-size t i }
+walk-trimmed t quorum ss = λ i. record { base = Letter-BASES; may = λ j m. true; good = fun-ext (λ j. fun-ext (same j)) i; depth = trimmed-size t i }
   where
     same : (j m : ℕ) → frequent (trimmed t) quorum ss j m ≡ frequent t quorum ss j m
     same zero m = refl
@@ -44,7 +38,7 @@ pub record Beginning (letters lengths : List ℕ) (t : Template) (quorum : ℕ) 
   pub sound : SoundSearch letters lengths s
   pub trim : trimmed (s .template) ≡ s .template
   pub at : s .place ≡ first-place
-  pub walk : walk-of letters lengths s ≡ exact t quorum (sequences letters lengths)
+  pub walk : walk-of letters lengths s ≡ walk-over t quorum (sequences letters lengths)
   pub template : SoundTemplate t
 
 module _ (letters lengths : List ℕ) (t : Template) (quorum : ℕ) where
@@ -53,7 +47,7 @@ module _ (letters lengths : List ℕ) (t : Template) (quorum : ℕ) where
   begun-sound o =
       let k = trimmed-sound t (o .template) in
       let ss = sequences letters lengths in
-      let p = inr (first-candidate (trimmed t) quorum ss k) in
+      let p = inr (first-candidate (walk-over (trimmed t) quorum ss) (walk-lawful (trimmed t) quorum ss k)) in
       record {
         set = o .set;
         template = k;
@@ -79,6 +73,6 @@ module _ (letters lengths : List ℕ) (t : Template) (quorum : ℕ) where
             sound = begun-sound o;
             trim = trimmed-twice t;
             at = refl;
-            walk = exact-trimmed t quorum (sequences letters lengths);
+            walk = walk-trimmed t quorum (sequences letters lengths);
             template = o .template;
           }

@@ -6,8 +6,8 @@ use mathlib.Core.List.{List, [], _∷_, _++_, List·Memᴰ, List·Memᴰ·head, 
 use Prim.Native.Nat.{ℕ, zero, suc, _+_, _*_, _/_, _^_, _≤_, _<_}
 use native.Mathlib.Nat.{div-add-mod', mod-lt, pow-zero, pow-suc, mul-le-mul-right, div-lt-iff-lt-mul}
 use native.Mathlib.Omega.{arith}
-use Rattle.rules.specs.Lists.{if, each}
-use Rattle.rules.specs.Walk.{Walk, place, children, under, from, next, start, spelled, candidate}
+use Rattle.rules.specs.Lists.{run, if, keep, each}
+use Rattle.rules.specs.Walk.{Walk, Lawful, place, first-place, choose, children, under, from, next, start, spelled, candidate}
 use Rattle.rules.specs.declared.Place.{Place}
 use Rattle.rules.proofs.Tests.{both}
 use Rattle.rules.proofs.Step.{block, whole, step-at, at-end}
@@ -20,8 +20,23 @@ pub record Candidate (W : Walk) (p : Place) : Type 0 where
   pub below : p .number < W .base ^ p .letters
   pub is : candidate W (p .letters) (p .number) ≡ true
 
-module _ (W : Walk) (pos : 1 ≤ W .base) where
+module _ (W : Walk) (L : Lawful W) where
   open Walk W using (base, may, good, depth)
+
+  -- a search starts at A, which is a candidate
+  pub start-first : start W ≡ first-place
+  unfolding start children keep run
+  start-first = go base (L .pos)
+    where
+      go : (n : ℕ) → 1 ≤ n → choose (place 0 0) 1 (keep (may 1) (run (0 * base) n)) ≡ place 1 0
+      go zero h = absurd (omega arith)
+      go (suc n) h = let q : 0 * base ≡ 0 = omega arith in rw (q, L .first)
+
+  pub first-candidate : Candidate W first-place
+  unfolding candidate spelled
+  first-candidate =
+      let q : 0 / base ≡ 0 = block base 0 0 (omega arith) (omega (arith, L .pos)) in
+      record { most = L .deep; below = rw (pow-suc, pow-zero) (omega (arith, L .pos)); is = rw (L .first, q, L .root) }
 
   self-in : (d j m : ℕ) → List·Memᴰ (place j m) (under W d j m)
   unfolding under
@@ -77,75 +92,74 @@ module _ (W : Walk) (pos : 1 ≤ W .base) where
       go false f (inr h) ih = absurd (List·Memᴰ·not-nil h)
 
   -- what a search from q examines later it would be left with from there
-  pub reach : (L : List Place) (q p : Place) → q .letters ≤ depth → from W q ≡ L → List·Memᴰ p L → (taken : List Place) × (from W q ≡ taken ++ from W p)
+  pub reach : (l : List Place) (q p : Place) → q .letters ≤ depth → from W q ≡ l → List·Memᴰ p l → (taken : List Place) × (from W q ≡ taken ++ from W p)
   reach [] q p h e m = absurd (List·Memᴰ·not-nil m)
-  reach (y ∷ L) q p h e m = go (q .letters) refl (List·Memᴰ·cases-cons m) (λ e m. reach L (next W q) p (next-size W q h) e m)
+  reach (y ∷ l) q p h e m = go (q .letters) refl (List·Memᴰ·cases-cons m) (λ e m. reach l (next W q) p (next-size W q h) e m)
     where
-      go : (n : ℕ) → q .letters ≡ n → (p ≡ y) ⊎ List·Memᴰ p L → (from W (next W q) ≡ L → List·Memᴰ p L → (taken : List Place) × (from W (next W q) ≡ taken ++ from W p)) → (taken : List Place) × (from W q ≡ taken ++ from W p)
-      go zero f c ih = absurd (nil≢cons (sym (at-end W pos q f) ∙ e))
-      go (suc n) f (inl c) ih = ([], ap (from W) (head-eq-of-cons-eq (sym (step-at W pos q (omega arith) h) ∙ e) ∙ sym c))
-      go (suc n) f (inr c) ih = let s = step-at W pos q (omega arith) h in let r = ih (tail-eq-of-cons-eq (sym s ∙ e)) c in (q ∷ r .0, s ∙ ap (λ ps. q ∷ ps) (r .1))
+      go : (n : ℕ) → q .letters ≡ n → (p ≡ y) ⊎ List·Memᴰ p l → (from W (next W q) ≡ l → List·Memᴰ p l → (taken : List Place) × (from W (next W q) ≡ taken ++ from W p)) → (taken : List Place) × (from W q ≡ taken ++ from W p)
+      go zero f c ih = absurd (nil≢cons (sym (at-end W (L .pos) q f) ∙ e))
+      go (suc n) f (inl c) ih = ([], ap (from W) (head-eq-of-cons-eq (sym (step-at W (L .pos) q (omega arith) h) ∙ e) ∙ sym c))
+      go (suc n) f (inr c) ih = let s = step-at W (L .pos) q (omega arith) h in let r = ih (tail-eq-of-cons-eq (sym s ∙ e)) c in (q ∷ r .0, s ∙ ap (λ ps. q ∷ ps) (r .1))
 
-  module _ (anti : (j m : ℕ) → good (suc j) m ≡ true → good j (m / base) ≡ true) (deep : 1 ≤ depth) (root : good 0 0 ≡ true) where
-    -- the prefix one letter shorter is good
-    abbrev Hope : ℕ → ℕ → Type 0
-    Hope zero m = Unit {0}
-    Hope (suc j) m = good j (m / base) ≡ true
+  -- the prefix one letter shorter is good
+  abbrev Hope : ℕ → ℕ → Type 0
+  Hope zero m = Unit {0}
+  Hope (suc j) m = good j (m / base) ≡ true
 
-    hope : (j m : ℕ) → good j m ≡ true → Hope j m
-    hope zero m g = tt
-    hope (suc j) m g = anti j m g
+  hope : (j m : ℕ) → good j m ≡ true → Hope j m
+  hope zero m g = tt
+  hope (suc j) m g = L .anti j m g
 
-    visited : (j m : ℕ) → j ≤ depth → m < base ^ j → spelled W j m ≡ true → Hope j m → List·Memᴰ (place j m) (under W depth 0 0)
-    unfolding spelled children
-    visited zero m l b s g = let e : m ≡ 0 = omega (arith, pow-zero base) in rw e (self-in depth 0 0)
-    visited (suc j) m l b s g =
-        let e = both (may (suc j) m) (spelled W j (m / base)) .0 s in
-        let b′ : m / base < base ^ j = div-lt-iff-lt-mul {x = m} {y = base ^ j} pos .1 (rw pow-suc at b) in
-        child depth 0 0 j (m / base) m (visited j (m / base) (omega arith) b′ (e .1) (hope j (m / base) g)) g (omega arith)
-        (keep-run-in (may (suc j)) (m / base * base) base m (omega (arith, div-add-mod' m base)) (omega (arith, div-add-mod' m base, mod-lt m {m = base} pos)) (e .0))
+  visited : (j m : ℕ) → j ≤ depth → m < base ^ j → spelled W j m ≡ true → Hope j m → List·Memᴰ (place j m) (under W depth 0 0)
+  unfolding spelled children
+  visited zero m l b s g = let e : m ≡ 0 = omega (arith, pow-zero base) in rw e (self-in depth 0 0)
+  visited (suc j) m l b s g =
+      let e = both (may (suc j) m) (spelled W j (m / base)) .0 s in
+      let b′ : m / base < base ^ j = div-lt-iff-lt-mul {x = m} {y = base ^ j} (L .pos) .1 (rw pow-suc at b) in
+      child depth 0 0 j (m / base) m (visited j (m / base) (omega arith) b′ (e .1) (hope j (m / base) g)) g (omega arith)
+      (keep-run-in (may (suc j)) (m / base * base) base m (omega (arith, div-add-mod' m base)) (omega (arith, div-add-mod' m base, mod-lt m {m = base} (L .pos))) (e .0))
 
-    -- T6
-    pub all-candidates : (p : Place) → Candidate W p → List·Memᴰ p (from W (start W))
-    unfolding candidate spelled
-    all-candidates p c = go (p .letters) (p .number) (c .most) (c .below) (c .is)
-      where
-        in-tail : (j m : ℕ) → (place (suc j) m ≡ place 0 0) ⊎ List·Memᴰ (place (suc j) m) (from W (start W)) → List·Memᴰ (place (suc j) m) (from W (start W))
-        in-tail j m (inl e) = absurd (omega (arith, ap (λ (p : Place). p .letters) e))
-        in-tail j m (inr h) = h
+  -- T6
+  pub all-candidates : (p : Place) → Candidate W p → List·Memᴰ p (from W (start W))
+  unfolding candidate spelled
+  all-candidates p c = go (p .letters) (p .number) (c .most) (c .below) (c .is)
+    where
+      in-tail : (j m : ℕ) → (place (suc j) m ≡ place 0 0) ⊎ List·Memᴰ (place (suc j) m) (from W (start W)) → List·Memᴰ (place (suc j) m) (from W (start W))
+      in-tail j m (inl e) = absurd (omega (arith, ap (λ (p : Place). p .letters) e))
+      in-tail j m (inr h) = h
 
-        go : (j m : ℕ) → j ≤ depth → m < base ^ j → candidate W j m ≡ true → List·Memᴰ (place j m) (from W (start W))
-        go zero m l b e = absurd (false≢true e)
-        go (suc j) m l b e = let f = both (may (suc j) m) (spelled W j (m / base) && good j (m / base)) .0 e in let g = both (spelled W j (m / base)) (good j (m / base)) .0 (f .1) in
-            in-tail j m (List·Memᴰ·cases-cons (rw (whole W pos deep root) at (visited (suc j) m l b (rw (f .0) (g .0)) (g .1))))
+      go : (j m : ℕ) → j ≤ depth → m < base ^ j → candidate W j m ≡ true → List·Memᴰ (place j m) (from W (start W))
+      go zero m l b e = absurd (false≢true e)
+      go (suc j) m l b e = let f = both (may (suc j) m) (spelled W j (m / base) && good j (m / base)) .0 e in let g = both (spelled W j (m / base)) (good j (m / base)) .0 (f .1) in
+          in-tail j m (List·Memᴰ·cases-cons (rw (whole W (L .pos) (L .deep) (L .root)) at (visited (suc j) m l b (rw (f .0) (g .0)) (g .1))))
 
-    pub only-candidates : (p : Place) → List·Memᴰ p (from W (start W)) → Candidate W p
-    unfolding under spelled
-    only-candidates p h = go depth refl deep (whole W pos deep root)
-      where
-        go : (D : ℕ) → D ≡ depth → 1 ≤ D → under W D 0 0 ≡ place 0 0 ∷ from W (start W) → Candidate W p
-        go zero e l w = absurd (omega arith)
-        go (suc d) e l w =
-            let o = each-out (under W d 1) (children W 0 0) (rw root at (subst (λ ps. List·Memᴰ p ps) (sym (tail-eq-of-cons-eq w)) h)) in
-            let b : 0 < base ^ 0 = omega (arith, pow-zero base) in
-            let k = kid 0 0 (o .0) refl b (o .1) in
-            settle p _ (candidate-kid 0 0 (o .0) deep root refl b (o .1)) (members d 1 (o .0) p (omega arith) (k .spelt) (k .under) (o .2))
+  pub only-candidates : (p : Place) → List·Memᴰ p (from W (start W)) → Candidate W p
+  unfolding under spelled
+  only-candidates p h = go depth refl (L .deep) (whole W (L .pos) (L .deep) (L .root))
+    where
+      go : (D : ℕ) → D ≡ depth → 1 ≤ D → under W D 0 0 ≡ place 0 0 ∷ from W (start W) → Candidate W p
+      go zero e l w = absurd (omega arith)
+      go (suc d) e l w =
+          let o = each-out (under W d 1) (children W 0 0) (rw (L .root) at (subst (λ ps. List·Memᴰ p ps) (sym (tail-eq-of-cons-eq w)) h)) in
+          let b : 0 < base ^ 0 = omega (arith, pow-zero base) in
+          let k = kid 0 0 (o .0) refl b (o .1) in
+          settle p _ (candidate-kid 0 0 (o .0) (L .deep) (L .root) refl b (o .1)) (members d 1 (o .0) p (omega arith) (k .spelt) (k .under) (o .2))
 
-    -- T6 once more: the search passes through a candidate, and is left with what is from there on
-    pub passes : (p : Place) → Candidate W p → (taken : List Place) × (from W (start W) ≡ taken ++ from W p)
-    passes p c = reach (from W (start W)) (start W) p (start-size W deep) refl (all-candidates p c)
+  -- T6 once more: the search passes through a candidate, and is left with what is from there on
+  pub passes : (p : Place) → Candidate W p → (taken : List Place) × (from W (start W) ≡ taken ++ from W p)
+  passes p c = reach (from W (start W)) (start W) p (start-size W (L .deep)) refl (all-candidates p c)
 
-    pub some : (p : Place) → Candidate W p → 1 ≤ p .letters
-    unfolding candidate
-    some p c = go (p .letters) (c .is)
-      where
-        go : (j : ℕ) → candidate W j (p .number) ≡ true → 1 ≤ j
-        go zero e = absurd (false≢true e)
-        go (suc j) e = omega arith
+  pub some : (p : Place) → Candidate W p → 1 ≤ p .letters
+  unfolding candidate
+  some p c = go (p .letters) (c .is)
+    where
+      go : (j : ℕ) → candidate W j (p .number) ≡ true → 1 ≤ j
+      go zero e = absurd (false≢true e)
+      go (suc j) e = omega arith
 
-    -- a search that stands at a candidate goes on to another, or ends
-    pub next-candidate : (p : Place) → Candidate W p → 1 ≤ (next W p) .letters → Candidate W (next W p)
-    next-candidate p c h =
-        let r = passes p c in
-        let s = step-at W pos (next W p) h (next-size W p (c .most)) in
-        only-candidates (next W p) (rw (r .1, step-at W pos p (some p c) (c .most), s) (Memᴰ·append-right (r .0) (List·Memᴰ·tail (List·Memᴰ·head refl))))
+  -- a search that stands at a candidate goes on to another, or ends
+  pub next-candidate : (p : Place) → Candidate W p → 1 ≤ (next W p) .letters → Candidate W (next W p)
+  next-candidate p c h =
+      let r = passes p c in
+      let s = step-at W (L .pos) (next W p) h (next-size W p (c .most)) in
+      only-candidates (next W p) (rw (r .1, step-at W (L .pos) p (some p c) (c .most), s) (Memᴰ·append-right (r .0) (List·Memᴰ·tail (List·Memᴰ·head refl))))

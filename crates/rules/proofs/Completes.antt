@@ -1,5 +1,5 @@
--- A new search run in legs, with a save and a restore between them, lists exactly the frequent motifs: the walk's laws, read
--- of the search that begins.
+-- A new search run in legs, with a save and a restore between them, lists exactly the motifs of its walk: the walk's
+-- laws, read of the search that begins. And what these are in the exact search.
 use mathlib.Core.Path.{_≡_, refl, sym, ap, _∙_, fun-ext}
 use mathlib.Core.List.{List, [], _∷_, map}
 use Prim.Native.Nat.{ℕ, zero, suc, _^_, _≤_}
@@ -9,21 +9,21 @@ use lib.Dec.{leb}
 use Rattle.rules.specs.Calls.{begun, motif-parts, supports-of, weights-of, begin-rule}
 use Rattle.rules.specs.Legs.{Stop, ended, Stretch, legs}
 use Rattle.rules.specs.Limits.{Letter-BASES}
-use Rattle.rules.specs.Relay.{frequent-motifs, their-supports, their-weights, whole-steps, Complete, Lent, Roomy, Ample, relay}
+use Rattle.rules.specs.Relay.{frequent-motifs, whole-steps, Complete, Lent, Roomy, Ample, relay}
 use Rattle.rules.specs.Sequences.{sequences}
 use Rattle.rules.specs.Sound.{SoundTemplate}
 use Rattle.rules.specs.Support.{support, weight, parts, frequent}
 use Rattle.rules.specs.Template.{Part, size}
 use Rattle.rules.specs.Told.{gives}
-use Rattle.rules.specs.Walk.{Walk, exact, start, motifs, tries}
-use Rattle.rules.specs.declared.Place.{Place}
+use Rattle.rules.specs.Walk.{Walk, Lawful, exact, walk-over, start, motifs, tries}
 use Rattle.rules.specs.declared.Search.{Search}
 use Rattle.rules.specs.declared.Template.{Template}
 use Rattle.rules.proofs.Begins.{Beginning, begins}
+use Rattle.rules.proofs.Candidates.{start-first}
 use Rattle.rules.proofs.Legs as walked
 use Rattle.rules.proofs.Lists.{keep-same}
-use Rattle.rules.proofs.Plain.{start-plain, motifs-plain, tries-plain}
-use Rattle.rules.proofs.Prefix.{size-some, exact-anti, exact-root, exact-pos, exact-plain, exact-deep}
+use Rattle.rules.proofs.Plain.{motifs-plain, tries-plain}
+use Rattle.rules.proofs.Prefix.{size-some, exact-plain, walk-lawful}
 use Rattle.rules.proofs.Relay.{all-listed, all-tried, legs-enough}
 use Rattle.rules.proofs.Relayed.{granted, rows-of, relay-legs}
 use Rattle.rules.proofs.Trimmed.{trimmed-size, trimmed-parts}
@@ -41,18 +41,15 @@ ample-granted : (gs : List Lent) → Ample gs → walked.Ample (map granted gs)
 ample-granted [] a = tt
 ample-granted (g ∷ gs) a = (a .0, omega arith, ample-granted gs (a .4))
 
-module _ (t : Template) (quorum : ℕ) (ss : List (List ℕ)) (o : SoundTemplate t) where
-  -- the walk's motifs are the frequent ones, and its tries the paper's count
-  motifs-frequent : motifs (exact t quorum ss) ≡ frequent-motifs t quorum ss
+module _ (t : Template) (quorum : ℕ) (ss : List (List ℕ)) where
+  -- THE EXACT WALK: its motifs are those whose support reaches the quorum, and its tries the paper's count
+  pub exact-motifs : SoundTemplate t → motifs (exact t quorum ss) ≡ frequent-motifs t quorum ss
   unfolding frequent-motifs exact
-  motifs-frequent = motifs-plain (exact t quorum ss) (exact-plain t quorum ss) ∙ keep-same _ _ 0 (Letter-BASES ^ size t) (λ m h l. frequent-some t quorum ss (size t) m (size-some t o))
+  exact-motifs o = motifs-plain (exact t quorum ss) (exact-plain t quorum ss) ∙ keep-same _ _ 0 (Letter-BASES ^ size t) (λ m h l. frequent-some t quorum ss (size t) m (size-some t o))
 
-  tries-count : tries (exact t quorum ss) (size t) ≡ whole-steps t quorum ss
+  pub exact-tries : tries (exact t quorum ss) (size t) ≡ whole-steps t quorum ss
   unfolding whole-steps exact
-  tries-count = tries-plain (exact t quorum ss) (exact-plain t quorum ss) (size t)
-
-  starts-first : start (exact t quorum ss) ≡ record { letters = 1; number = 0 }
-  starts-first = start-plain (exact t quorum ss) (exact-plain t quorum ss) (exact-pos t quorum ss)
+  exact-tries = tries-plain (exact t quorum ss) (exact-plain t quorum ss) (size t)
 
 module _ (letters lengths : List ℕ) (t : Template) (quorum : ℕ) (s : Search) (e : begin-rule letters lengths t quorum ≡ gives s) where
   b : Beginning letters lengths t quorum s
@@ -62,12 +59,16 @@ module _ (letters lengths : List ℕ) (t : Template) (quorum : ℕ) (s : Search)
   ss = sequences letters lengths
 
   W : Walk
-  W = exact t quorum ss
+  W = walk-over t quorum ss
+
+  L : Lawful W
+  unfolding W
+  L = walk-lawful t quorum ss (b .template)
 
   -- the relay of a new search is legs of the walk from its start
   from-start : (gs : List Lent) → Roomy gs → relay letters lengths gs s ≡ rows-of letters lengths s (legs W (map granted gs) (start W))
   unfolding W ss
-  from-start gs h = relay-legs letters lengths gs s (b .sound) (b .trim) h ∙ rw (b .walk, b .at, starts-first t quorum (sequences letters lengths) (b .template))
+  from-start gs h = relay-legs letters lengths gs s (b .sound) (b .trim) h ∙ rw (b .walk, b .at, start-first W L)
 
   -- the search's template reads as the one given
   parts-same : (m : ℕ) → parts (s .template) (size (s .template)) m ≡ parts t (size t) m
@@ -79,43 +80,30 @@ module _ (letters lengths : List ℕ) (t : Template) (quorum : ℕ) (s : Search)
 
   -- what ended is complete
   complete : (l : Stretch) → l .motifs ≡ motifs W → l .steps ≡ tries W (W .depth)
-      → Complete t quorum ss (l .steps) (l .motifs) (supports-of letters lengths s (l .motifs)) (weights-of letters lengths s (l .motifs))
-  unfolding W ss supports-of weights-of their-supports their-weights exact
+      → Complete W (parts t (size t)) ss (l .steps) (l .motifs) (supports-of letters lengths s (l .motifs)) (weights-of letters lengths s (l .motifs))
+  unfolding ss supports-of weights-of
   complete l e f =
       record {
-        motifs-are = m;
-        supports-are = column (λ cs. support cs (sequences letters lengths)) (l .motifs) ∙ ap (map _) m;
-        weights-are = column (λ cs. weight cs (sequences letters lengths)) (l .motifs) ∙ ap (map _) m;
-        steps-are = f ∙ tries-count t quorum ss (b .template);
+        motifs-are = e;
+        supports-are = column (λ cs. support cs (sequences letters lengths)) (l .motifs) ∙ ap (map _) e;
+        weights-are = column (λ cs. weight cs (sequences letters lengths)) (l .motifs) ∙ ap (map _) e;
+        steps-are = f;
       }
-    where
-      m : l .motifs ≡ frequent-motifs t quorum (sequences letters lengths)
-      m = e ∙ motifs-frequent t quorum (sequences letters lengths) (b .template)
 
-  -- legs that end have listed exactly the frequent motifs, in as many steps as the paper counts
+  -- legs that end have listed exactly the walk's motifs, in as many steps as it has candidates
   pub relay-complete : (gs : List Lent) → Roomy gs → (relay letters lengths gs s) .answer ≡ gives ended
-      → let r = relay letters lengths gs s in Complete t quorum (sequences letters lengths) (r .steps) (r .motifs) (r .supports) (r .weights)
+      → let r = relay letters lengths gs s in Complete (walk-over t quorum (sequences letters lengths)) (parts t (size t)) (sequences letters lengths) (r .steps) (r .motifs) (r .supports) (r .weights)
   unfolding W ss
   relay-complete gs h a =
       let l = legs W (map granted gs) (start W) in
       let q : l .stop ≡ ended = gives-same _ _ (sym (ap (λ r. r .answer) (from-start gs h)) ∙ a) in
-      let ss = sequences letters lengths in
-      let deep = exact-deep t quorum ss (b .template) in
-      rw (from-start gs h)
-      (complete l
-      (all-listed W (exact-pos t quorum ss) deep (exact-root t quorum ss) (exact-anti t quorum ss) (map granted gs) q)
-      (all-tried W (exact-pos t quorum ss) deep (exact-root t quorum ss) (exact-anti t quorum ss) (map granted gs) q))
+      rw (from-start gs h) (complete l (all-listed W L (map granted gs) q) (all-tried W L (map granted gs) q))
 
   -- legs with budget and room end, if there are as many as the whole search has steps
-  pub relay-ends : (gs : List Lent) → Roomy gs → Ample gs → whole-steps t quorum (sequences letters lengths) ≤ length gs → (relay letters lengths gs s) .answer ≡ gives ended
-  unfolding W ss exact
+  pub relay-ends : (gs : List Lent) → Roomy gs → Ample gs → (let W = walk-over t quorum (sequences letters lengths) in tries W (W .depth) ≤ length gs) → (relay letters lengths gs s) .answer ≡ gives ended
+  unfolding W ss
   relay-ends gs h a k =
-      let ss = sequences letters lengths in
-      let deep = exact-deep t quorum ss (b .template) in
-      let one : 1 ≤ (start W) .letters = omega (arith, ap (λ (p : Place). p .letters) (starts-first t quorum ss (b .template))) in
-      let enough : tries W (W .depth) ≤ length (map granted gs) = omega (arith, tries-count t quorum ss (b .template), length-map gs granted) in
-      ap (λ r. r .answer) (from-start gs h)
-      ∙ ap gives (legs-enough W (exact-pos t quorum ss) deep (exact-root t quorum ss) (exact-anti t quorum ss) (map granted gs) (ample-granted gs a) one enough)
+      ap (λ r. r .answer) (from-start gs h) ∙ ap gives (legs-enough W L (map granted gs) (ample-granted gs a) (omega (arith, k, length-map gs granted)))
 
   -- and no call on the way is refused
   pub relay-answers : (gs : List Lent) → Roomy gs → (a : Stop) × ((relay letters lengths gs s) .answer ≡ gives a)

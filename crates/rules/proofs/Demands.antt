@@ -23,23 +23,25 @@ use Rattle.rules.specs.Sound.{SoundSet, SoundTemplate}
 use Rattle.rules.specs.Support.{support, parts}
 use Rattle.rules.specs.Template.{size, trimmed}
 use Rattle.rules.specs.Told.{Told, gives, refuses, Verdict, fine, refused, Counts}
-use Rattle.rules.specs.Walk.{Walk, ended-place, exact, from, start, listed}
+use Rattle.rules.specs.Walk as walk
+use Rattle.rules.specs.Walk.{Walk, Lawful, ended-place, exact, walk-over, walk-of, from, start, listed, spelled, tries}
 use Rattle.rules.specs.declared.Place.{Place}
 use Rattle.rules.specs.declared.Search.{Search}
 use Rattle.rules.specs.declared.Template.{Template}
 use Rattle.rules.proofs.Bound.{list-bound}
-use Rattle.rules.proofs.Completes.{relay-complete, relay-ends, relay-answers}
+use Rattle.rules.proofs.Completes.{exact-motifs, exact-tries, relay-complete, relay-ends, relay-answers}
 use Rattle.rules.proofs.Legs.{Passed, leg-law}
 use Rattle.rules.proofs.LowFirst.{Bytes}
 use Rattle.rules.proofs.Members.{keep-run-in, keep-run-out}
 use Rattle.rules.proofs.OccurrenceOrder.{keep-run-rising, rows-in-order}
 use Rattle.rules.proofs.Occurs.{parts-worded, parts-some, rows-are}
 use Rattle.rules.proofs.Passing.{passing-from, from-passing}
-use Rattle.rules.proofs.Places.{walk-of, sound-passing, passing-rule, passing-passes, place-deep}
-use Rattle.rules.proofs.Prefix.{size-some, exact-anti, exact-root, exact-pos, exact-deep}
+use Rattle.rules.proofs.Places.{sound-passing, passing-rule, passing-passes, place-deep}
+use Rattle.rules.proofs.Prefix.{size-some, walk-lawful}
 use Rattle.rules.proofs.Saves.{restore-exactly, restore-saved, save-restored, cut-refused}
 use Rattle.rules.proofs.Sound.{SoundSearch, SoundBytes, search-sound}
 use Rattle.rules.proofs.Tables.{put-front}
+use Rattle.rules.proofs.Tests.{both}
 use Rattle.rules.proofs.Ways.{support-counts, support-sequences}
 
 -- ---- DEMAND 1: a call refuses exactly what its checks refuse, with the number and place of the first that applies. A refused
@@ -72,7 +74,12 @@ pub record Demand1 : Type 0 where
 -- ---- DEMAND 2: the list
 
 pub record Demand2 : Type 0 where
-  -- the list holds exactly the motifs whose support reaches the quorum, each once, in letter order
+  -- the list of a walk holds exactly its good motifs, each once, in letter order
+  pub motifs-of : (W : Walk) (m : ℕ) → List·Memᴰ m (walk.motifs W) ↔ ((m < W .base ^ W .depth) × (spelled W (W .depth) m ≡ true) × (W .good (W .depth) m ≡ true))
+  pub rising : (W : Walk) → Rising (walk.motifs W)
+  -- that of the exact walk those whose support reaches the quorum; and its steps are 4 times the frequent prefixes
+  pub exactly : (t : Template) (quorum : ℕ) (ss : List (List ℕ)) → SoundTemplate t → walk.motifs (exact t quorum ss) ≡ frequent-motifs t quorum ss
+  pub steps : (t : Template) (quorum : ℕ) (ss : List (List ℕ)) → tries (exact t quorum ss) (size t) ≡ whole-steps t quorum ss
   pub motifs : (t : Template) (quorum : ℕ) (ss : List (List ℕ)) (m : ℕ)
       → List·Memᴰ m (frequent-motifs t quorum ss) ↔ ((m < Letter-BASES ^ size t) × (quorum ≤ support (parts t (size t) m) ss))
   pub in-letter-order : (t : Template) (quorum : ℕ) (ss : List (List ℕ)) → Rising (frequent-motifs t quorum ss)
@@ -85,7 +92,7 @@ pub record Demand2 : Type 0 where
       → begin-rule letters lengths t quorum ≡ gives s
       → (leg-rule letters lengths s budget motifs supports weights) .told .answer ≡ gives ended
       → let l = leg-rule letters lengths s budget motifs supports weights in let n = l .told .rows in
-      Complete t quorum (sequences letters lengths) (l .told .steps) (take n (l .motifs)) (take n (l .supports)) (take n (l .weights))
+      Complete (walk-over t quorum (sequences letters lengths)) (parts t (size t)) (sequences letters lengths) (l .told .steps) (take n (l .motifs)) (take n (l .supports)) (take n (l .weights))
   -- recovery's list holds every occurrence that respects the gaps, once, in order, and nothing else
   pub recovered : (t : Template) → SoundTemplate t → (ss : List (List ℕ)) (m : ℕ) (row : List ℕ)
       → List·Memᴰ row (whole-list t ss m)
@@ -120,10 +127,10 @@ pub record Demand3 : Type 0 where
   -- the lists of a new search's legs, laid end to end, are demand 2's list once one answers ended, and the steps add up
   pub end-to-end : (letters lengths : List ℕ) (t : Template) (quorum : ℕ) (s : Search) (gs : List Lent) → begin-rule letters lengths t quorum ≡ gives s → Roomy gs
       → (relay letters lengths gs s) .answer ≡ gives ended
-      → let r = relay letters lengths gs s in Complete t quorum (sequences letters lengths) (r .steps) (r .motifs) (r .supports) (r .weights)
+      → let r = relay letters lengths gs s in Complete (walk-over t quorum (sequences letters lengths)) (parts t (size t)) (sequences letters lengths) (r .steps) (r .motifs) (r .supports) (r .weights)
   -- it ends within that many legs, if each has a budget and room of at least one
   pub ends : (letters lengths : List ℕ) (t : Template) (quorum : ℕ) (s : Search) (gs : List Lent) → begin-rule letters lengths t quorum ≡ gives s → Roomy gs → Ample gs
-      → whole-steps t quorum (sequences letters lengths) ≤ length gs → (relay letters lengths gs s) .answer ≡ gives ended
+      → (let W = walk-over t quorum (sequences letters lengths) in tries W (W .depth) ≤ length gs) → (relay letters lengths gs s) .answer ≡ gives ended
   -- nothing on the way is refused
   pub answers : (letters lengths : List ℕ) (t : Template) (quorum : ℕ) (s : Search) (gs : List Lent) → begin-rule letters lengths t quorum ≡ gives s → Roomy gs
       → (a : Stop) × ((relay letters lengths gs s) .answer ≡ gives a)
@@ -185,7 +192,7 @@ one-leg-complete : (letters lengths : List ℕ) (t : Template) (quorum : ℕ) (s
     → begin-rule letters lengths t quorum ≡ gives s
     → (leg-rule letters lengths s budget motifs supports weights) .told .answer ≡ gives ended
     → let l = leg-rule letters lengths s budget motifs supports weights in let n = l .told .rows in
-    Complete t quorum (sequences letters lengths) (l .told .steps) (take n (l .motifs)) (take n (l .supports)) (take n (l .weights))
+    Complete (walk-over t quorum (sequences letters lengths)) (parts t (size t)) (sequences letters lengths) (l .told .steps) (take n (l .motifs)) (take n (l .supports)) (take n (l .weights))
 unfolding relay lent
 one-leg-complete letters lengths t quorum s budget motifs supports weights b e =
     let g : Lent = lent budget motifs supports weights in
@@ -198,9 +205,16 @@ recovered-page fine a c xs out e = (cc, refl)
 recovered-page (refused n p) a c xs out e = (cc, cc)
 
 pub demand2 : Demand2
-unfolding frequent-motifs whole-list recover-rule
+unfolding frequent-motifs whole-list recover-rule walk.motifs
 demand2 =
     record {
+      motifs-of = λ W m. (
+        λ h. let o = keep-run-out _ 0 (W .base ^ W .depth) m h in (omega (arith, o .1), both (spelled W (W .depth) m) _ .0 (o .2) .0, both (spelled W (W .depth) m) _ .0 (o .2) .1),
+        λ h. keep-run-in _ 0 (W .base ^ W .depth) m (omega arith) (omega (arith, h .0)) (both _ _ .1 (h .1, h .2)),
+      );
+      rising = λ W. keep-run-rising _ 0 (W .base ^ W .depth);
+      exactly = exact-motifs;
+      steps = exact-tries;
       motifs = λ t quorum ss m. (
         λ h. let o = keep-run-out _ 0 (Letter-BASES ^ size t) m h in (omega (arith, o .1), leb-true _ _ (o .2)),
         λ h. keep-run-in _ 0 (Letter-BASES ^ size t) m (omega arith) (omega (arith, h .0)) (le-leb _ _ (h .1)),
@@ -224,7 +238,7 @@ leg-between letters lengths s budget motifs supports weights e =
     let W : Walk = walk-of letters lengths s in
     let room : ℕ = min (length motifs) (min (length supports) (length weights)) in
     let o : SoundSearch letters lengths s = search-sound letters lengths s e in
-    let r : Passed W (s .place) (leg W budget room (s .place)) = leg-law W (exact-pos (s .template) (s .quorum) (sequences letters lengths)) budget room (s .place) (place-deep letters lengths s o) in
+    let r : Passed W (s .place) (leg W budget room (s .place)) = leg-law W (walk-lawful (s .template) (s .quorum) (sequences letters lengths) (o .template) .pos) budget room (s .place) (place-deep letters lengths s o) in
     rw e (r .taken, r .split, r .counts, put-front (length ((leg W budget room (s .place)) .motifs)) ((leg W budget room (s .place)) .motifs) motifs refl ∙ r .lists)
 
 -- bytes that are well formed, with a place that the search passes through, pass the checks, and back
@@ -233,13 +247,13 @@ well-formed letters lengths bs o =
     let k = o .search in
     let t = read-search bs .template in let q = read-search bs .quorum in let ss = sequences letters lengths in (
       record { set = k .set; sized = o .sized; laid-out = o .laid-out; template = k .template; count = k .count; total = k .total; some = k .some; most = k .most },
-      passing-from (exact t q ss) (exact-pos t q ss) (exact-anti t q ss) (exact-deep t q ss (k .template)) (exact-root t q ss) _ (sound-passing letters lengths (read-search bs) k),
+      passing-from (walk-over t q ss) (walk-lawful t q ss (k .template)) _ (sound-passing letters lengths (read-search bs) k),
     )
 
 passes-checks : (letters lengths bs : List ℕ) → WellFormed letters lengths bs → Through letters lengths (read-search bs) → SoundBytes letters lengths bs
 passes-checks letters lengths bs w h =
     let t = read-search bs .template in let q = read-search bs .quorum in let ss = sequences letters lengths in
-    let p = from-passing (exact t q ss) (exact-pos t q ss) (exact-anti t q ss) (exact-deep t q ss (w .template)) (exact-root t q ss) _ h in
+    let p = from-passing (walk-over t q ss) (walk-lawful t q ss (w .template)) _ h in
     record {
       sized = w .sized;
       laid-out = w .laid-out;

@@ -3,12 +3,12 @@ use mathlib.Core.Path.{_≡_, refl, ap}
 use mathlib.Core.Logic.{_⊎_, inl, inr}
 use mathlib.Core.Bool.{Bool, true, false, _&&_}
 use mathlib.Core.List.{List, [], _∷_, List·Memᴰ}
-use Prim.Native.Nat.{ℕ, zero, suc, _/_, _≤_}
+use Prim.Native.Nat.{ℕ, zero, suc, _/_}
 use native.Mathlib.Omega.{arith}
 use lib.Dec.{ltb, eqb}
 use borrow.Author.Tests.{eqb-false}
 use Rattle.rules.specs.Lists.{if}
-use Rattle.rules.specs.Walk.{Walk, ended-place, choose, children, later, up, next, start, from, motif}
+use Rattle.rules.specs.Walk.{Walk, Lawful, ended-place, choose, children, later, up, next, start, from, motif}
 use Rattle.rules.specs.Legs.{leg}
 use Rattle.rules.specs.declared.Place.{Place}
 use Rattle.rules.proofs.Candidates.{Candidate, next-candidate, all-candidates, only-candidates}
@@ -41,14 +41,14 @@ module _ (W : Walk) where
       go true e = choose-ended u (p .letters) (children W (p .letters) (p .number)) (up-ended (p .letters) (p .number)) e
       go false e = up-ended (p .letters) (p .number) e
 
-  module _ (pos : 1 ≤ base) (anti : (j m : ℕ) → good (suc j) m ≡ true → good j (m / base) ≡ true) (deep : 1 ≤ depth) (root : good 0 0 ≡ true) where
+  module _ (L : Lawful W) where
     -- a step leads to a place that the search passes through
     pub passing-next : (p : Place) → Candidate W p → Passing W (next W p)
     passing-next p c = go ((next W p) .letters) refl
       where
         go : (n : ℕ) → (next W p) .letters ≡ n → Passing W (next W p)
         go zero e = inl (next-ended p e)
-        go (suc n) e = inr (next-candidate W pos anti deep root p c (omega arith))
+        go (suc n) e = inr (next-candidate W L p c (omega arith))
 
     -- and so does a leg
     pub passing-leg : (b r : ℕ) (p : Place) → Passing W p → Passing W ((leg W b r p) .at)
@@ -69,8 +69,8 @@ module _ (W : Walk) where
     -- the places passed through are those of the walk from its start, and the ended place
     pub passing-from : (p : Place) → Passing W p → (p ≡ ended-place) ⊎ List·Memᴰ p (from W (start W))
     passing-from p (inl e) = inl e
-    passing-from p (inr c) = inr (all-candidates W pos anti deep root p c)
+    passing-from p (inr c) = inr (all-candidates W L p c)
 
     pub from-passing : (p : Place) → (p ≡ ended-place) ⊎ List·Memᴰ p (from W (start W)) → Passing W p
     from-passing p (inl e) = inl e
-    from-passing p (inr m) = inr (only-candidates W pos anti deep root p m)
+    from-passing p (inr m) = inr (only-candidates W L p m)

@@ -13,7 +13,8 @@ use Rattle.rules.specs.Refusals.{passes?}
 use Rattle.rules.specs.Saved.{place-rule?}
 use Rattle.rules.specs.Sequences.{sequences}
 use Rattle.rules.specs.Template.{size}
-use Rattle.rules.specs.Walk.{Walk, place, ended-place, exact, candidate}
+use Rattle.rules.specs.Walk.{place, ended-place, exact, walk-over, candidate}
+pub use Rattle.rules.specs.Walk.{walk-of}
 use Rattle.rules.specs.declared.Place.{Place}
 use Rattle.rules.specs.declared.Search.{Search}
 use Rattle.rules.specs.declared.Template.{Template}
@@ -24,12 +25,8 @@ use Rattle.rules.proofs.Tests.{both, or-cases, or-true}
 same-place : (p q : Place) → p .letters ≡ q .letters → p .number ≡ q .number → p ≡ q
 same-place p q a b = λ i. record { letters = a i; number = b i }
 
--- the walk of a search over some sequences
-abbrev pub walk-of : List ℕ → List ℕ → Search → Walk
-walk-of letters lengths s = exact (s .template) (s .quorum) (sequences letters lengths)
-
 -- the place rule holds wherever the search passes
-pub passing-rule : (t : Template) (quorum : ℕ) (ss : List (List ℕ)) (p : Place) → Passing (exact t quorum ss) p → place-rule? t p ≡ true
+pub passing-rule : (t : Template) (quorum : ℕ) (ss : List (List ℕ)) (p : Place) → Passing (walk-over t quorum ss) p → place-rule? t p ≡ true
 unfolding place-rule? exact
 passing-rule t quorum ss p (inl e) = rw (e, le-leb 0 (size t) (omega arith))
 passing-rule t quorum ss p (inr c) = rw (le-leb (p .letters) (size t) (c .most)) (lt-ltb (p .number) _ (c .below))

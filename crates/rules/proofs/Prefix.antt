@@ -16,7 +16,7 @@ use Rattle.rules.specs.Occurrence.{front, stands, reach, starts, occurre
 use Rattle.rules.specs.Sound.{SoundTemplate}
 use Rattle.rules.specs.Support.{marks, support, parts, frequent}
 use Rattle.rules.specs.Template.{Part, part, slots, components, size, cut}
-use Rattle.rules.specs.Walk.{exact}
+use Rattle.rules.specs.Walk.{exact, walk-over, Lawful}
 use Rattle.rules.specs.declared.Component.{Component}
 use Rattle.rules.specs.declared.Template.{Template}
 use Rattle.rules.proofs.Lists.{some-map}
@@ -195,3 +195,10 @@ module _ (t : Template) (quorum : ℕ) (ss : List (List ℕ)) where
   pub exact-deep : SoundTemplate t → 1 ≤ (exact t quorum ss) .depth
   unfolding exact
   exact-deep = size-some t
+
+  exact-lawful : SoundTemplate t → Lawful (exact t quorum ss)
+  exact-lawful o = record { pos = exact-pos; deep = exact-deep o; first = exact-plain 1 0; root = exact-root; anti = exact-anti }
+
+  -- THE WALK of a sound template is lawful
+  pub walk-lawful : SoundTemplate t → Lawful (walk-over t quorum ss)
+  walk-lawful = exact-lawful

@@ -16,11 +16,12 @@ use Rattle.rules.specs.Saved.{bytes}
 use Rattle.rules.specs.Sequences.{sequences}
 use Rattle.rules.specs.Template.{trimmed}
 use Rattle.rules.specs.Told.{Told, gives, fine}
+use Rattle.rules.specs.Walk.{walk-of}
 use Rattle.rules.specs.declared.Place.{Place}
 use Rattle.rules.specs.declared.Search.{Search}
 use Rattle.rules.proofs.Passing.{Passing, passing-leg}
-use Rattle.rules.proofs.Places.{walk-of, sound-passing, moved-sound}
-use Rattle.rules.proofs.Prefix.{exact-anti, exact-root, exact-pos, exact-deep}
+use Rattle.rules.proofs.Places.{sound-passing, moved-sound}
+use Rattle.rules.proofs.Prefix.{walk-lawful}
 use Rattle.rules.proofs.Records.{bytes-counted}
 use Rattle.rules.proofs.Saves.{restore-saved}
 use Rattle.rules.proofs.Sound.{SoundSearch, search-fine, save-fine}
@@ -82,9 +83,7 @@ module _ (letters lengths : List ℕ) where
 
   -- a leg leads from a place that the search passes through to another
   pub leg-passing : (s : Search) → SoundSearch letters lengths s → (b r : ℕ) (p : Place) → Passing (walk-of letters lengths s) p → Passing (walk-of letters lengths s) ((leg (walk-of letters lengths s) b r p) .at)
-  leg-passing s o =
-      let t = s .template in let q = s .quorum in let ss = sequences letters lengths in
-      passing-leg (walk-of letters lengths s) (exact-pos t q ss) (exact-anti t q ss) (exact-deep t q ss (o .template)) (exact-root t q ss)
+  leg-passing s o = passing-leg (walk-of letters lengths s) (walk-lawful (s .template) (s .quorum) (sequences letters lengths) (o .template))
 
   -- what is saved into a buffer with room restores to the search
   pub saved-restores : (s : Search) (buffer : List ℕ) → SoundSearch letters lengths s → trimmed (s .template) ≡ s .template → Record-BYTES * (Template-COMPONENTS + Record-EXTRA) ≤ length buffer

@@ -10,18 +10,18 @@ use Rattle.rules.specs.Legs.{spent, Stretch, leg, legs}
 use Rattle.rules.specs.Relay.{whole-steps, Lent, Roomy, relay}
 use Rattle.rules.specs.Sequences.{sequences}
 use Rattle.rules.specs.Sound.{SoundTemplate}
-use Rattle.rules.specs.Template.{size}
 use Rattle.rules.specs.Told.{gives}
-use Rattle.rules.specs.Walk.{Walk, exact, first-place, from}
+use Rattle.rules.specs.Walk.{Walk, exact, walk-of, first-place, from}
 use Rattle.rules.specs.declared.Place.{Place}
 use Rattle.rules.specs.declared.Search.{Search}
 use Rattle.rules.specs.declared.Template.{Template}
 use Rattle.rules.proofs.Begins.{Beginning, begins}
+use Rattle.rules.proofs.Candidates.{start-first}
+use Rattle.rules.proofs.Completes.{exact-tries}
 use Rattle.rules.proofs.Few.{whole-steps-few}
 use Rattle.rules.proofs.Legs.{Passed, leg-law, legs-law, leg-why}
-use Rattle.rules.proofs.Plain.{start-plain, tries-plain}
-use Rattle.rules.proofs.Places.{walk-of, place-deep}
-use Rattle.rules.proofs.Prefix.{exact-anti, exact-root, exact-pos, exact-plain, exact-deep}
+use Rattle.rules.proofs.Places.{place-deep}
+use Rattle.rules.proofs.Prefix.{walk-lawful}
 use Rattle.rules.proofs.Relayed.{granted, relay-legs}
 use Rattle.rules.proofs.Sound.{search-fine}
 use Rattle.rules.proofs.Whole.{tried}
@@ -32,12 +32,11 @@ passed-most W p l r = omega (arith, r .counts, simp length-append at (ap length 
 
 -- from A on there are as many candidates as the paper counts
 pub from-first : (t : Template) (quorum : ℕ) (ss : List (List ℕ)) → SoundTemplate t → length (from (exact t quorum ss) first-place) ≡ whole-steps t quorum ss
-unfolding whole-steps exact
+unfolding exact
 from-first t quorum ss o =
     let W : Walk = exact t quorum ss in
-    ap (λ p. length (from W p)) (sym (start-plain W (exact-plain t quorum ss) (exact-pos t quorum ss)))
-    ∙ tried W (exact-pos t quorum ss) (exact-anti t quorum ss) (exact-deep t quorum ss o) (exact-root t quorum ss)
-    ∙ tries-plain W (exact-plain t quorum ss) (size t)
+    let L = walk-lawful t quorum ss o in
+    ap (λ p. length (from W p)) (sym (start-first W L)) ∙ tried W L ∙ exact-tries t quorum ss
 
 module _ (letters lengths : List ℕ) (t : Template) (quorum : ℕ) (s : Search) (e : begin-rule letters lengths t quorum ≡ gives s) where
   b : Beginning letters lengths t quorum s
@@ -52,7 +51,8 @@ module _ (letters lengths : List ℕ) (t : Template) (quorum : ℕ) (s : Search)
   pub steps-so-far : (gs : List Lent) → Roomy gs → (relay letters lengths gs s) .steps ≤ whole-steps t quorum (sequences letters lengths)
   steps-so-far gs h =
       let W : Walk = exact t quorum (sequences letters lengths) in
-      let r = passed-most W first-place (legs W (map granted gs) first-place) (legs-law W (exact-pos t quorum (sequences letters lengths)) (map granted gs) first-place (exact-deep t quorum (sequences letters lengths) (b .template))) in
+      let L = walk-lawful t quorum (sequences letters lengths) (b .template) in
+      let r = passed-most W first-place (legs W (map granted gs) first-place) (legs-law W (L .pos) (map granted gs) first-place (L .deep)) in
       rw (relay-legs letters lengths gs s (b .sound) (b .trim) h, b .walk, b .at)
       (omega (arith, r, from-first t quorum (sequences letters lengths) (b .template)))
 
@@ -65,6 +65,6 @@ module _ (letters lengths : List ℕ) (t : Template) (quorum : ℕ) (s : Search)
       let l : Stretch = leg W budget room (s .place) in
       let q : gives (l .stop) ≡ gives spent = rw (search-fine letters lengths s (b .sound)) at a in
       let used : l .steps ≡ budget = leg-why W budget room (s .place) .if-spent cc in
-      let most = passed-most W (s .place) l (leg-law W (exact-pos (s .template) (s .quorum) (sequences letters lengths)) budget room (s .place) (place-deep letters lengths s (b .sound))) in
+      let most = passed-most W (s .place) l (leg-law W (walk-lawful (s .template) (s .quorum) (sequences letters lengths) (b .sound .template) .pos) budget room (s .place) (place-deep letters lengths s (b .sound))) in
       let all : length (from W (s .place)) ≡ whole-steps t quorum (sequences letters lengths) = rw (b .walk, b .at) (from-first t quorum (sequences letters lengths) (b .template)) in
       omega (arith, begun-steps-few)

@@ -2,13 +2,13 @@
 use mathlib.Core.Path.{_≡_, refl, sym, ap, _∙_}
 use mathlib.Core.Bool.{Bool, true, false, _&&_}
 use mathlib.Core.List.{List, [], _∷_, _++_, map, append-nil, map-append}
-use Prim.Native.Nat.{ℕ, zero, suc, _+_, _*_, _/_, _^_, _≤_}
+use Prim.Native.Nat.{ℕ, zero, suc, _+_, _*_, _/_, _^_}
 use native.Mathlib.Nat.{pow-zero, pow-suc}
 use native.Mathlib.Omega.{arith}
 use lib.ListN.{length, length-append}
 use borrow.Author.Tests.{eq-eqb, ne-eqb}
 use Rattle.rules.specs.Lists.{run, if, keep, each}
-use Rattle.rules.specs.Walk.{Walk, place, children, under, from, start, motif, listed, spelled, candidate, motifs, tries}
+use Rattle.rules.specs.Walk.{Walk, Lawful, place, children, under, from, start, motif, listed, spelled, candidate, motifs, tries}
 use Rattle.rules.specs.declared.Place.{Place}
 use Rattle.rules.proofs.Lists.{keep-append, each-append, keep-each, keep-keep, each-each, each-same, each-keep, keep-same, keep-none, each-none, run-blocks}
 use Rattle.rules.proofs.Tests.{and-true, and-false}
@@ -74,12 +74,12 @@ module _ (W : Walk) where
   words-spelled zero = rw pow-zero
   words-spelled (suc k) = words-snoc k 0 0 k (omega arith) ∙ ap (each (children W k)) (words-spelled k) ∙ level-keep (spelled W k) k
 
-  module _ (pos : 1 ≤ base) (anti : (j m : ℕ) → good (suc j) m ≡ true → good j (m / base) ≡ true) where
+  module _ (L : Lawful W) where
     bad-child : (j m n : ℕ) → n / base ≡ m → good j m ≡ false → good (suc j) n ≡ false
     bad-child j m n q e = go (good (suc j) n) refl
       where
         go : (b : Bool) → good (suc j) n ≡ b → b ≡ false
-        go true f = sym (rw q at (anti j n f)) ∙ e
+        go true f = sym (rw q at (L .anti j n f)) ∙ e
         go false f = refl
 
     -- nothing good stands under a prefix that is not
@@ -121,13 +121,12 @@ module _ (W : Walk) where
     tries-under zero = unfold under in refl
     tries-under (suc k) = omega (arith, level k 0 0 k (omega arith), tries-under k, ap length (ap (each (children W k)) (ap (keep (good k)) (words-spelled k) ∙ keep-keep (good k) (spelled W k) (run 0 (base ^ k))) ∙ level-keep (λ m. spelled W k m && good k m) k))
 
-    module _ (deep : 1 ≤ depth) (root : good 0 0 ≡ true) where
-      -- T2: the search lists exactly the good motifs
-      pub lists : listed W (from W (start W)) ≡ motifs W
-      unfolding motifs motif
-      lists = sym (listed-skip (place 0 0) (from W (start W)) (rw (ne-eqb 0 depth (omega arith)))) ∙ (rw (whole W pos deep root) at (listed-under depth 0 0 (omega arith)))
-          ∙ ap (keep (good depth)) (words-spelled depth) ∙ keep-keep (good depth) (spelled W depth) (run 0 (base ^ depth))
+    -- T2: the search lists exactly the good motifs
+    pub lists : listed W (from W (start W)) ≡ motifs W
+    unfolding motifs motif
+    lists = sym (listed-skip (place 0 0) (from W (start W)) (rw (ne-eqb 0 depth (omega (arith, L .deep))))) ∙ (rw (whole W (L .pos) (L .deep) (L .root)) at (listed-under depth 0 0 (omega arith)))
+        ∙ ap (keep (good depth)) (words-spelled depth) ∙ keep-keep (good depth) (spelled W depth) (run 0 (base ^ depth))
 
-      -- T3: it tries each candidate once
-      pub tried : length (from W (start W)) ≡ tries W depth
-      tried = omega (arith, ap length (whole W pos deep root), tries-under depth)
+    -- T3: it tries each candidate once
+    pub tried : length (from W (start W)) ≡ tries W depth
+    tried = omega (arith, ap length (whole W (L .pos) (L .deep) (L .root)), tries-under depth)

@@ -13,7 +13,7 @@ use Rattle.rules.specs.Sequences.{sequences}
 use Rattle.rules.specs.Support.{support, weight, parts}
 use Rattle.rules.specs.Template.{Part, size, trimmed}
 use Rattle.rules.specs.Told.{Verdict, fine, refused, Told, gives, refuses, Counts, LegTold}
-use Rattle.rules.specs.Walk.{first-place, exact}
+use Rattle.rules.specs.Walk.{first-place, walk-of}
 use Rattle.rules.specs.declared.Place.{Place}
 use Rattle.rules.specs.declared.Search.{Search}
 use Rattle.rules.specs.declared.Template.{Template}
@@ -49,7 +49,7 @@ moved s p = record { template = s .template; quorum = s .quorum; set = s .set; p
 
 -- the stretch of the walk that a leg covers: its room is the shortest table
 unfoldable pub stretch : List ℕ → List ℕ → Search → ℕ → ℕ → Stretch
-stretch letters lengths s budget room = leg (exact (s .template) (s .quorum) (sequences letters lengths)) budget room (s .place)
+stretch letters lengths s budget room = leg (walk-of letters lengths s) budget room (s .place)
 
 -- the parts of a motif of a search
 abbrev pub motif-parts : Search → ℕ → List Part

@@ -13,7 +13,7 @@ use Rattle.rules.specs.Saved.{bytes, sized?, laid-out?, place-rule?, rea
 use Rattle.rules.specs.Sequences.{sequences}
 use Rattle.rules.specs.Template.{components, size}
 use Rattle.rules.specs.Told.{Verdict, fine, refused}
-use Rattle.rules.specs.Walk.{exact, candidate}
+use Rattle.rules.specs.Walk.{walk-of, candidate}
 use Rattle.rules.specs.declared.Component.{Component}
 use Rattle.rules.specs.declared.Search.{Search}
 use Rattle.rules.specs.declared.Template.{Template}
@@ -103,7 +103,7 @@ check12 letters lengths s = refuse-if (not (eqb (s .set .sequences) (length leng
 unfoldable pub passes? : List ℕ → List ℕ → Search → Bool
 passes? letters lengths s =
     (eqb (s .place .letters) 0 && eqb (s .place .number) 0)
-    || candidate (exact (s .template) (s .quorum) (sequences letters lengths)) (s .place .letters) (s .place .number)
+    || candidate (walk-of letters lengths s) (s .place .letters) (s .place .number)
 
 unfoldable pub check13 : List ℕ → List ℕ → Search → Verdict
 check13 letters lengths s = refuse-if (not (passes? letters lengths s)) 13

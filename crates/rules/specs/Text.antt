@@ -15,7 +15,7 @@ use Rattle.rules.specs.Sequences.{sequences}
 use Rattle.rules.specs.Support.{support, weight}
 use Rattle.rules.specs.Template.{Part, component, none}
 use Rattle.rules.specs.Told.{Verdict, fine, refused, Told, gives, refuses}
-use Rattle.rules.specs.Walk.{Walk, exact, from, start, listed}
+use Rattle.rules.specs.Walk.{Walk, walk-over, from, start, listed}
 use Rattle.rules.specs.declared.Component.{Component}
 use Rattle.rules.specs.declared.Search.{Search}
 use Rattle.rules.specs.declared.Template.{Template}
@@ -187,7 +187,7 @@ print-refused n p = 114 ∷ 101 ∷ 102 ∷ 117 ∷ 115 ∷ 101 ∷ 100 ∷ 32 �
 -- the whole search, printed
 unfoldable pub print-search : List (List ℕ) → Search → List ℕ
 print-search ss s =
-    let W : Walk = exact (s .template) (s .quorum) ss in
+    let W : Walk = walk-over (s .template) (s .quorum) ss in
     let ms = listed W (from W (start W)) in
     each (λ m. print-row ss (motif-parts s m)) ms ++ print-end (length (from W (start W))) (length ms)
 

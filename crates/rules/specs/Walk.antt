@@ -2,14 +2,17 @@
 -- which letter may follow, and over which prefix is good, so that every kind of search is one instance; `exact` is ours.
 use mathlib.Core.Bool.{Bool, true, false, _&&_}
 use mathlib.Core.List.{List, [], _∷_, _++_, map}
-use Prim.Native.Nat.{ℕ, zero, suc, _+_, _-_, _*_, _/_, _%_, _^_}
+use mathlib.Core.Path.{_≡_}
+use Prim.Native.Nat.{ℕ, zero, suc, _+_, _-_, _*_, _/_, _%_, _^_, _≤_}
 use lib.Dec.{ltb, eqb}
 use lib.ListN.{length}
 use Rattle.rules.specs.Limits.{Letter-BASES}
 use Rattle.rules.specs.Lists.{run, if, keep, each}
+use Rattle.rules.specs.Sequences.{sequences}
 use Rattle.rules.specs.Support.{frequent}
 use Rattle.rules.specs.Template.{size}
 use Rattle.rules.specs.declared.Place.{Place}
+use Rattle.rules.specs.declared.Search.{Search}
 use Rattle.rules.specs.declared.Template.{Template}
 
 -- a place: how many letters the next candidate has, and its number
@@ -37,6 +40,23 @@ pub record Walk : Type 0 where
 -- the search for frequent motifs of a template: four letters, each of which may follow any
 unfoldable pub exact : Template → ℕ → List (List ℕ) → Walk
 exact t quorum ss = record { base = Letter-BASES; may = λ j m. true; good = frequent t quorum ss; depth = size t }
+
+-- THE WALK of what a template and a quorum ask of some sequences, and of a search over a lent set. Which kind of search it is
+-- is decided here and nowhere else: all that follows cites these two
+abbrev pub walk-over : Template → ℕ → List (List ℕ) → Walk
+walk-over t quorum ss = exact t quorum ss
+
+abbrev pub walk-of : List ℕ → List ℕ → Search → Walk
+walk-of letters lengths s = walk-over (s .template) (s .quorum) (sequences letters lengths)
+
+-- what the laws ask of a walk: there are letters, and a motif has one; A may come first; the empty prefix is good, and every
+-- prefix of a good one
+pub record Lawful (W : Walk) : Type 0 where
+  pub pos : 1 ≤ W .base
+  pub deep : 1 ≤ W .depth
+  pub first : W .may 1 0 ≡ true
+  pub root : W .good 0 0 ≡ true
+  pub anti : (j m : ℕ) → W .good (suc j) m ≡ true → W .good j (m / W .base) ≡ true
 
 -- the prefix of j letters that is the first of ns; where there is none, p
 abbrev pub choose : Place → ℕ → List ℕ → Place

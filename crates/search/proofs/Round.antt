@@ -25,7 +25,7 @@ use Rattle.rules.proofs.Candidates.{Candidate}
 use Rattle.rules.proofs.Completes.{frequent-some}
 use Rattle.rules.proofs.Passing.{Passing, passing-next}
 use Rattle.rules.proofs.Places.{walk-of, sound-passing}
-use Rattle.rules.proofs.Prefix.{exact-anti, exact-root, exact-pos, exact-deep}
+use Rattle.rules.proofs.Prefix.{walk-lawful}
 use Rattle.rules.proofs.Sound.{SoundSearch}
 use Rattle.rules.proofs.Tests.{both}
 use Rattle.search.proofs.Follow.{Following, follow-start, follow-passes, follow-lists}
@@ -76,7 +76,7 @@ module _ (letters lengths : List ℕ) (s : Search) (o : SoundSearch letters leng
       then-passing : Passing (walk-of letters lengths s) q
       then-passing =
           let t = s .template in let n = s .quorum in let ss = sequences letters lengths in
-          rw (← e) (passing-next (walk-of letters lengths s) (exact-pos t n ss) (exact-anti t n ss) (exact-deep t n ss (o .template)) (exact-root t n ss) p (here h))
+          rw (← e) (passing-next (walk-of letters lengths s) (walk-lawful t n ss (o .template)) p (here h))
 
       pub run-passes : motif (walk-of letters lengths s) p ≡ false → Running motifs supports weights (steps + 1) rows q
       run-passes m = record { follow = follow-passes _ _ _ _ _ _ _ _ _ (r .follow) h l e m; passing = then-passing }
