@@ -16,16 +16,16 @@ use Rattle.descent.proofs.Paths.{flag-zero, flag-past}
 use Rattle.rules.specs.Limits.{Letter-BASES}
 use Rattle.rules.specs.Lists.{run, if, each, some?, sum}
 use Rattle.rules.specs.Motif.{spell}
-use Rattle.rules.specs.Occurrence.{stands, reach, starts, occurrences}
+use Rattle.rules.specs.Occurrence.{found, reach, starts, occurrences}
 use Rattle.rules.specs.Sound.{SoundTemplate}
 use Rattle.rules.specs.Support.{parts}
-use Rattle.rules.specs.Template.{Part, none, components, size, cut}
+use Rattle.rules.specs.Template.{deal, Part, none, components, size, cut}
 use Rattle.rules.specs.declared.Component.{Component}
 use Rattle.rules.specs.declared.Template.{Template}
 use Rattle.rules.proofs.Lists.{each-same}
 use Rattle.rules.proofs.Occurs.{Worded, parts-worded}
 use Rattle.rules.proofs.Spelling.{length-spell}
-use Rattle.rules.proofs.Stands.{stands-is}
+use Rattle.rules.proofs.Stands.{found-is}
 
 -- ---- the parts of a motif have the lengths and ranges of the components
 
@@ -36,7 +36,7 @@ Shaped (x ∷ xs) [] = ⊥
 Shaped (x ∷ xs) (c ∷ cs) = (length (c .word) ≡ x .length) × (c .low ≡ x .low) × (c .high ≡ x .high) × Shaped xs cs
 
 cut-shaped : (xs : List Component) (w : List ℕ) → ((i : ℕ) → i < length xs → 1 ≤ (getD xs i none) .length) → sum (map (λ c. c .length) xs) ≡ length w → Shaped xs (cut xs w)
-unfolding cut sum
+unfolding deal sum
 cut-shaped [] w some e = tt
 cut-shaped (x ∷ xs) [] some e = absurd (omega (arith, some 0 (omega arith)))
 cut-shaped (x ∷ xs) (y ∷ w) some e =
@@ -50,17 +50,17 @@ shaped-length (x ∷ xs) (c ∷ cs) h = ap suc (shaped-length xs cs (h .3))
 
 -- ---- where nothing starts
 
-outside : (w s : List ℕ) (p : ℕ) → 1 ≤ length w → (1 ≤ p → p ≤ length s → ⊥) → stands w s p ≡ false
-outside w s p some h = go (stands w s p) refl
+outside : (c : Part) (s : List ℕ) (p : ℕ) → 1 ≤ length (c .word) → (1 ≤ p → p ≤ length s → ⊥) → found c s p ≡ false
+outside c s p some h = go (found c s p) refl
   where
-    go : (b : Bool) → stands w s p ≡ b → b ≡ false
-    go true e = let k = stands-is w s p some .0 e in absurd (h (k .counted) (omega (arith, k .room)))
+    go : (b : Bool) → found c s p ≡ b → b ≡ false
+    go true e = let k = found-is c s p some .0 e in absurd (h (k .counted) (omega (arith, k .room)))
     go false e = refl
 
 starts-outside : (c : Part) (cs : List Part) (s : List ℕ) (p : ℕ) → 1 ≤ length (c .word) → (1 ≤ p → p ≤ length s → ⊥) → starts (c ∷ cs) s p ≡ []
 unfolding starts
-starts-outside c [] s p some h = rw (outside (c .word) s p some h)
-starts-outside c (d ∷ ds) s p some h = rw (outside (c .word) s p some h)
+starts-outside c [] s p some h = rw (outside c s p some h)
+starts-outside c (d ∷ ds) s p some h = rw (outside c s p some h)
 
 -- ---- the flags of some parts, c the number of the first
 
@@ -103,7 +103,7 @@ module _ (s flags : List ℕ) where
   paths-starts [] [] c shaped worded said p = refl
   paths-starts [] (d ∷ ds) c shaped worded said p = absurd shaped
   paths-starts (x ∷ xs) [] c shaped worded said p = absurd shaped
-  paths-starts (x ∷ []) (d ∷ []) c shaped worded said p = same-if (stands (d .word) s p) ((p ∷ []) ∷ []) (said-first d [] c p worded said)
+  paths-starts (x ∷ []) (d ∷ []) c shaped worded said p = same-if (found d s p) ((p ∷ []) ∷ []) (said-first d [] c p worded said)
   paths-starts (x ∷ []) (d ∷ e ∷ es) c shaped worded said p = absurd (shaped .3)
   paths-starts (x ∷ y ∷ ys) (d ∷ []) c shaped worded said p = absurd (shaped .3)
   paths-starts (x ∷ y ∷ ys) (d ∷ e ∷ es) c shaped worded said p =
@@ -113,7 +113,7 @@ module _ (s flags : List ℕ) where
       let same : each (paths (length s) flags (y ∷ ys) (suc c)) (reach (x .length) (y .low) (y .high) p) ≡ each (starts (e ∷ es) s) (reach (length (d .word)) (e .low) (e .high) p) =
       each-same (paths (length s) flags (y ∷ ys) (suc c)) (starts (e ∷ es) s) (reach (x .length) (y .low) (y .high) p) later ∙ ap (each (starts (e ∷ es) s)) near in
       rw same
-      (same-if (stands (d .word) s p) (map (λ t. p ∷ t) (each (starts (e ∷ es) s) (reach (length (d .word)) (e .low) (e .high) p))) (said-first d (e ∷ es) c p worded said))
+      (same-if (found d s p) (map (λ t. p ∷ t) (each (starts (e ∷ es) s) (reach (length (d .word)) (e .low) (e .high) p))) (said-first d (e ∷ es) c p worded said))
 
 -- ---- a motif's parts
 

@@ -7,7 +7,7 @@ use native.Mathlib.Omega.{arith}
 use lib.ListN.{length, take, drop, length-map}
 use Rattle.rules.proofs.Bytes.{lettered, Spelled, stands-bytes, cut-spelled, cut-bytes}
 use Rattle.rules.proofs.Lists.{each-same}
-use Rattle.rules.proofs.Occurs.{Worded, parts-worded, parts-some}
+use Rattle.rules.proofs.Occurs.{Worded, Plain, parts-worded, parts-some}
 use Rattle.rules.proofs.Spelling.{spell-below}
 use Rattle.rules.proofs.Tables.{map-take, map-drop}
 use Rattle.rules.specs.Letters.{value, letter}
@@ -29,13 +29,13 @@ module _ (s : List ℕ) where
   starts-bytes : (cs : List Part) → Spelled cs → (p : ℕ) → starts (map lettered cs) s p ≡ starts cs (map value s) p
   unfolding starts Spelled
   starts-bytes [] h p = refl
-  starts-bytes (c ∷ []) h p = rw (stands-bytes (c .word) s (h .0) p)
+  starts-bytes (c ∷ []) h p = rw (h .1 (map value s) p, stands-bytes (c .word) s (h .0) p)
   starts-bytes (c ∷ d ∷ ds) h p =
       let e : each (starts (map lettered (d ∷ ds)) s) (reach (length (map letter (c .word))) (d .low) (d .high) p)
       ≡ each (starts (d ∷ ds) (map value s)) (reach (length (c .word)) (d .low) (d .high) p) =
       ap (λ (n : ℕ). each (starts (map lettered (d ∷ ds)) s) (reach n (d .low) (d .high) p)) (length-map (c .word) letter)
-      ∙ each-same _ _ (reach (length (c .word)) (d .low) (d .high) p) (starts-bytes (d ∷ ds) (h .1)) in
-      rw (stands-bytes (c .word) s (h .0) p) (ap (λ l. if (stands (c .word) (map value s) p) (map (λ t. p ∷ t) l) []) e)
+      ∙ each-same _ _ (reach (length (c .word)) (d .low) (d .high) p) (starts-bytes (d ∷ ds) (h .2)) in
+      rw (h .1 (map value s) p, stands-bytes (c .word) s (h .0) p) (ap (λ l. if (stands (c .word) (map value s) p) (map (λ t. p ∷ t) l) []) e)
 
   occurrences-bytes : (cs : List Part) → Spelled cs → occurrences (map lettered cs) s ≡ occurrences cs (map value s)
   unfolding occurrences
@@ -46,10 +46,14 @@ worded-bytes [] h i l = absurd (omega arith)
 worded-bytes (c ∷ cs) h zero l = rw (length-map (c .word) letter) (h 0 (omega arith))
 worded-bytes (c ∷ cs) h (suc i) l = worded-bytes cs (λ k m. h (suc k) (omega arith)) i (omega arith)
 
+plain-bytes : (cs : List Part) → Plain (map lettered cs)
+plain-bytes [] = tt
+plain-bytes (c ∷ cs) = (λ s p. refl, plain-bytes cs)
+
 -- a flag of the bytes is left where the prefix occurs in the values
 left-bytes : (cs : List Part) (s : List ℕ) → Spelled cs → Worded cs → 1 ≤ length cs → left? (last-starts (map lettered cs) s) ≡ some? (occurrences cs (map value s))
 left-bytes cs s low f h =
-    flag-left (map lettered cs) s (worded-bytes cs f) (rw (length-map cs lettered) h) ∙ ap (λ l. some? l) (occurrences-bytes s cs low)
+    flag-left (map lettered cs) s (worded-bytes cs f) (plain-bytes cs) (rw (length-map cs lettered) h) ∙ ap (λ l. some? l) (occurrences-bytes s cs low)
 
 marks-bytes : (cs : List Part) → Spelled cs → Worded cs → 1 ≤ length cs → (ns l : List ℕ) → left-marks (map lettered cs) (split ns l) ≡ marks cs (split ns (map value l))
 unfolding left-marks marks split

@@ -11,18 +11,18 @@ use lib.Seq.{drop-cons, drop-at, drop-length, getD-take, length-take-le}
 use borrow.Rule.Slice.PartMut.{midOf, putMid, mid-len, post-is}
 use Rattle.rules.proofs.Lists.{run-append}
 use Rattle.rules.specs.Lists.{run, if, over}
-use Rattle.rules.specs.Occurrence.{front, stands}
+use Rattle.rules.specs.Occurrence.{stands-by, front-by, front, stands}
 use Rattle.matching.specs.Flags.{kept-at, kept, matched}
 use Rattle.rules.proofs.Over.{map-agree, map-one}
 
 module _ (x j : ℕ) (s ks : List ℕ) (o : ℕ) where
   letter-in : o + j < length s → stands (x ∷ []) s (suc (o + j)) ≡ eqb x (getD s (o + j) 0)
-  unfolding stands front
+  unfolding stands-by front-by
   letter-in h =
       rw (drop-cons s (o + j) 0 h) (elim (eqb x (getD s (o + j) 0)) as (λ b. if b true false ≡ b) [ true ↦ refl | false ↦ refl ])
 
   letter-out : length s ≤ o + j → stands (x ∷ []) s (suc (o + j)) ≡ false
-  unfolding stands front
+  unfolding stands-by front-by
   letter-out h = rw (drop-of-length-le s {i = o + j} h)
 
   -- what a turn writes: where the sequence has a letter j places on

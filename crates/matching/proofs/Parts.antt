@@ -9,13 +9,13 @@ use lib.ListN.{length, take, drop, getD, replicate, length-take, length-drop, dr
 use lib.Seq.{drop-cons, drop-drop, length-take-le, getD-take}
 use Rattle.rules.proofs.Components.{cut-some}
 use Rattle.rules.proofs.Tables.{take-min, drop-min}
-use Rattle.rules.specs.Template.{none, cut}
+use Rattle.rules.specs.Template.{deal, none, cut}
 use Rattle.rules.specs.declared.Component.{Component}
 use Rattle.matching.specs.Flags.{matched, opened, following, last-starts}
 
 -- no letter left
 cut-none : (cs : List Component) (w : List ℕ) → length w ≤ 0 → cut cs w ≡ []
-unfolding cut
+unfolding deal
 cut-none [] w h = refl
 cut-none (c ∷ cs) [] h = refl
 cut-none (c ∷ cs) (x ∷ w) h = absurd (omega arith)
@@ -81,5 +81,5 @@ module _ (all : List Component) (count : ℕ) (fits : count ≤ length all) (w s
 
     -- nor after the last component
     pub components-end : count ≤ k → following n (cut (drop k (take count all)) (drop from w)) s ks ≡ ks
-    unfolding following cut
+    unfolding following deal
     components-end h = let z : length (take count all) ≤ k = rw counted h in rw (drop-of-length-le (take count all) {i = k} z)

@@ -11,7 +11,7 @@ use lib.ListN.{length, drop, getD, replicate}
 use lib.Seq.{drop-drop}
 use borrow.Author.Tests.{ne-eqb}
 use Rattle.rules.specs.Lists.{if, run, sum}
-use Rattle.rules.specs.Occurrence.{front, stands}
+use Rattle.rules.specs.Occurrence.{stands-by, front-by, front, stands}
 use Rattle.matching.specs.Flags.{bit, kept-at, kept, matched, ago, recent, near, opened, left?}
 use Rattle.matching.proofs.Any.{any}
 use Rattle.rules.proofs.Over.{map-agree, map-one, getD-map-run, length-map-run}
@@ -32,7 +32,7 @@ length-flagged : (A : ℕ → Bool) (n : ℕ) → length (flagged A n) ≡ n
 unfolding flagged
 length-flagged A n = length-map-run _ 0 n
 
-flagged-same : (A B : ℕ → Bool) (n : ℕ) → ((o : ℕ) → A o ≡ B o) → flagged A n ≡ flagged B n
+pub flagged-same : (A B : ℕ → Bool) (n : ℕ) → ((o : ℕ) → A o ≡ B o) → flagged A n ≡ flagged B n
 unfolding flagged
 flagged-same A B n h = map-agree _ _ 0 n (λ o _ _. ap bit (h o))
 
@@ -43,13 +43,13 @@ flagged-all n = sym (map-one _ 1 0 n (λ _ _. refl))
 
 -- A WORD
 front-cons : (x : ℕ) (w u : List ℕ) → front (x ∷ w) u ≡ if (front (x ∷ []) u) (front w (drop 1 u)) false
-unfolding front
+unfolding front-by
 front-cons x w [] = refl
 front-cons x w (y ∷ u) = elim (eqb x y) as (λ b. if b (front w u) false ≡ if (if b true false) (front w u) false) [ true ↦ refl | false ↦ refl ]
 
 stands-cons : (x : ℕ) (w s : List ℕ) (o j : ℕ)
     → stands (x ∷ w) s (suc (o + j)) ≡ if (stands (x ∷ []) s (suc (o + j))) (stands w s (suc (o + suc j))) false
-unfolding stands
+unfolding stands-by
 stands-cons x w s o j = let e : o + j + 1 ≡ o + suc j = omega arith in front-cons x w (drop (o + j) s) ∙ rw (drop-drop, e)
 
 swap : (a b r : Bool) → if b (if a r false) false ≡ if (if a b false) r false
@@ -64,7 +64,7 @@ bit-if false b = refl
 
 module _ (s : List ℕ) where
   stands-none : (o j : ℕ) → stands [] s (suc (o + j)) ≡ true
-  unfolding stands front
+  unfolding stands-by front-by
   stands-none o j = refl
 
   kept-flagged : (x j : ℕ) (A : ℕ → Bool) → kept x j s (flagged A (length s)) ≡ flagged (λ o. if (stands (x ∷ []) s (suc (o + j))) (A o) false) (length s)

@@ -12,12 +12,12 @@ use Rattle.rules.specs.Letters.{value}
 use Rattle.rules.specs.Limits.{Letter-BASES}
 use Rattle.rules.specs.Lists.{if, each, sum}
 use Rattle.rules.specs.Motif.{spell}
-use Rattle.rules.specs.Occurrence.{stands, reach, starts, occurrences, ways}
+use Rattle.rules.specs.Occurrence.{found, reach, starts, occurrences, ways}
 use Rattle.rules.specs.Recovery.{whole-list}
 use Rattle.rules.specs.Sequences.{split, sequences}
 use Rattle.rules.specs.Sound.{SoundSet, SoundTemplate}
 use Rattle.rules.specs.Support.{rows-from, occurrence-rows, parts}
-use Rattle.rules.specs.Template.{Part, part, none, slots, components, size, cut}
+use Rattle.rules.specs.Template.{Part, part, Reading, plain, none, slots, components, size, deal}
 use Rattle.rules.specs.declared.Component.{Component}
 use Rattle.rules.specs.declared.Template.{Template}
 use Rattle.rules.proofs.Lengths.{each-run}
@@ -32,12 +32,12 @@ Near b cs = (i : ℕ) → i < length cs → (getD cs i (part 0 0 [])) .high + 1 
 -- of parts that start at p, the k later ones can follow in at most b ^ k ways
 pub starts-most : (b : ℕ) (c : Part) (cs : List Part) (s : List ℕ) → Near b (c ∷ cs) → (p : ℕ) → length (starts (c ∷ cs) s p) ≤ b ^ length cs
 unfolding starts
-starts-most b c [] s h p = rw pow-zero (go (stands (c .word) s p))
+starts-most b c [] s h p = rw pow-zero (go (found c s p))
   where
     go : (a : Bool) → length (if a ((p ∷ []) ∷ []) []) ≤ 1
     go true = omega arith
     go false = omega arith
-starts-most b c (d ∷ ds) s h p = go (stands (c .word) s p) (starts-most b d ds s (λ i l. h (suc i) (omega arith)))
+starts-most b c (d ∷ ds) s h p = go (found c s p) (starts-most b d ds s (λ i l. h (suc i) (omega arith)))
   where
     later : List ℕ
     later = reach (length (c .word)) (d .low) (d .high) p
@@ -55,29 +55,29 @@ ways-most b c cs s h p = rw ways-count (starts-most b c cs s h p)
 
 -- ---- the parts of a motif
 
-cut-few : (cs : List Component) (w : List ℕ) → length (cut cs w) ≤ length cs
-unfolding cut
-cut-few [] w = omega arith
-cut-few (c ∷ cs) [] = omega arith
-cut-few (c ∷ cs) (x ∷ w) = omega (arith, cut-few cs (drop (c .length) (x ∷ w)))
+deal-few : (R : Reading) (cs : List Component) (w : List ℕ) → length (deal R cs w) ≤ length cs
+unfolding deal
+deal-few R [] w = omega arith
+deal-few R (c ∷ cs) [] = omega arith
+deal-few R (c ∷ cs) (x ∷ w) = omega (arith, deal-few R cs (drop (c .length) (x ∷ w)))
 
 -- there are no more parts than components
 pub parts-few : (t : Template) (j m : ℕ) → length (parts t j m) ≤ t .count
 unfolding parts components
-parts-few t j m = omega (arith, cut-few (take (t .count) (slots t)) (spell Letter-BASES j m), length-take (t .count) (slots t))
+parts-few t j m = omega (arith, deal-few plain (take (t .count) (slots t)) (spell Letter-BASES j m), length-take (t .count) (slots t))
 
 -- a part has its component's range
-cut-near : (b : ℕ) (cs : List Component) (w : List ℕ) → ((i : ℕ) → i < length cs → (getD cs i none) .high + 1 - (getD cs i none) .low ≤ b) → Near b (cut cs w)
-unfolding cut
-cut-near b [] w h i l = absurd (omega arith)
-cut-near b (c ∷ cs) [] h i l = absurd (omega arith)
-cut-near b (c ∷ cs) (x ∷ w) h zero l = h 0 (omega arith)
-cut-near b (c ∷ cs) (x ∷ w) h (suc i) l = cut-near b cs (drop (c .length) (x ∷ w)) (λ i k. h (suc i) (omega arith)) i (omega arith)
+deal-near : (R : Reading) (b : ℕ) (cs : List Component) (w : List ℕ) → ((i : ℕ) → i < length cs → (getD cs i none) .high + 1 - (getD cs i none) .low ≤ b) → Near b (deal R cs w)
+unfolding deal
+deal-near R b [] w h i l = absurd (omega arith)
+deal-near R b (c ∷ cs) [] h i l = absurd (omega arith)
+deal-near R b (c ∷ cs) (x ∷ w) h zero l = h 0 (omega arith)
+deal-near R b (c ∷ cs) (x ∷ w) h (suc i) l = deal-near R b cs (drop (c .length) (x ∷ w)) (λ i k. h (suc i) (omega arith)) i (omega arith)
 
 -- and so at most 256 positions
 pub parts-near : (t : Template) → SoundTemplate t → (j m : ℕ) → Near 256 (parts t j m)
 unfolding parts components
-parts-near t sound j m = cut-near 256 (take (t .count) (slots t)) (spell Letter-BASES j m) span
+parts-near t sound j m = deal-near plain 256 (take (t .count) (slots t)) (spell Letter-BASES j m) span
   where
     span : (i : ℕ) → i < length (take (t .count) (slots t)) → (getD (take (t .count) (slots t)) i none) .high + 1 - (getD (take (t .count) (slots t)) i none) .low ≤ 256
     span i l = let k : i < t .count = omega (arith, length-take (t .count) (slots t)) in rw (getD-take (t .count) (slots t) i none k) (omega (arith, sound .each i k .near))

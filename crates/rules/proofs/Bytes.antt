@@ -12,9 +12,10 @@ use borrow.Author.Tests.{eqb-true, eqb-false, eq-eqb, ne-eqb}
 use Rattle.rules.specs.Letters.{letter, value}
 use Rattle.rules.specs.Limits.{Letter-BASES}
 use Rattle.rules.specs.Lists.{if}
-use Rattle.rules.specs.Occurrence.{front, stands}
-use Rattle.rules.specs.Template.{Part, part, cut}
+use Rattle.rules.specs.Occurrence.{front, front-by, stands, stands-by}
+use Rattle.rules.specs.Template.{Part, part, deal, cut}
 use Rattle.rules.specs.declared.Component.{Component}
+use Rattle.rules.proofs.Occurs.{Exact}
 use Rattle.rules.proofs.Tables.{map-take, map-drop}
 
 -- ---- one letter
@@ -52,13 +53,13 @@ abbrev pub Digits : List ℕ → Type 0
 Digits w = (i : ℕ) → getD w i 0 < Letter-BASES
 
 front-bytes : (w s : List ℕ) → Digits w → front (map letter w) s ≡ front w (map value s)
-unfolding front
+unfolding front-by
 front-bytes [] s h = refl
 front-bytes (x ∷ w) [] h = refl
 front-bytes (x ∷ w) (y ∷ s) h = rw (same-letter x y (h 0), front-bytes w s (λ i. h (suc i)))
 
 pub stands-bytes : (w s : List ℕ) → Digits w → (p : ℕ) → stands (map letter w) s p ≡ stands w (map value s) p
-unfolding stands
+unfolding stands-by
 stands-bytes w s h zero = refl
 stands-bytes w s h (suc o) = rw (map-drop value o s) (front-bytes w (drop o s) h)
 
@@ -68,10 +69,10 @@ stands-bytes w s h (suc o) = rw (map-drop value o s) (front-bytes w (drop o s) h
 abbrev pub lettered : Part → Part
 lettered c = part (c .low) (c .high) (map letter (c .word))
 
--- parts of such letters
+-- parts of such letters, read exactly
 unfoldable pub Spelled : List Part → Type 0
 Spelled [] = Unit
-Spelled (c ∷ cs) = Digits (c .word) × Spelled cs
+Spelled (c ∷ cs) = Digits (c .word) × Exact c × Spelled cs
 
 digits-take : (n : ℕ) (w : List ℕ) → Digits w → Digits (take n w)
 digits-take zero w h i = omega arith
@@ -84,14 +85,14 @@ digits-drop n w h i = rw (getD-drop n w i 0) (h (n + i))
 
 -- parts of letters below the base have such letters
 pub cut-spelled : (cs : List Component) (w : List ℕ) → Digits w → Spelled (cut cs w)
-unfolding cut Spelled
+unfolding deal Spelled
 cut-spelled [] w h = tt
 cut-spelled (c ∷ cs) [] h = tt
-cut-spelled (c ∷ cs) (x ∷ w) h = (digits-take (c .length) (x ∷ w) h, cut-spelled cs (drop (c .length) (x ∷ w)) (digits-drop (c .length) (x ∷ w) h))
+cut-spelled (c ∷ cs) (x ∷ w) h = (digits-take (c .length) (x ∷ w) h, λ s p. refl, cut-spelled cs (drop (c .length) (x ∷ w)) (digits-drop (c .length) (x ∷ w) h))
 
 -- the bytes of letters give the bytes of the parts
 pub cut-bytes : (cs : List Component) (w : List ℕ) → cut cs (map letter w) ≡ map lettered (cut cs w)
-unfolding cut
+unfolding deal
 cut-bytes [] w = refl
 cut-bytes (c ∷ cs) [] = refl
 cut-bytes (c ∷ cs) (x ∷ w) = rw (map-take letter (c .length) (x ∷ w), map-drop letter (c .length) (x ∷ w), cut-bytes cs (drop (c .length) (x ∷ w)))

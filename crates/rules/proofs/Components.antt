@@ -7,7 +7,7 @@ use lib.ListN.{length, take, drop, getD, drop-of-length-le}
 use lib.Seq.{drop-cons, getD-take, length-take-le}
 use Rattle.rules.specs.Limits.{Template-COMPONENTS}
 use Rattle.rules.specs.Sound.{SoundTemplate}
-use Rattle.rules.specs.Template.{part, none, slots, components, cut}
+use Rattle.rules.specs.Template.{part, none, slots, components, deal, cut}
 use Rattle.rules.specs.declared.Component.{Component}
 use Rattle.rules.specs.declared.Template.{Template}
 
@@ -38,6 +38,6 @@ components-some {t} sound i h =
 
 -- the first component takes the first letters, if there are any
 pub cut-some : (c : Component) (cs : List Component) (w : List ℕ) → 0 < length w → cut (c ∷ cs) w ≡ part (c .low) (c .high) (take (c .length) w) ∷ cut cs (drop (c .length) w)
-unfolding cut
+unfolding deal
 cut-some c cs [] h = absurd (omega arith)
 cut-some c cs (x ∷ w) h = refl

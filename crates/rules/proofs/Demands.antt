@@ -5,6 +5,7 @@ use mathlib.Core.Logic.{_⊎_, _↔_}
 use mathlib.Core.Bool.{true}
 use mathlib.Core.List.{List, [], _∷_, _++_, List·Memᴰ}
 use Prim.Native.Nat.{ℕ, suc, _+_, _*_, _≤_, _<_, _^_, min}
+use lib.Dec.{eqb}
 use lib.ListN.{length, take, getD, replicate}
 use native.Mathlib.Omega.{arith}
 use borrow.Author.Tests.{leb-true, le-leb}
@@ -12,7 +13,7 @@ use Rattle.rules.specs.Calls.{unless, on-refusal, begin-rule, LegRule, s
 use Rattle.rules.specs.Legs.{Stop, ended, leg}
 use Rattle.rules.specs.Limits.{Letter-BASES, Record-BYTES, Record-EXTRA, Template-COMPONENTS}
 use Rattle.rules.specs.Lists.{joined, keep, put, some?}
-use Rattle.rules.specs.Occurrence.{occurrences, Occurs}
+use Rattle.rules.specs.Occurrence.{occurrences, StandsBy, Stands, Occurs}
 use Rattle.rules.specs.Order.{InOrder, Rising}
 use Rattle.rules.specs.Recovery.{whole-list, page}
 use Rattle.rules.specs.Refusals.{first, new-checks, restore-checks, search-checks, save-checks, recover-checks, join-checks}
@@ -40,6 +41,7 @@ use Rattle.rules.proofs.Places.{sound-passing, passing-rule, passing-pa
 use Rattle.rules.proofs.Prefix.{size-some, walk-lawful}
 use Rattle.rules.proofs.Saves.{restore-exactly, restore-saved, save-restored, cut-refused}
 use Rattle.rules.proofs.Sound.{SoundSearch, SoundBytes, search-sound}
+use Rattle.rules.proofs.Stands.{stands-exactly}
 use Rattle.rules.proofs.Tables.{put-front}
 use Rattle.rules.proofs.Tests.{both}
 use Rattle.rules.proofs.Ways.{support-counts, support-sequences}
@@ -87,6 +89,8 @@ pub record Demand2 : Type 0 where
   pub supports : (t : Template) (j m : ℕ) (ss : List (List ℕ)) → support (parts t j m) ss ≡ length (keep (λ s. some? (occurrences (parts t j m) s)) ss)
   pub occurring : (t : Template) → SoundTemplate t → (j m : ℕ) → 1 ≤ j → (s : List ℕ)
       → (some? (occurrences (parts t j m) s) ≡ true) ↔ ((ps : List ℕ) × Occurs (parts t j m) s ps)
+  -- where, read exactly, a part's letters stand if each is the one there
+  pub standing : (w s : List ℕ) (p : ℕ) → StandsBy eqb 0 w s p ↔ Stands w s p
   -- a leg of a new search that answers ended has listed it whole
   pub one-leg : (letters lengths : List ℕ) (t : Template) (quorum : ℕ) (s : Search) (budget : ℕ) (motifs supports weights : List ℕ)
       → begin-rule letters lengths t quorum ≡ gives s
@@ -222,6 +226,7 @@ demand2 =
       in-letter-order = λ t quorum ss. keep-run-rising _ 0 (Letter-BASES ^ size t);
       supports = λ t j m ss. support-sequences (parts t j m) ss;
       occurring = λ t o j m h s. support-counts (parts t j m) s (parts-worded t o j m) (parts-some t o j m h);
+      standing = stands-exactly;
       one-leg = one-leg-complete;
       recovered = λ t o ss m row. rows-are (parts t (size t) m) ss (parts-worded t o (size t) m) (parts-some t o (size t) m (size-some t o)) row;
       recovered-in-order = λ t ss m. rows-in-order (parts t (size t) m) ss;

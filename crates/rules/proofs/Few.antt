@@ -15,12 +15,12 @@ use borrow.Author.Tests.{eqb-true, leb-true}
 use Rattle.rules.specs.Limits.{Letter-BASES, SequenceSet-LETTERS}
 use Rattle.rules.specs.Lists.{run, if, each, keep, joined, sum}
 use Rattle.rules.specs.Motif.{number, spell}
-use Rattle.rules.specs.Occurrence.{front, stands, reach, starts, occurrences}
+use Rattle.rules.specs.Occurrence.{front, front-by, stands, stands-by, found, reach, starts, occurrences}
 use Rattle.rules.specs.Relay.{whole-steps}
 use Rattle.rules.specs.Sequences.{sequences}
 use Rattle.rules.specs.Sound.{SoundSet, SoundTemplate}
 use Rattle.rules.specs.Support.{support, parts, frequent}
-use Rattle.rules.specs.Template.{Part, component, components, size, cut}
+use Rattle.rules.specs.Template.{Part, component, components, size, deal, cut}
 use Rattle.rules.specs.Walk.{exact, goods}
 use Rattle.rules.specs.declared.Component.{Component}
 use Rattle.rules.specs.declared.Template.{Template}
@@ -28,6 +28,7 @@ use Rattle.rules.proofs.Bound.{Near, parts-few, parts-near, sequences-l
 use Rattle.rules.proofs.Lengths.{rising-within, each-run, each-times, keep-some}
 use Rattle.rules.proofs.Members.{each-in, each-out, keep-run-out}
 use Rattle.rules.proofs.OccurrenceOrder.{keep-run-rising}
+use Rattle.rules.proofs.Occurs.{Plain, cut-plain}
 use Rattle.rules.proofs.Prefix.{size-some}
 use Rattle.rules.proofs.Spelling.{length-spell, number-spell}
 use Rattle.rules.proofs.Ways.{some-is, support-sequences}
@@ -64,7 +65,7 @@ placed-most b c (d ∷ ds) s h p =
 
 -- letters that are the first of s are read off it
 front-read : (w s : List ℕ) → front w s ≡ true → take (length w) s ≡ w
-unfolding front
+unfolding front-by
 front-read [] s e = refl
 front-read (x ∷ w) [] e = absurd (false≢true e)
 front-read (x ∷ w) (y ∷ s) e = go (eqb x y) refl e (front-read w s)
@@ -75,20 +76,20 @@ front-read (x ∷ w) (y ∷ s) e = go (eqb x y) refl e (front-read w s)
 
 -- and so are letters at the position where they stand
 stands-read : (w s : List ℕ) (p : ℕ) → stands w s p ≡ true → letters-at (length w) s p ≡ w
-unfolding stands
+unfolding stands-by
 stands-read w s zero e = absurd (false≢true e)
 stands-read w s (suc o) e = front-read w (drop o s) e
 
 -- the letters of parts that occur are among those that can be read off where such parts are placed
-placed-in : (cs : List Part) (s : List ℕ) (p : ℕ) (ps : List ℕ) → List·Memᴰ ps (starts cs s p) → List·Memᴰ (spelt cs) (placed (map form cs) s p)
+placed-in : (cs : List Part) (s : List ℕ) (p : ℕ) (ps : List ℕ) → Plain cs → List·Memᴰ ps (starts cs s p) → List·Memᴰ (spelt cs) (placed (map form cs) s p)
 unfolding placed starts joined
-placed-in [] s p ps m = absurd (List·Memᴰ·not-nil m)
-placed-in (c ∷ []) s p ps m = go (stands (c .word) s p) refl m
+placed-in [] s p ps x m = absurd (List·Memᴰ·not-nil m)
+placed-in (c ∷ []) s p ps x m = go (found c s p) refl m
   where
-    go : (b : Bool) → stands (c .word) s p ≡ b → List·Memᴰ ps (if b ((p ∷ []) ∷ []) []) → List·Memᴰ (c .word ++ []) (letters-at (length (c .word)) s p ∷ [])
-    go true e m = List·Memᴰ·head (append-nil (c .word) ∙ sym (stands-read (c .word) s p e))
+    go : (b : Bool) → found c s p ≡ b → List·Memᴰ ps (if b ((p ∷ []) ∷ []) []) → List·Memᴰ (c .word ++ []) (letters-at (length (c .word)) s p ∷ [])
+    go true e m = List·Memᴰ·head (append-nil (c .word) ∙ sym (stands-read (c .word) s p (sym (x .0 s p) ∙ e)))
     go false e m = absurd (List·Memᴰ·not-nil m)
-placed-in (c ∷ d ∷ ds) s p ps m = go (stands (c .word) s p) refl m (placed-in (d ∷ ds) s)
+placed-in (c ∷ d ∷ ds) s p ps x m = go (found c s p) refl m (λ q qs. placed-in (d ∷ ds) s q qs (x .1))
   where
     next : List ℕ
     next = reach (length (c .word)) (d .low) (d .high) p
@@ -96,20 +97,20 @@ placed-in (c ∷ d ∷ ds) s p ps m = go (stands (c .word) s p) refl m (placed-i
     later : List (List ℕ)
     later = each (placed (map form (d ∷ ds)) s) next
 
-    go : (b : Bool) → stands (c .word) s p ≡ b → List·Memᴰ ps (if b (map (λ t. p ∷ t) (each (starts (d ∷ ds) s) next)) [])
+    go : (b : Bool) → found c s p ≡ b → List·Memᴰ ps (if b (map (λ t. p ∷ t) (each (starts (d ∷ ds) s) next)) [])
         → ((q : ℕ) (qs : List ℕ) → List·Memᴰ qs (starts (d ∷ ds) s q) → List·Memᴰ (spelt (d ∷ ds)) (placed (map form (d ∷ ds)) s q))
         → List·Memᴰ (c .word ++ spelt (d ∷ ds)) (map (λ w. letters-at (length (c .word)) s p ++ w) later)
     go true e m ih =
         let r = Memᴰ·of-map (λ t. p ∷ t) (each (starts (d ∷ ds) s) next) m in
         let k = each-out (starts (d ∷ ds) s) next (r .1) in
-        rw (stands-read (c .word) s p e) (Memᴰ·map (λ w. c .word ++ w) (each-in (placed (map form (d ∷ ds)) s) next (k .1) (ih (k .0) (r .0) (k .2))))
+        rw (stands-read (c .word) s p (sym (x .0 s p) ∙ e)) (Memᴰ·map (λ w. c .word ++ w) (each-in (placed (map form (d ∷ ds)) s) next (k .1) (ih (k .0) (r .0) (k .2))))
     go false e m ih = absurd (List·Memᴰ·not-nil m)
 
 -- ---- the parts of a prefix
 
 -- the lengths and ranges go by how many letters are dealt out, not by which
 cut-forms : (cs : List Component) (v w : List ℕ) → length v ≡ length w → map form (cut cs v) ≡ map form (cut cs w)
-unfolding cut
+unfolding deal
 cut-forms [] v w e = refl
 cut-forms (c ∷ cs) [] [] e = refl
 cut-forms (c ∷ cs) [] (y ∷ w) e = absurd (omega arith)
@@ -121,7 +122,7 @@ cut-forms (c ∷ cs) (x ∷ v) (y ∷ w) e =
 
 -- letters dealt out to components that have room for them are all there
 cut-spelt : (cs : List Component) (w : List ℕ) → length w ≤ sum (map (λ c. c .length) cs) → spelt (cut cs w) ≡ w
-unfolding cut joined sum
+unfolding deal joined sum
 cut-spelt [] [] h = refl
 cut-spelt [] (x ∷ w) h = absurd (omega arith)
 cut-spelt (c ∷ cs) [] h = refl
@@ -153,7 +154,7 @@ module _ (t : Template) (j m : ℕ) (deep : j ≤ size t) where
       let r = each-out (starts (parts t j m) s) (run 1 (length s)) o in
       let same = cut-forms (components t) (spell Letter-BASES j 0) (spell Letter-BASES j m) (length-spell Letter-BASES j 0 ∙ sym (length-spell Letter-BASES j m)) in
       let whole = cut-spelt (components t) (spell Letter-BASES j m) (omega (arith, length-spell Letter-BASES j m)) in
-      each-in _ (run 1 (length s)) (r .1) (rw same (Memᴰ·cast (sym whole) (placed-in (parts t j m) s (r .0) ps (r .2))))
+      each-in _ (run 1 (length s)) (r .1) (rw same (Memᴰ·cast (sym whole) (placed-in (parts t j m) s (r .0) ps (cut-plain (components t) (spell Letter-BASES j m)) (r .2))))
 
   -- and so is one whose support is at least 1
   support-read : (ss : List (List ℕ)) → 1 ≤ support (parts t j m) ss → List·Memᴰ (spell Letter-BASES j m) (each (readings t j) ss)

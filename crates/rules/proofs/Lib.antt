@@ -12,6 +12,7 @@ pub mod Spelling
 pub mod Components
 pub mod Bytes
 pub mod Prefix
+pub mod Repeats
 pub mod Lengths
 pub mod Bound
 pub mod Few
@@ -22,6 +23,8 @@ pub mod Candidates
 pub mod Plain
 pub mod Relay
 pub mod Passing
+pub mod Profiles
+pub mod Demanded
 pub mod Verdicts
 pub mod EachCheck
 pub mod LaidOut

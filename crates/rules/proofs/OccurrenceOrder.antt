@@ -8,7 +8,7 @@ use Prim.Native.Nat.{ℕ, zero, suc, _+_, _-_, _<_}
 use native.Mathlib.Omega.{arith}
 use lib.ListN.{length}
 use Rattle.rules.specs.Lists.{run, if, keep, each, some?}
-use Rattle.rules.specs.Occurrence.{stands, reach, starts, occurrences}
+use Rattle.rules.specs.Occurrence.{found, reach, starts, occurrences}
 use Rattle.rules.specs.Order.{Before, here, there, InOrder, Rising}
 use Rattle.rules.specs.Support.{firsts, rows-from, occurrence-rows}
 use Rattle.rules.specs.Template.{Part}
@@ -67,12 +67,12 @@ each-in-order g o lead (x ∷ xs) rise =
 pub starts-in-order : (cs : List Part) (s : List ℕ) (p : ℕ) → InOrder (starts cs s p)
 unfolding starts reach
 starts-in-order [] s p = tt
-starts-in-order (c ∷ []) s p = go (stands (c .word) s p)
+starts-in-order (c ∷ []) s p = go (found c s p)
   where
     go : (b : Bool) → InOrder (if b ((p ∷ []) ∷ []) [])
     go true = (λ q m. absurd (List·Memᴰ·not-nil m), tt)
     go false = tt
-starts-in-order (c ∷ d ∷ ds) s p = go (stands (c .word) s p) (starts-in-order (d ∷ ds) s)
+starts-in-order (c ∷ d ∷ ds) s p = go (found c s p) (starts-in-order (d ∷ ds) s)
   where
     next : List ℕ
     next = reach (length (c .word)) (d .low) (d .high) p

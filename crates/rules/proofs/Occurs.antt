@@ -13,59 +13,74 @@ use lib.Seq.{getD-take}
 use Rattle.rules.specs.Limits.{Letter-BASES}
 use Rattle.rules.specs.Lists.{run, if, each}
 use Rattle.rules.specs.Motif.{spell}
-use Rattle.rules.specs.Occurrence.{stands, reach, starts, occurrences, Stands, Gap, Occurs}
+use Rattle.rules.specs.Occurrence.{stands, found, reach, starts, occurrences, Found, Gap, Occurs}
 use Rattle.rules.specs.Sound.{SoundTemplate}
 use Rattle.rules.specs.Support.{rows-from, occurrence-rows, parts}
-use Rattle.rules.specs.Template.{Part, part, none, slots, components, cut}
+use Rattle.rules.specs.Template.{Part, part, Reading, plain, none, slots, components, deal, cut}
 use Rattle.rules.specs.declared.Component.{Component}
 use Rattle.rules.specs.declared.Template.{Template}
 use Rattle.rules.proofs.Members.{each-in, each-out}
-use Rattle.rules.proofs.Stands.{stands-is, run-in, reach-is}
+use Rattle.rules.proofs.Stands.{found-is, run-in, reach-is}
 
 -- every part has a letter
 abbrev pub Worded : List Part → Type 0
 Worded cs = (i : ℕ) → i < length cs → 1 ≤ length ((getD cs i (part 0 0 [])) .word)
 
+-- a part, and parts, that are read exactly
+abbrev pub Exact : Part → Type 0
+Exact c = (s : List ℕ) (p : ℕ) → found c s p ≡ stands (c .word) s p
+
+abbrev pub Plain : List Part → Type 0
+Plain [] = Unit {0}
+Plain (c ∷ cs) = Exact c × Plain cs
+
+-- those of the exact search are
+pub cut-plain : (cs : List Component) (w : List ℕ) → Plain (cut cs w)
+unfolding deal
+cut-plain [] w = tt
+cut-plain (c ∷ cs) [] = tt
+cut-plain (c ∷ cs) (x ∷ w) = (λ s p. refl, cut-plain cs (drop (c .length) (x ∷ w)))
+
 -- letters dealt out to components of at least one letter leave no part without one
-cut-worded : (cs : List Component) (w : List ℕ) → ((i : ℕ) → i < length cs → 1 ≤ (getD cs i none) .length) → Worded (cut cs w)
-unfolding cut
-cut-worded [] w h i l = absurd (omega arith)
-cut-worded (c ∷ cs) [] h i l = absurd (omega arith)
-cut-worded (c ∷ cs) (x ∷ w) h zero l = omega (arith, h 0 (omega arith), length-take (c .length) (x ∷ w))
-cut-worded (c ∷ cs) (x ∷ w) h (suc i) l = cut-worded cs (drop (c .length) (x ∷ w)) (λ i k. h (suc i) (omega arith)) i (omega arith)
+deal-worded : (R : Reading) (cs : List Component) (w : List ℕ) → ((i : ℕ) → i < length cs → 1 ≤ (getD cs i none) .length) → Worded (deal R cs w)
+unfolding deal
+deal-worded R [] w h i l = absurd (omega arith)
+deal-worded R (c ∷ cs) [] h i l = absurd (omega arith)
+deal-worded R (c ∷ cs) (x ∷ w) h zero l = omega (arith, h 0 (omega arith), length-take (c .length) (x ∷ w))
+deal-worded R (c ∷ cs) (x ∷ w) h (suc i) l = deal-worded R cs (drop (c .length) (x ∷ w)) (λ i k. h (suc i) (omega arith)) i (omega arith)
 
 -- the parts of a motif, or of a prefix, under a sound template all have a letter
 pub parts-worded : (t : Template) → SoundTemplate t → (j m : ℕ) → Worded (parts t j m)
 unfolding parts components
-parts-worded t sound j m = cut-worded (take (t .count) (slots t)) (spell Letter-BASES j m) some
+parts-worded t sound j m = deal-worded plain (take (t .count) (slots t)) (spell Letter-BASES j m) some
   where
     some : (i : ℕ) → i < length (take (t .count) (slots t)) → 1 ≤ (getD (take (t .count) (slots t)) i none) .length
     some i l = let k : i < t .count = omega (arith, length-take (t .count) (slots t)) in rw (getD-take (t .count) (slots t) i none k) (sound .each i k .some)
 
 -- and there is a part as soon as there is a letter
 pub parts-some : (t : Template) → SoundTemplate t → (j m : ℕ) → 1 ≤ j → 1 ≤ length (parts t j m)
-unfolding parts components cut spell
+unfolding parts components deal spell
 parts-some t sound zero m l = absurd (omega arith)
 parts-some t sound (suc j) m l = go (t .count) (sound .some)
   where
-    go : (n : ℕ) → 1 ≤ n → 1 ≤ length (cut (take n (slots t)) (spell Letter-BASES (suc j) m))
+    go : (n : ℕ) → 1 ≤ n → 1 ≤ length (deal plain (take n (slots t)) (spell Letter-BASES (suc j) m))
     go zero k = absurd (omega arith)
     go (suc n) k = omega arith
 
 -- an occurrence of one part
-occurs-one : (c : Part) (s : List ℕ) (p : ℕ) → Stands (c .word) s p → Occurs (c ∷ []) s (p ∷ [])
+occurs-one : (c : Part) (s : List ℕ) (p : ℕ) → Found c s p → Occurs (c ∷ []) s (p ∷ [])
 occurs-one c s p h = record { one-each = refl; standing = standing; gaps = λ i l. absurd (omega arith) }
   where
-    standing : (i : ℕ) → i < 1 → Stands ((getD (c ∷ []) i (part 0 0 [])) .word) s (getD (p ∷ []) i 0)
+    standing : (i : ℕ) → i < 1 → Found (getD (c ∷ []) i (part 0 0 [])) s (getD (p ∷ []) i 0)
     standing zero l = h
     standing (suc i) l = absurd (omega arith)
 
 module _ (c d : Part) (ds : List Part) (s : List ℕ) (p q : ℕ) (qs : List ℕ) where
   -- an occurrence of the later parts that a part stands before
-  occurs-more : Stands (c .word) s p → Gap (length (c .word)) (d .low) (d .high) p q → Occurs (d ∷ ds) s (q ∷ qs) → Occurs (c ∷ d ∷ ds) s (p ∷ q ∷ qs)
+  occurs-more : Found c s p → Gap (length (c .word)) (d .low) (d .high) p q → Occurs (d ∷ ds) s (q ∷ qs) → Occurs (c ∷ d ∷ ds) s (p ∷ q ∷ qs)
   occurs-more h g o = record { one-each = ap suc (o .one-each); standing = standing; gaps = gaps }
     where
-      standing : (i : ℕ) → i < length (c ∷ d ∷ ds) → Stands ((getD (c ∷ d ∷ ds) i (part 0 0 [])) .word) s (getD (p ∷ q ∷ qs) i 0)
+      standing : (i : ℕ) → i < length (c ∷ d ∷ ds) → Found (getD (c ∷ d ∷ ds) i (part 0 0 [])) s (getD (p ∷ q ∷ qs) i 0)
       standing zero l = h
       standing (suc i) l = o .standing i (omega arith)
 
@@ -82,12 +97,12 @@ module _ (c d : Part) (ds : List Part) (s : List ℕ) (p q : ℕ) (qs : List ℕ
 pub starts-lead : (cs : List Part) (s : List ℕ) (p : ℕ) (ps : List ℕ) → List·Memᴰ ps (starts cs s p) → (rest : List ℕ) × (ps ≡ p ∷ rest)
 unfolding starts
 starts-lead [] s p ps m = absurd (List·Memᴰ·not-nil m)
-starts-lead (c ∷ []) s p ps m = go (stands (c .word) s p) m
+starts-lead (c ∷ []) s p ps m = go (found c s p) m
   where
     go : (b : Bool) → List·Memᴰ ps (if b ((p ∷ []) ∷ []) []) → (rest : List ℕ) × (ps ≡ p ∷ rest)
     go true m = ([], List·Memᴰ·eq-of-singleton m)
     go false m = absurd (List·Memᴰ·not-nil m)
-starts-lead (c ∷ d ∷ ds) s p ps m = go (stands (c .word) s p) m
+starts-lead (c ∷ d ∷ ds) s p ps m = go (found c s p) m
   where
     later : List (List ℕ)
     later = each (starts (d ∷ ds) s) (reach (length (c .word)) (d .low) (d .high) p)
@@ -99,33 +114,33 @@ starts-lead (c ∷ d ∷ ds) s p ps m = go (stands (c .word) s p) m
 starts-only : (cs : List Part) (s : List ℕ) (p : ℕ) (ps : List ℕ) → Worded cs → List·Memᴰ ps (starts cs s p) → Occurs cs s ps
 unfolding starts
 starts-only [] s p ps w m = absurd (List·Memᴰ·not-nil m)
-starts-only (c ∷ []) s p ps w m = go (stands (c .word) s p) refl m
+starts-only (c ∷ []) s p ps w m = go (found c s p) refl m
   where
-    go : (b : Bool) → stands (c .word) s p ≡ b → List·Memᴰ ps (if b ((p ∷ []) ∷ []) []) → Occurs (c ∷ []) s ps
-    go true e m = subst (Occurs (c ∷ []) s) (sym (List·Memᴰ·eq-of-singleton m)) (occurs-one c s p (stands-is (c .word) s p (w 0 (omega arith)) .0 e))
+    go : (b : Bool) → found c s p ≡ b → List·Memᴰ ps (if b ((p ∷ []) ∷ []) []) → Occurs (c ∷ []) s ps
+    go true e m = subst (Occurs (c ∷ []) s) (sym (List·Memᴰ·eq-of-singleton m)) (occurs-one c s p (found-is c s p (w 0 (omega arith)) .0 e))
     go false e m = absurd (List·Memᴰ·not-nil m)
-starts-only (c ∷ d ∷ ds) s p ps w m = go (stands (c .word) s p) refl m (λ q qs m. starts-only (d ∷ ds) s q qs (λ i l. w (suc i) (omega arith)) m)
+starts-only (c ∷ d ∷ ds) s p ps w m = go (found c s p) refl m (λ q qs m. starts-only (d ∷ ds) s q qs (λ i l. w (suc i) (omega arith)) m)
   where
     next : List ℕ
     next = reach (length (c .word)) (d .low) (d .high) p
 
-    go : (b : Bool) → stands (c .word) s p ≡ b → List·Memᴰ ps (if b (map (λ t. p ∷ t) (each (starts (d ∷ ds) s) next)) []) → ((q : ℕ) (qs : List ℕ) → List·Memᴰ qs (starts (d ∷ ds) s q) → Occurs (d ∷ ds) s qs) → Occurs (c ∷ d ∷ ds) s ps
+    go : (b : Bool) → found c s p ≡ b → List·Memᴰ ps (if b (map (λ t. p ∷ t) (each (starts (d ∷ ds) s) next)) []) → ((q : ℕ) (qs : List ℕ) → List·Memᴰ qs (starts (d ∷ ds) s q) → Occurs (d ∷ ds) s qs) → Occurs (c ∷ d ∷ ds) s ps
     go true e m ih =
         let r = Memᴰ·of-map (λ t. p ∷ t) (each (starts (d ∷ ds) s) next) m in
         let k = each-out (starts (d ∷ ds) s) next (r .1) in
         let l = starts-lead (d ∷ ds) s (k .0) (r .0) (k .2) in
         subst (Occurs (c ∷ d ∷ ds) s) (ap (λ t. p ∷ t) (sym (l .1)) ∙ r .2)
-        (occurs-more c d ds s p (k .0) (l .0) (stands-is (c .word) s p (w 0 (omega arith)) .0 e) (reach-is (length (c .word)) (d .low) (d .high) p (k .0) .0 (k .1)) (subst (Occurs (d ∷ ds) s) (l .1) (ih (k .0) (r .0) (k .2))))
+        (occurs-more c d ds s p (k .0) (l .0) (found-is c s p (w 0 (omega arith)) .0 e) (reach-is (length (c .word)) (d .low) (d .high) p (k .0) .0 (k .1)) (subst (Occurs (d ∷ ds) s) (l .1) (ih (k .0) (r .0) (k .2))))
     go false e m ih = absurd (List·Memᴰ·not-nil m)
 
 starts-all : (cs : List Part) (s : List ℕ) (p : ℕ) (ps : List ℕ) → Worded cs → Occurs cs s (p ∷ ps) → List·Memᴰ (p ∷ ps) (starts cs s p)
 unfolding starts
 starts-all [] s p ps w o = absurd (omega (arith, o .one-each))
-starts-all (c ∷ []) s p [] w o = rw (stands-is (c .word) s p (w 0 (omega arith)) .1 (o .standing 0 (omega arith))) (List·Memᴰ·head refl)
+starts-all (c ∷ []) s p [] w o = rw (found-is c s p (w 0 (omega arith)) .1 (o .standing 0 (omega arith))) (List·Memᴰ·head refl)
 starts-all (c ∷ []) s p (q ∷ qs) w o = absurd (omega (arith, o .one-each))
 starts-all (c ∷ d ∷ ds) s p [] w o = absurd (omega (arith, o .one-each))
 starts-all (c ∷ d ∷ ds) s p (q ∷ qs) w o =
-    rw (stands-is (c .word) s p (w 0 (omega arith)) .1 (o .standing 0 (omega arith)))
+    rw (found-is c s p (w 0 (omega arith)) .1 (o .standing 0 (omega arith)))
     (Memᴰ·map (λ t. p ∷ t)
     (each-in (starts (d ∷ ds) s) (reach (length (c .word)) (d .low) (d .high) p)
     (reach-is (length (c .word)) (d .low) (d .high) p q .1 (o .gaps 0 (omega arith)))

@@ -5,17 +5,17 @@ use mathlib.Core.Bool.{Bool, true, false, _||_, false≢true}
 use mathlib.Core.List.{List, [], _∷_, _++_, map}
 use Prim.Native.Nat.{ℕ, zero, suc, _/_, _%_, _≤_}
 use native.Mathlib.Omega.{arith}
-use lib.Dec.{leb, eqb}
+use lib.Dec.{leb}
 use lib.ListN.{length, take, drop, length-append, drop-of-length-le}
 use lib.Seq.{take-all, take-append-le, drop-append-le}
 use borrow.Author.Tests.{leb-true, leb-false, le-leb}
 use Rattle.rules.specs.Limits.{Letter-BASES}
 use Rattle.rules.specs.Lists.{run, if, keep, each, some?, sum}
 use Rattle.rules.specs.Motif.{spell}
-use Rattle.rules.specs.Occurrence.{front, stands, reach, starts, occurrences}
+use Rattle.rules.specs.Occurrence.{spare, front-by, stands-by, found, reach, starts, occurrences}
 use Rattle.rules.specs.Sound.{SoundTemplate}
 use Rattle.rules.specs.Support.{marks, support, parts, frequent}
-use Rattle.rules.specs.Template.{Part, part, slots, components, size, cut}
+use Rattle.rules.specs.Template.{Part, Reading, plain, read, slots, components, size, deal}
 use Rattle.rules.specs.Walk.{exact, walk-over, Lawful}
 use Rattle.rules.specs.declared.Component.{Component}
 use Rattle.rules.specs.declared.Template.{Template}
@@ -49,56 +49,58 @@ some-each f g (x ∷ xs) h e = rw (some-append (g x) (each g xs)) (go (some? (f 
 -- ---- occurrences, cut short
 
 -- all but the last of some letters stand where all do
-front-less : (w : List ℕ) (y : ℕ) (s : List ℕ) → front (w ++ (y ∷ [])) s ≡ true → front w s ≡ true
-unfolding front
-front-less [] y s e = refl
-front-less (x ∷ w) y [] e = e
-front-less (x ∷ w) y (z ∷ s) e = go (eqb x z) e (front-less w y s)
+front-less : (f : ℕ → ℕ → Bool) (k : ℕ) (w : List ℕ) (y : ℕ) (s : List ℕ) → front-by f k (w ++ (y ∷ [])) s ≡ true → front-by f k w s ≡ true
+unfolding front-by
+front-less f k [] y s e = refl
+front-less f k (x ∷ w) y [] e = e
+front-less f k (x ∷ w) y (z ∷ s) e = go (f x z) k e (λ k. front-less f k w y s)
   where
-    go : (b : Bool) → if b (front (w ++ (y ∷ [])) s) false ≡ true → (front (w ++ (y ∷ [])) s ≡ true → front w s ≡ true) → if b (front w s) false ≡ true
-    go true e ih = ih e
-    go false e ih = e
+    go : (b : Bool) (k : ℕ) → if b (front-by f k (w ++ (y ∷ [])) s) (spare k false (λ k. front-by f k (w ++ (y ∷ [])) s)) ≡ true → ((k : ℕ) → front-by f k (w ++ (y ∷ [])) s ≡ true → front-by f k w s ≡ true)
+        → if b (front-by f k w s) (spare k false (λ k. front-by f k w s)) ≡ true
+    go true k e ih = ih k e
+    go false zero e ih = e
+    go false (suc k) e ih = ih k e
 
-stands-less : (w : List ℕ) (y : ℕ) (s : List ℕ) (p : ℕ) → stands (w ++ (y ∷ [])) s p ≡ true → stands w s p ≡ true
-unfolding stands
-stands-less w y s zero e = e
-stands-less w y s (suc o) e = front-less w y (drop o s) e
+pub stands-less : (f : ℕ → ℕ → Bool) (k : ℕ) (w : List ℕ) (y : ℕ) (s : List ℕ) (p : ℕ) → stands-by f k (w ++ (y ∷ [])) s p ≡ true → stands-by f k w s p ≡ true
+unfolding stands-by
+stands-less f k w y s zero e = e
+stands-less f k w y s (suc o) e = front-less f k w y (drop o s) e
 
-cut-nil : (cs : List Component) → cut cs [] ≡ []
-unfolding cut
-cut-nil [] = refl
-cut-nil (c ∷ cs) = refl
+pub deal-nil : (R : Reading) (cs : List Component) → deal R cs [] ≡ []
+unfolding deal
+deal-nil R [] = refl
+deal-nil R (c ∷ cs) = refl
 
-module _ (s : List ℕ) where
+module _ (R : Reading) (s : List ℕ) where
   -- parts start where the first of them stands
-  first-stands : (c : Part) (cs : List Part) (p : ℕ) → some? (starts (c ∷ cs) s p) ≡ true → stands (c .word) s p ≡ true
+  first-stands : (c : Part) (cs : List Part) (p : ℕ) → some? (starts (c ∷ cs) s p) ≡ true → found c s p ≡ true
   unfolding starts
   first-stands c [] p e = some-if _ _ e .0
   first-stands c (d ∷ ds) p e = some-if _ _ e .0
 
-  one-starts : (c : Part) (p : ℕ) → stands (c .word) s p ≡ true → some? (starts (c ∷ []) s p) ≡ true
+  one-starts : (c : Part) (p : ℕ) → found c s p ≡ true → some? (starts (c ∷ []) s p) ≡ true
   unfolding starts some?
   one-starts c p e = rw e
 
   -- with a first part more, those start still that did
-  after : (c : Part) (l u : ℕ) (v w : List ℕ) (ds es : List Part) → ((p : ℕ) → some? (starts (part l u v ∷ ds) s p) ≡ true → some? (starts (part l u w ∷ es) s p) ≡ true)
-      → (p : ℕ) → some? (starts (c ∷ part l u v ∷ ds) s p) ≡ true → some? (starts (c ∷ part l u w ∷ es) s p) ≡ true
+  after : (a : Part) (c : Component) (v w : List ℕ) (ds es : List Part) → ((p : ℕ) → some? (starts (read R c v ∷ ds) s p) ≡ true → some? (starts (read R c w ∷ es) s p) ≡ true)
+      → (p : ℕ) → some? (starts (a ∷ read R c v ∷ ds) s p) ≡ true → some? (starts (a ∷ read R c w ∷ es) s p) ≡ true
   unfolding starts
-  after c l u v w ds es h p e =
-      let k = some-if (stands (c .word) s p) _ e in
-      rw (k .0) (some-map (λ t. p ∷ t) _ ∙ some-each _ _ (reach (length (c .word)) l u p) h (sym (some-map (λ t. p ∷ t) _) ∙ k .1))
+  after a c v w ds es h p e =
+      let k = some-if (found a s p) _ e in
+      rw (k .0) (some-map (λ t. p ∷ t) _ ∙ some-each _ _ (reach (length (a .word)) (c .low) (c .high) p) h (sym (some-map (λ t. p ∷ t) _) ∙ k .1))
 
   -- so it is where a letter is taken from what follows the first part
-  less-after : (a : Part) (cs : List Component) (v : List ℕ) (y : ℕ) → (1 ≤ length v → (p : ℕ) → some? (starts (cut cs (v ++ (y ∷ []))) s p) ≡ true → some? (starts (cut cs v) s p) ≡ true)
-      → (p : ℕ) → some? (starts (a ∷ cut cs (v ++ (y ∷ []))) s p) ≡ true → some? (starts (a ∷ cut cs v) s p) ≡ true
-  unfolding cut
+  less-after : (a : Part) (cs : List Component) (v : List ℕ) (y : ℕ) → (1 ≤ length v → (p : ℕ) → some? (starts (deal R cs (v ++ (y ∷ []))) s p) ≡ true → some? (starts (deal R cs v) s p) ≡ true)
+      → (p : ℕ) → some? (starts (a ∷ deal R cs (v ++ (y ∷ []))) s p) ≡ true → some? (starts (a ∷ deal R cs v) s p) ≡ true
+  unfolding deal
   less-after a [] v y ih p e = e
   less-after a (d ∷ ds) [] y ih p e = one-starts a p (first-stands a _ p e)
-  less-after a (d ∷ ds) (x ∷ w) y ih p e = after a (d .low) (d .high) _ _ _ _ (ih (omega arith)) p e
+  less-after a (d ∷ ds) (x ∷ w) y ih p e = after a d _ _ _ _ (ih (omega arith)) p e
 
   -- with a letter less in all, parts start where they did
-  fewer : (cs : List Component) (v : List ℕ) (y : ℕ) → 1 ≤ length v → (p : ℕ) → some? (starts (cut cs (v ++ (y ∷ []))) s p) ≡ true → some? (starts (cut cs v) s p) ≡ true
-  unfolding cut
+  fewer : (cs : List Component) (v : List ℕ) (y : ℕ) → 1 ≤ length v → (p : ℕ) → some? (starts (deal R cs (v ++ (y ∷ []))) s p) ≡ true → some? (starts (deal R cs v) s p) ≡ true
+  unfolding deal
   fewer [] v y h p e = e
   fewer (c ∷ cs) [] y h p e = absurd (omega arith)
   fewer (c ∷ cs) (x ∷ w) y h p e = go (leb (c .length) (suc (length w))) refl (fewer cs (drop (c .length) (x ∷ w)) y)
@@ -107,8 +109,8 @@ module _ (s : List ℕ) where
       v = x ∷ w
 
       go : (b : Bool) → leb (c .length) (suc (length w)) ≡ b
-          → (1 ≤ length (drop (c .length) v) → (p : ℕ) → some? (starts (cut cs (drop (c .length) v ++ (y ∷ []))) s p) ≡ true → some? (starts (cut cs (drop (c .length) v)) s p) ≡ true)
-          → some? (starts (part (c .low) (c .high) (take (c .length) v) ∷ cut cs (drop (c .length) v)) s p) ≡ true
+          → (1 ≤ length (drop (c .length) v) → (p : ℕ) → some? (starts (deal R cs (drop (c .length) v ++ (y ∷ []))) s p) ≡ true → some? (starts (deal R cs (drop (c .length) v)) s p) ≡ true)
+          → some? (starts (read R c (take (c .length) v) ∷ deal R cs (drop (c .length) v)) s p) ≡ true
       -- the letter stood after the first part
       go true f ih = let l = leb-true (c .length) (suc (length w)) f in
           less-after _ cs (drop (c .length) v) y ih p (rw (take-append-le (c .length) v (y ∷ []) l, drop-append-le (c .length) v (y ∷ []) l) at e)
@@ -117,11 +119,11 @@ module _ (s : List ℕ) where
           let l = leb-false (c .length) (suc (length w)) f in
           let short : length v ≤ c .length = omega arith in
           let long : length (v ++ (y ∷ [])) ≤ c .length = omega (arith, length-append v (y ∷ [])) in
-          rw (take-all (c .length) v short, drop-of-length-le v short, cut-nil cs)
-          (one-starts _ p (stands-less v y s p (rw (take-all (c .length) (v ++ (y ∷ [])) long) at (first-stands _ _ p e))))
+          rw (take-all (c .length) v short, drop-of-length-le v short, deal-nil R cs)
+          (one-starts _ p (stands-less (R .fits) (R .slack c) v y s p (rw (take-all (c .length) (v ++ (y ∷ [])) long) at (first-stands _ _ p e))))
 
   -- so they occur in the sequences in which they did
-  fewer-occur : (cs : List Component) (v : List ℕ) (y : ℕ) → 1 ≤ length v → some? (occurrences (cut cs (v ++ (y ∷ []))) s) ≡ true → some? (occurrences (cut cs v) s) ≡ true
+  fewer-occur : (cs : List Component) (v : List ℕ) (y : ℕ) → 1 ≤ length v → some? (occurrences (deal R cs (v ++ (y ∷ []))) s) ≡ true → some? (occurrences (deal R cs v) s) ≡ true
   unfolding occurrences
   fewer-occur cs v y h e = some-each _ _ (run 1 (length s)) (fewer cs v y h) e
 
@@ -140,14 +142,13 @@ marks-le f g h (x ∷ xs) = go (f x) (g x) (h x) (marks-le f g h xs)
     go false true k ih = omega arith
     go false false k ih = ih
 
-module _ (t : Template) (j m : ℕ) (h : 1 ≤ j) where
+module _ (R : Reading) (base : ℕ) (cs : List Component) (j m : ℕ) (h : 1 ≤ j) where
   -- a prefix one letter shorter occurs wherever the longer one does
-  pub prefix-occurs : (s : List ℕ) → some? (occurrences (parts t (suc j) m) s) ≡ true → some? (occurrences (parts t j (m / Letter-BASES)) s) ≡ true
-  unfolding parts
-  prefix-occurs s e = fewer-occur s (components t) (spell Letter-BASES j (m / Letter-BASES)) (m % Letter-BASES) (rw length-spell h) (rw (spell-more Letter-BASES j m) at e)
+  pub prefix-occurs : (s : List ℕ) → some? (occurrences (deal R cs (spell base (suc j) m)) s) ≡ true → some? (occurrences (deal R cs (spell base j (m / base))) s) ≡ true
+  prefix-occurs s e = fewer-occur R s cs (spell base j (m / base)) (m % base) (rw length-spell h) (rw (spell-more base j m) at e)
 
   -- so its support is no smaller
-  pub support-antitone : (ss : List (List ℕ)) → support (parts t (suc j) m) ss ≤ support (parts t j (m / Letter-BASES)) ss
+  pub support-antitone : (ss : List (List ℕ)) → support (deal R cs (spell base (suc j) m)) ss ≤ support (deal R cs (spell base j (m / base))) ss
   unfolding support marks
   support-antitone ss = marks-le _ _ prefix-occurs ss
 
@@ -163,11 +164,11 @@ size-some t s = go (t .count) (s .some)
 module _ (t : Template) (quorum : ℕ) (ss : List (List ℕ)) where
   -- and it is frequent if the longer one is
   pub frequent-prefix : (j m : ℕ) → frequent t quorum ss (suc j) m ≡ true → frequent t quorum ss j (m / Letter-BASES) ≡ true
-  unfolding frequent
+  unfolding frequent parts
   frequent-prefix zero m e = refl
   frequent-prefix (suc j) m e =
       le-leb quorum (support (parts t (suc j) (m / Letter-BASES)) ss)
-      (omega (arith, leb-true quorum (support (parts t (suc (suc j)) m) ss) e, support-antitone t (suc j) m (omega arith) ss))
+      (omega (arith, leb-true quorum (support (parts t (suc (suc j)) m) ss) e, support-antitone plain Letter-BASES (components t) (suc j) m (omega arith) ss))
 
   -- ---- what the walk's laws ask of a search, for the search for frequent motifs
 

@@ -1,4 +1,4 @@
--- Where letters stand and where the next part may start: what `stands` and `reach` find is what the sentences `Stands` and
+-- Where letters stand and where the next part may start: what `found` and `reach` find is what the sentences `Found` and
 -- `Gap` say. Letters are compared one by one from the front, and a reach is a run of numbers between the two ends of a gap.
 use mathlib.Core.Path.{_≡_, refl, sym, _∙_}
 use mathlib.Core.Logic.{_↔_, _⊎_, inl, inr}
@@ -11,51 +11,90 @@ use lib.ListN.{length, drop, getD, length-drop}
 use lib.Seq.{getD-drop}
 use borrow.Author.Tests.{ltb-true, ltb-false, eqb-true, eq-eqb}
 use Rattle.rules.specs.Lists.{run, if}
-use Rattle.rules.specs.Occurrence.{front, stands, reach, Stands, Gap}
+use Rattle.rules.specs.Occurrence.{spare, front-by, stands-by, found, reach, misses, StandsBy, Found, Stands, Gap}
+use Rattle.rules.specs.Template.{Part}
 
--- a list whose first letters are w has room for them
-front-room : (w s : List ℕ) → front w s ≡ true → length w ≤ length s
-unfolding front
-front-room [] s e = omega arith
-front-room (x ∷ w) [] e = absurd (false≢true e)
-front-room (x ∷ w) (y ∷ s) e = go (eqb x y) e (front-room w s)
-  where
-    go : (b : Bool) → if b (front w s) false ≡ true → (front w s ≡ true → length w ≤ length s) → suc (length w) ≤ suc (length s)
-    go true e ih = omega (arith, ih e)
-    go false e ih = absurd (false≢true e)
+-- ---- letters at the front, but for k of them
 
--- and each is the one there
-front-same : (w s : List ℕ) → front w s ≡ true → (i : ℕ) → i < length w → getD s i 0 ≡ getD w i 0
-unfolding front
-front-same [] s e i h = absurd (omega arith)
-front-same (x ∷ w) [] e i h = absurd (false≢true e)
-front-same (x ∷ w) (y ∷ s) e i h = go (eqb x y) refl e i h (front-same w s)
-  where
-    go : (b : Bool) → eqb x y ≡ b → if b (front w s) false ≡ true → (i : ℕ) → i < suc (length w) → (front w s ≡ true → (i : ℕ) → i < length w → getD s i 0 ≡ getD w i 0) → getD (y ∷ s) i 0 ≡ getD (x ∷ w) i 0
-    go true q e zero h ih = sym (eqb-true x y q)
-    go true q e (suc i) h ih = ih e i (omega arith)
-    go false q e i h ih = absurd (false≢true e)
+module _ (f : ℕ → ℕ → Bool) where
+  -- a list that w fits has room for it
+  front-room : (k : ℕ) (w s : List ℕ) → front-by f k w s ≡ true → length w ≤ length s
+  unfolding front-by
+  front-room k [] s e = omega arith
+  front-room k (x ∷ w) [] e = absurd (false≢true e)
+  front-room k (x ∷ w) (y ∷ s) e = go (f x y) k e (λ k. front-room k w s)
+    where
+      go : (b : Bool) (k : ℕ) → if b (front-by f k w s) (spare k false (λ k. front-by f k w s)) ≡ true → ((k : ℕ) → front-by f k w s ≡ true → length w ≤ length s) → suc (length w) ≤ suc (length s)
+      go true k e ih = omega (arith, ih k e)
+      go false zero e ih = absurd (false≢true e)
+      go false (suc k) e ih = omega (arith, ih k e)
 
-front-all : (w s : List ℕ) → length w ≤ length s → ((i : ℕ) → i < length w → getD s i 0 ≡ getD w i 0) → front w s ≡ true
-unfolding front
-front-all [] s l h = refl
-front-all (x ∷ w) [] l h = absurd (omega arith)
-front-all (x ∷ w) (y ∷ s) l h = rw (eq-eqb x y (sym (h 0 (omega arith)))) (front-all w s (omega arith) (λ i k. h (suc i) (omega arith)))
+  -- and at most k do not fit
+  front-close : (k : ℕ) (w s : List ℕ) → front-by f k w s ≡ true → misses f w s ≤ k
+  unfolding front-by misses
+  front-close k [] s e = omega arith
+  front-close k (x ∷ w) [] e = omega arith
+  front-close k (x ∷ w) (y ∷ s) e = go (f x y) k e (λ k. front-close k w s)
+    where
+      go : (b : Bool) (k : ℕ) → if b (front-by f k w s) (spare k false (λ k. front-by f k w s)) ≡ true → ((k : ℕ) → front-by f k w s ≡ true → misses f w s ≤ k) → if b (misses f w s) (suc (misses f w s)) ≤ k
+      go true k e ih = ih k e
+      go false zero e ih = absurd (false≢true e)
+      go false (suc k) e ih = omega (arith, ih k e)
 
--- letters, at least one, are found at a position exactly if they stand there
-pub stands-is : (w s : List ℕ) (p : ℕ) → 1 ≤ length w → (stands w s p ≡ true) ↔ Stands w s p
-unfolding stands
-stands-is w s zero some = (λ e. absurd (false≢true e), λ h. absurd (omega (arith, h .counted)))
-stands-is w s (suc o) some = (there, found)
-  where
-    at : (i : ℕ) → getD (drop o s) i 0 ≡ getD s (suc o - 1 + i) 0
-    at i = let e : suc o - 1 + i ≡ o + i = omega arith in rw e (getD-drop o s i 0)
+  front-all : (k : ℕ) (w s : List ℕ) → length w ≤ length s → misses f w s ≤ k → front-by f k w s ≡ true
+  unfolding front-by misses
+  front-all k [] s l h = refl
+  front-all k (x ∷ w) [] l h = absurd (omega arith)
+  front-all k (x ∷ w) (y ∷ s) l h = go (f x y) k h (λ k. front-all k w s (omega arith))
+    where
+      go : (b : Bool) (k : ℕ) → if b (misses f w s) (suc (misses f w s)) ≤ k → ((k : ℕ) → misses f w s ≤ k → front-by f k w s ≡ true) → if b (front-by f k w s) (spare k false (λ k. front-by f k w s)) ≡ true
+      go true k h ih = ih k h
+      go false zero h ih = absurd (omega arith)
+      go false (suc k) h ih = ih k (omega arith)
 
-    there : front w (drop o s) ≡ true → Stands w s (suc o)
-    there e = record { counted = omega arith; room = omega (arith, front-room w (drop o s) e, length-drop o s); same = λ i h. sym (at i) ∙ front-same w (drop o s) e i h }
+  -- letters, at least one, are found at a position exactly if they stand there
+  pub stands-by-is : (k : ℕ) (w s : List ℕ) (p : ℕ) → 1 ≤ length w → (stands-by f k w s p ≡ true) ↔ StandsBy f k w s p
+  unfolding stands-by
+  stands-by-is k w s zero some = (λ e. absurd (false≢true e), λ h. absurd (omega (arith, h .counted)))
+  stands-by-is k w s (suc o) some = (there, found)
+    where
+      at : suc o - 1 ≡ o
+      at = omega arith
 
-    found : Stands w s (suc o) → front w (drop o s) ≡ true
-    found h = front-all w (drop o s) (omega (arith, h .room, length-drop o s)) (λ i l. at i ∙ h .same i l)
+      there : front-by f k w (drop o s) ≡ true → StandsBy f k w s (suc o)
+      there e = record { counted = omega arith; room = omega (arith, front-room k w (drop o s) e, length-drop o s); close = rw at (front-close k w (drop o s) e) }
+
+      found : StandsBy f k w s (suc o) → front-by f k w (drop o s) ≡ true
+      found h = front-all k w (drop o s) (omega (arith, h .room, length-drop o s)) (rw at at (h .close))
+
+  -- where none may fail to, each letter fits
+  none-missed : (w s : List ℕ) → length w ≤ length s → misses f w s ≤ 0 → (i : ℕ) → i < length w → f (getD w i 0) (getD s i 0) ≡ true
+  unfolding misses
+  none-missed [] s l h i k = absurd (omega arith)
+  none-missed (x ∷ w) [] l h i k = absurd (omega arith)
+  none-missed (x ∷ w) (y ∷ s) l h i k = go (f x y) refl h i k (none-missed w s (omega arith))
+    where
+      go : (b : Bool) → f x y ≡ b → if b (misses f w s) (suc (misses f w s)) ≤ 0 → (i : ℕ) → i < suc (length w) → (misses f w s ≤ 0 → (i : ℕ) → i < length w → f (getD w i 0) (getD s i 0) ≡ true) → f (getD (x ∷ w) i 0) (getD (y ∷ s) i 0) ≡ true
+      go true e h zero k ih = e
+      go true e h (suc i) k ih = ih h i (omega arith)
+      go false e h i k ih = absurd (omega arith)
+
+  all-fit : (w s : List ℕ) → length w ≤ length s → ((i : ℕ) → i < length w → f (getD w i 0) (getD s i 0) ≡ true) → misses f w s ≤ 0
+  unfolding misses
+  all-fit [] s l h = omega arith
+  all-fit (x ∷ w) [] l h = omega arith
+  all-fit (x ∷ w) (y ∷ s) l h = rw (h 0 (omega arith)) (all-fit w s (omega arith) (λ i k. h (suc i) (omega arith)))
+
+-- a part is found exactly where it stands
+pub found-is : (c : Part) (s : List ℕ) (p : ℕ) → 1 ≤ length (c .word) → (found c s p ≡ true) ↔ Found c s p
+found-is c s p some = stands-by-is (c .fits) (c .slack) (c .word) s p some
+
+-- read exactly, letters stand where each is the one there
+pub stands-exactly : (w s : List ℕ) (p : ℕ) → StandsBy eqb 0 w s p ↔ Stands w s p
+stands-exactly w s p = (
+  λ h. record { counted = h .counted; room = h .room; same = λ i l. sym (eqb-true (getD w i 0) (getD s (p - 1 + i) 0) (rw getD-drop at (none-missed eqb w (drop (p - 1) s) (omega (arith, h .counted, h .room, length-drop (p - 1) s)) (h .close) i l))) },
+  λ h. record { counted = h .counted; room = h .room; close = all-fit eqb w (drop (p - 1) s) (omega (arith, h .counted, h .room, length-drop (p - 1) s)) (λ i l. eq-eqb (getD w i 0) _ (sym (h .same i l) ∙ sym (getD-drop (p - 1) s i 0))) },
+)
 
 -- a run holds the numbers between its ends, and nothing else
 pub run-in : (a n x : ℕ) → a ≤ x → x < a + n → List·Memᴰ x (run a n)

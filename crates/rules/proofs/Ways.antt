@@ -8,7 +8,7 @@ use Prim.Native.Nat.{ℕ, suc, _≤_}
 use native.Mathlib.Omega.{arith}
 use lib.ListN.{length, length-append, length-map}
 use Rattle.rules.specs.Lists.{run, if, keep, each, some?, sum}
-use Rattle.rules.specs.Occurrence.{stands, reach, starts, occurrences, ways, Occurs}
+use Rattle.rules.specs.Occurrence.{found, reach, starts, occurrences, ways, Occurs}
 use Rattle.rules.specs.Support.{marks, support, firsts, rows-from, occurrence-rows}
 use Rattle.rules.specs.Template.{Part}
 use Rattle.rules.proofs.Members.{each-in, each-out, keep-run-in, keep-run-out}
@@ -25,12 +25,12 @@ each-count f g h (x ∷ xs) = omega (arith, h x, each-count f g h xs, length-app
 pub ways-count : (cs : List Part) (s : List ℕ) (p : ℕ) → ways cs s p ≡ length (starts cs s p)
 unfolding ways starts
 ways-count [] s p = refl
-ways-count (c ∷ []) s p = go (stands (c .word) s p)
+ways-count (c ∷ []) s p = go (found c s p)
   where
     go : (b : Bool) → if b 1 0 ≡ length (if b ((p ∷ []) ∷ []) [])
     go true = refl
     go false = refl
-ways-count (c ∷ d ∷ ds) s p = go (stands (c .word) s p) (each-count (ways (d ∷ ds) s) (starts (d ∷ ds) s) (ways-count (d ∷ ds) s) next)
+ways-count (c ∷ d ∷ ds) s p = go (found c s p) (each-count (ways (d ∷ ds) s) (starts (d ∷ ds) s) (ways-count (d ∷ ds) s) next)
   where
     next : List ℕ
     next = reach (length (c .word)) (d .low) (d .high) p

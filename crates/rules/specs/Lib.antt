@@ -9,6 +9,7 @@ pub mod Occurrence
 pub mod Order
 pub mod Support
 pub mod Walk
+pub mod Profile
 pub mod Legs
 pub mod Told
 pub mod Saved
@@ -20,3 +21,4 @@ pub mod Calls
 pub mod Relay
 pub mod Text
 pub mod Facts
+pub mod Kinds

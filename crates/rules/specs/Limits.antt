@@ -9,6 +9,13 @@ Letter-BASES = 4
 abbrev pub Letter-MARK : ℕ
 Letter-MARK = 4
 
+-- the letters of a mixed motif, and the base of its number
+abbrev pub Letter-KINDS : ℕ
+Letter-KINDS = 14
+
+abbrev pub Letter-PLACES : ℕ
+Letter-PLACES = 16
+
 -- a template's components, the letters of one, the letters in all (K), and the longest gap
 abbrev pub Template-COMPONENTS : ℕ
 Template-COMPONENTS = 6

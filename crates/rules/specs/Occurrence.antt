@@ -8,16 +8,32 @@ use lib.ListN.{length, drop, getD}
 use Rattle.rules.specs.Lists.{run, if, each, sum}
 use Rattle.rules.specs.Template.{Part, part}
 
--- the letters w are the first of s
-unfoldable pub front : List ℕ → List ℕ → Bool
-front [] s = true
-front (x ∷ w) [] = false
-front (x ∷ w) (y ∷ s) = if (eqb x y) (front w s) false
+-- one of k less: with none left a, and else what g makes of the others
+abbrev pub spare : {A : Type 0} → ℕ → A → (ℕ → A) → A
+spare zero a g = a
+spare (suc k) a g = g k
 
--- the letters w stand in s at a position. Positions count from 1, so nothing stands at 0
-unfoldable pub stands : List ℕ → List ℕ → ℕ → Bool
-stands w s zero = false
-stands w s (suc o) = front w (drop o s)
+-- the letters w fit the first of s, but for at most k of them
+unfoldable pub front-by : (ℕ → ℕ → Bool) → ℕ → List ℕ → List ℕ → Bool
+front-by f k [] s = true
+front-by f k (x ∷ w) [] = false
+front-by f k (x ∷ w) (y ∷ s) = if (f x y) (front-by f k w s) (spare k false (λ k. front-by f k w s))
+
+-- they stand so in s at a position. Positions count from 1, so nothing stands at 0
+unfoldable pub stands-by : (ℕ → ℕ → Bool) → ℕ → List ℕ → List ℕ → ℕ → Bool
+stands-by f k w s zero = false
+stands-by f k w s (suc o) = front-by f k w (drop o s)
+
+-- exactly
+abbrev pub front : List ℕ → List ℕ → Bool
+front w s = front-by eqb 0 w s
+
+abbrev pub stands : List ℕ → List ℕ → ℕ → Bool
+stands w s p = stands-by eqb 0 w s p
+
+-- a part stands at a position, as it is read
+abbrev pub found : Part → List ℕ → ℕ → Bool
+found c s p = stands-by (c .fits) (c .slack) (c .word) s p
 
 -- where the next part may start if one of n letters starts at p: after its letters and a gap of low to high positions
 unfoldable pub reach : ℕ → ℕ → ℕ → ℕ → List ℕ
@@ -26,9 +42,9 @@ reach n low high p = run (p + n + low) (high + 1 - low)
 -- THE LIST. The occurrences of the parts whose first start is p: all later starts under it, rising
 unfoldable pub starts : List Part → List ℕ → ℕ → List (List ℕ)
 starts [] s p = []
-starts (c ∷ []) s p = if (stands (c .word) s p) ((p ∷ []) ∷ []) []
+starts (c ∷ []) s p = if (found c s p) ((p ∷ []) ∷ []) []
 starts (c ∷ d ∷ ds) s p =
-    if (stands (c .word) s p)
+    if (found c s p)
     (map (λ t. p ∷ t) (each (starts (d ∷ ds) s) (reach (length (c .word)) (d .low) (d .high) p)))
     []
 
@@ -39,10 +55,25 @@ occurrences cs s = each (starts cs s) (run 1 (length s))
 -- the number of those whose first start is p, without making them: how many ways the later parts can follow
 unfoldable pub ways : List Part → List ℕ → ℕ → ℕ
 ways [] s p = 0
-ways (c ∷ []) s p = if (stands (c .word) s p) 1 0
-ways (c ∷ d ∷ ds) s p = if (stands (c .word) s p) (sum (map (ways (d ∷ ds) s) (reach (length (c .word)) (d .low) (d .high) p))) 0
+ways (c ∷ []) s p = if (found c s p) 1 0
+ways (c ∷ d ∷ ds) s p = if (found c s p) (sum (map (ways (d ∷ ds) s) (reach (length (c .word)) (d .low) (d .high) p))) 0
 
--- THE SENTENCE. The letters w stand in s at position p: it has room for them, and each is the one there
+-- THE SENTENCE. How many of the letters w do not fit those that s begins with
+unfoldable pub misses : (ℕ → ℕ → Bool) → List ℕ → List ℕ → ℕ
+misses f [] s = 0
+misses f (x ∷ w) [] = 0
+misses f (x ∷ w) (y ∷ s) = if (f x y) (misses f w s) (suc (misses f w s))
+
+-- the letters w stand in s at position p: it has room for them, and at most k of them do not fit those there
+pub record StandsBy (f : ℕ → ℕ → Bool) (k : ℕ) (w s : List ℕ) (p : ℕ) : Type 0 where
+  pub counted : 1 ≤ p
+  pub room : p + length w ≤ length s + 1
+  pub close : misses f w (drop (p - 1) s) ≤ k
+
+abbrev pub Found : Part → List ℕ → ℕ → Type 0
+Found c s p = StandsBy (c .fits) (c .slack) (c .word) s p
+
+-- exactly: each letter is the one there
 pub record Stands (w s : List ℕ) (p : ℕ) : Type 0 where
   pub counted : 1 ≤ p
   pub room : p + length w ≤ length s + 1
@@ -56,6 +87,6 @@ pub record Gap (n low high p q : ℕ) : Type 0 where
 -- an occurrence: one start for each part, such that its letters stand there and each next start keeps its range
 pub record Occurs (cs : List Part) (s ps : List ℕ) : Type 0 where
   pub one-each : length ps ≡ length cs
-  pub standing : (i : ℕ) → i < length cs → Stands ((getD cs i (part 0 0 [])) .word) s (getD ps i 0)
+  pub standing : (i : ℕ) → i < length cs → Found (getD cs i (part 0 0 [])) s (getD ps i 0)
   pub gaps : (i : ℕ) → suc i < length cs
       → Gap (length ((getD cs i (part 0 0 [])) .word)) ((getD cs (suc i) (part 0 0 [])) .low) ((getD cs (suc i) (part 0 0 [])) .high) (getD ps i 0) (getD ps (suc i) 0)

@@ -1,7 +1,8 @@
 -- Templates: their components, K, and the parts that a prefix of a motif has under one.
+use mathlib.Core.Bool.{Bool}
 use mathlib.Core.List.{List, [], _∷_, map}
 use Prim.Native.Nat.{ℕ}
-use lib.Dec.{leb}
+use lib.Dec.{leb, eqb}
 use lib.ListN.{length, take, drop}
 use Rattle.rules.specs.Lists.{if, sum}
 use Rattle.rules.specs.declared.Component.{Component}
@@ -40,17 +41,36 @@ trimmed t = record {
   c6 = kept (t .count) 6 (t .c6);
 }
 
--- a component of a motif: the gap range before it, and its letters
+-- a component of a motif: the gap range before it, and its letters; which letter of a sequence each of them fits, and how many
+-- may fail to
 pub record Part : Type 0 where
   pub low : ℕ
   pub high : ℕ
   pub word : List ℕ
+  pub fits : ℕ → ℕ → Bool
+  pub slack : ℕ
+
+-- how the letters of a kind of search are read
+pub record Reading : Type 0 where
+  pub fits : ℕ → ℕ → Bool
+  pub slack : Component → ℕ
+
+-- exactly: a letter fits itself, and none may fail to
+abbrev pub plain : Reading
+plain = record { fits = eqb; slack = λ c. 0 }
+
+-- a component's part with the letters w, and one that is read exactly
+abbrev pub read : Reading → Component → List ℕ → Part
+read R c w = record { low = c .low; high = c .high; word = w; fits = R .fits; slack = R .slack c }
 
 abbrev pub part : ℕ → ℕ → List ℕ → Part
-part l u w = record { low = l; high = u; word = w }
+part l u w = record { low = l; high = u; word = w; fits = eqb; slack = 0 }
 
 -- the letters of a motif, or of a prefix, dealt out to the components: the last one cut short, and none after it
-unfoldable pub cut : List Component → List ℕ → List Part
-cut [] w = []
-cut (c ∷ cs) [] = []
-cut (c ∷ cs) (x ∷ w) = part (c .low) (c .high) (take (c .length) (x ∷ w)) ∷ cut cs (drop (c .length) (x ∷ w))
+unfoldable pub deal : Reading → List Component → List ℕ → List Part
+deal R [] w = []
+deal R (c ∷ cs) [] = []
+deal R (c ∷ cs) (x ∷ w) = read R c (take (c .length) (x ∷ w)) ∷ deal R cs (drop (c .length) (x ∷ w))
+
+abbrev pub cut : List Component → List ℕ → List Part
+cut cs w = deal plain cs w

@@ -9,7 +9,7 @@ use Rattle.rules.specs.Lists.{sum}
 use Rattle.rules.specs.Motif.{spell}
 use Rattle.rules.specs.Sound.{SoundTemplate, SoundComponent}
 use Rattle.rules.specs.Support.{parts}
-use Rattle.rules.specs.Template.{part, slots, none, components, size, cut}
+use Rattle.rules.specs.Template.{deal, part, slots, none, components, size, cut}
 use Rattle.rules.specs.Text.{decimal, shape, shape-rest}
 use Rattle.rules.specs.declared.Component.{Component}
 use Rattle.rules.specs.declared.Template.{Template}
@@ -72,7 +72,7 @@ module _ (t : Template) (S : SoundTemplate t) where
 
   -- past the last component nothing is printed
   pub shape-from-end : (i m : ℕ) → t .count ≤ i → shape-from t i m ≡ []
-  unfolding shape-from shape-rest cut
+  unfolding shape-from shape-rest deal
   shape-from-end i m h = rw (components-none t (S .few) i h)
 
   -- the first component's letters and the others'

@@ -10,7 +10,7 @@ use lib.Seq.{drop-cons, drop-drop, getD-take}
 use Rattle.rules.specs.Limits.{Template-COMPONENTS, Template-LENGTH, Template-GAP}
 use Rattle.rules.specs.Lists.{run, sum}
 use Rattle.rules.specs.Sound.{SoundComponent, SoundTemplate}
-use Rattle.rules.specs.Template.{Part, part, none, slots, components, size, cut}
+use Rattle.rules.specs.Template.{deal, Part, part, none, slots, components, size, cut}
 use Rattle.rules.specs.declared.Component.{Component}
 use Rattle.rules.specs.declared.Template.{Template}
 use Rattle.rules.proofs.Components.{cut-some}
@@ -104,8 +104,8 @@ module _ {t : Template} {cs : List Component} {w : List ℕ} (held : Held t cs w
 
     -- the pass of the last component
     pub last-made : (s : List ℕ) → suc c ≡ t .count → {y : List ℕ} → y ≡ map (ending own s) (run 1 (length s)) → y ≡ counts (aligned (onward cs (t .count) c) w) s
-    unfolding aligned cut first-part
-    last-made s h e = e ∙ rw (aligned-step, onward-end (suc c) (omega arith)) (ending-counts first-part s)
+    unfolding aligned deal first-part
+    last-made s h e = e ∙ rw (aligned-step, onward-end (suc c) (omega arith)) (ending-counts first-part (λ s p. refl) s)
 
   -- the pass of a component c before others, d the next
   pub next-made : (s : List ℕ) (c d b : ℕ) (after : d ≡ suc c) (h : d < t .count) (k : c < t .count) (e : b + letters-of (onward cs (t .count) c) ≡ length w) → {x y : List ℕ}
@@ -118,7 +118,7 @@ module _ {t : Template} {cs : List Component} {w : List ℕ} (held : Held t cs w
       let l : onward cs (t .count) (suc c) ≡ onward cs (t .count) d = rw after in
       let e′ : b′ + letters-of (onward cs (t .count) d) ≡ length w = rw after (omega (arith, letters-step c k)) in
       let some : 0 < length (own d b′ h e′) = rw (own-length d b′ h e′) (component-sound d h .some) in
-      ey ∙ rw (ex, aligned-step c b k e, l, aligned-step d b′ h e′) (leading-counts (first-part c b k e) (first-part d b′ h e′) _ s some)
+      ey ∙ rw (ex, aligned-step c b k e, l, aligned-step d b′ h e′) (leading-counts (first-part c b k e) (first-part d b′ h e′) _ (λ s p. refl) s some)
 
   -- no count is too large: k components follow, each at one of so many distances
   counts-most : (s : List ℕ) (k c : ℕ) → suc (c + k) ≡ t .count → (p : ℕ) → entry (counts (aligned (onward cs (t .count) c) w) s) p ≤ (Template-GAP + 1) ^ k

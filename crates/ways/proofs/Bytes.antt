@@ -15,9 +15,9 @@ use Rattle.ways.specs.Counts.{counts}
 ways-bytes : (cs : List Part) (s : List ℕ) → Spelled cs → (p : ℕ) → ways (map lettered cs) s p ≡ ways cs (map value s) p
 unfolding ways Spelled
 ways-bytes [] s h p = refl
-ways-bytes (c ∷ []) s h p = rw (stands-bytes (c .word) s (h .0) p)
+ways-bytes (c ∷ []) s h p = rw (h .1 (map value s) p, stands-bytes (c .word) s (h .0) p)
 ways-bytes (c ∷ d ∷ ds) s h p =
-    rw (stands-bytes (c .word) s (h .0) p, length-map (c .word) letter, map-same _ _ (ways-bytes (d ∷ ds) s (h .1)) (reach (length (c .word)) (d .low) (d .high) p))
+    rw (h .1 (map value s) p, stands-bytes (c .word) s (h .0) p, length-map (c .word) letter, map-same _ _ (ways-bytes (d ∷ ds) s (h .2)) (reach (length (c .word)) (d .low) (d .high) p))
 
 -- so the counts in the bytes of a sequence are those in its values
 pub counts-bytes : (cs : List Part) (s : List ℕ) → Spelled cs → counts (map lettered cs) s ≡ counts cs (map value s)

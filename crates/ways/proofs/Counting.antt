@@ -11,10 +11,11 @@ use native.Mathlib.Omega.{arith}
 use lib.ListN.{length, getD, List·getD-eq-default}
 use Rattle.rules.specs.Limits.{Template-GAP}
 use Rattle.rules.specs.Lists.{run, if, sum}
-use Rattle.rules.specs.Occurrence.{stands, reach, ways}
+use Rattle.rules.specs.Occurrence.{stands-by, stands, reach, ways}
 use Rattle.rules.specs.Template.{Part}
 use Rattle.ways.specs.Counts.{counts, entry, cell, ending, leading}
-use Rattle.ways.proofs.Standing.{stands-short}
+use Rattle.ways.proofs.Standing.{stands-by-short}
+use Rattle.rules.proofs.Occurs.{Exact}
 use Rattle.rules.proofs.Over.{length-map-run, getD-map-run}
 use Rattle.rules.proofs.Tables.{map-same}
 use Rattle.ways.proofs.Tables.{over-most, window-most}
@@ -26,14 +27,14 @@ length-counts cs s = length-map-run (ways cs s) 1 (length s)
 
 -- nothing starts before the first position or past the end
 ways-none : (c : Part) (cs : List Part) (s : List ℕ) → ways (c ∷ cs) s 0 ≡ 0
-unfolding ways stands
+unfolding ways stands-by
 ways-none c [] s = refl
 ways-none c (d ∷ ds) s = refl
 
 ways-past : (c : Part) (cs : List Part) (s : List ℕ) (o : ℕ) → 0 < length (c .word) → length s ≤ o → ways (c ∷ cs) s (suc o) ≡ 0
 unfolding ways
-ways-past c [] s o some h = rw (← (stands-short (c .word) s o (omega arith)))
-ways-past c (d ∷ ds) s o some h = rw (← (stands-short (c .word) s o (omega arith)))
+ways-past c [] s o some h = rw (← (stands-by-short (c .fits) (c .slack) (c .word) s o (omega arith)))
+ways-past c (d ∷ ds) s o some h = rw (← (stands-by-short (c .fits) (c .slack) (c .word) s o (omega arith)))
 
 -- the counts have the ways of each position
 pub counts-inside : (cs : List Part) (s : List ℕ) (o : ℕ) → o < length s → getD (counts cs s) o 0 ≡ ways cs s (suc o)
@@ -53,17 +54,17 @@ counts-at c cs s some (suc o) =
     ]
 
 -- the pass of the last part
-pub ending-counts : (c : Part) (s : List ℕ) → map (ending (c .word) s) (run 1 (length s)) ≡ counts (c ∷ []) s
+pub ending-counts : (c : Part) → Exact c → (s : List ℕ) → map (ending (c .word) s) (run 1 (length s)) ≡ counts (c ∷ []) s
 unfolding counts ending cell ways
-ending-counts c s = refl
+ending-counts c x s = map-same (ending (c .word) s) (ways (c ∷ []) s) (λ p. rw (x s p)) (run 1 (length s))
 
 -- the pass of a part before others
-pub leading-counts : (c d : Part) (ds : List Part) (s : List ℕ) → 0 < length (d .word)
+pub leading-counts : (c d : Part) (ds : List Part) → Exact c → (s : List ℕ) → 0 < length (d .word)
     → map (leading (c .word) (d .low) (d .high) s (counts (d ∷ ds) s)) (run 1 (length s)) ≡ counts (c ∷ d ∷ ds) s
 unfolding counts leading cell ways
-leading-counts c d ds s some =
+leading-counts c d ds x s some =
     map-same (leading (c .word) (d .low) (d .high) s (counts (d ∷ ds) s)) (ways (c ∷ d ∷ ds) s)
-    (λ p. rw (map-same (entry (counts (d ∷ ds) s)) (ways (d ∷ ds) s) (counts-at d ds s some) (reach (length (c .word)) (d .low) (d .high) p)))
+    (λ p. rw (x s p, map-same (entry (counts (d ∷ ds) s)) (ways (d ∷ ds) s) (counts-at d ds s some) (reach (length (c .word)) (d .low) (d .high) p)))
     (run 1 (length s))
 
 -- what a sliding sum has at an offset goes into the cell there

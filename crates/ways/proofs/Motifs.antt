@@ -13,7 +13,7 @@ use Rattle.rules.specs.Recovery.{whole-list}
 use Rattle.rules.specs.Sequences.{sequences}
 use Rattle.rules.specs.Sound.{SoundSet, SoundTemplate}
 use Rattle.rules.specs.Support.{weight, occurrence-rows, parts}
-use Rattle.rules.specs.Template.{none, components, size, cut}
+use Rattle.rules.specs.Template.{deal, none, components, size, cut}
 use Rattle.rules.specs.declared.Component.{Component}
 use Rattle.rules.specs.declared.Template.{Template}
 use Rattle.rules.proofs.Bound.{list-bound}
@@ -29,7 +29,7 @@ use Rattle.ways.proofs.Totals.{weight-counts, rows-counts}
 -- the parts from the component c on are those of the later components and letters alone
 drop-cut : (cs : List Component) → ((i : ℕ) → i < length cs → 1 ≤ (getD cs i none) .length) → (c m : ℕ)
     → drop c (cut cs (spell Letter-BASES (letters-of cs) m)) ≡ cut (drop c cs) (spell Letter-BASES (letters-of (drop c cs)) m)
-unfolding letters-of sum cut
+unfolding letters-of sum deal
 drop-cut cs some zero m = refl
 drop-cut [] some (suc c) m = refl
 drop-cut (x ∷ cs) some (suc c) m =

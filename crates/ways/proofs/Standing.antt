@@ -2,7 +2,7 @@
 use mathlib.Core.Path.{_≡_, refl, sym, _∙_}
 use mathlib.Core.Bool.{Bool, true, false}
 use mathlib.Core.List.{List, [], _∷_}
-use Prim.Native.Nat.{ℕ, suc, _+_, _-_, _≤_, _<_}
+use Prim.Native.Nat.{ℕ, zero, suc, _+_, _-_, _≤_, _<_}
 use native.Mathlib.Nat.{add-zero}
 use native.Mathlib.Numerals.{add-one}
 use native.Mathlib.Omega.{arith}
@@ -11,33 +11,41 @@ use lib.ListN.{length, drop, getD, length-drop, drop-of-length-le}
 use lib.Seq.{drop-cons}
 use borrow.Author.Tests.{eq-eqb, ne-eqb}
 use Rattle.rules.specs.Lists.{if}
-use Rattle.rules.specs.Occurrence.{front, stands}
+use Rattle.rules.specs.Occurrence.{spare, stands-by, front-by, front, stands}
 use Rattle.ways.specs.Counts.{cell}
 
-front-short : (w s : List ℕ) → length s < length w → front w s ≡ false
-unfolding front
-front-short [] s h = absurd (omega arith)
-front-short (x ∷ w) [] h = refl
-front-short (x ∷ w) (y ∷ s) h = elim (eqb x y) as (λ b. if b (front w s) false ≡ false) [ true ↦ front-short w s (omega arith) | false ↦ refl ]
+front-short : (f : ℕ → ℕ → Bool) (k : ℕ) (w s : List ℕ) → length s < length w → front-by f k w s ≡ false
+unfolding front-by
+front-short f k [] s h = absurd (omega arith)
+front-short f k (x ∷ w) [] h = refl
+front-short f k (x ∷ w) (y ∷ s) h = go (f x y) k (λ k. front-short f k w s (omega arith))
+  where
+    go : (b : Bool) (k : ℕ) → ((k : ℕ) → front-by f k w s ≡ false) → if b (front-by f k w s) (spare k false (λ k. front-by f k w s)) ≡ false
+    go true k ih = ih k
+    go false zero ih = refl
+    go false (suc k) ih = ih k
 
 -- letters that are more than what is left do not stand there
+pub stands-by-short : (f : ℕ → ℕ → Bool) (k : ℕ) (w s : List ℕ) (o : ℕ) → length s - o < length w → false ≡ stands-by f k w s (suc o)
+unfolding stands-by
+stands-by-short f k w s o h = sym (front-short f k w (drop o s) (simp length-drop h))
+
 pub stands-short : (w s : List ℕ) (o : ℕ) → length s - o < length w → false ≡ stands w s (suc o)
-unfolding stands
-stands-short w s o h = sym (front-short w (drop o s) (simp length-drop h))
+stands-short w s o h = stands-by-short eqb 0 w s o h
 
 -- the letters of w from the j-th on stand as they do if w stands at the offset o
 unfoldable pub rest : List ℕ → List ℕ → ℕ → ℕ → Bool
-unfolding front
+unfolding front-by
 rest w s o j = front (drop j w) (drop (o + j) s)
 
 -- all letters stand if those from the first on do
 pub rest-all : (w s : List ℕ) (o : ℕ) → stands w s (suc o) ≡ rest w s o 0
-unfolding stands rest
+unfolding stands-by rest
 rest-all w s o = rw (add-zero o)
 
 module _ (w s : List ℕ) (o j : ℕ) (hs : o + length w ≤ length s) where
   rest-open : j < length w → rest w s o j ≡ if (eqb (getD w j 0) (getD s (o + j) 0)) (rest w s o (j + 1)) false
-  unfolding rest front
+  unfolding rest front-by
   rest-open hw =
       let e : o + (j + 1) ≡ suc (o + j) = omega arith in
       let hs' : o + j < length s = omega arith in
@@ -53,7 +61,7 @@ module _ (w s : List ℕ) (o j : ℕ) (hs : o + length w ≤ length s) where
 
   -- past the last all have stood
   pub rest-done : length w ≤ j → rest w s o j ≡ true
-  unfolding rest front
+  unfolding rest front-by
   rest-done h = rw (drop-of-length-le w {i = j} h)
 
 -- a cell has v where the letters stand

@@ -1,0 +1,155 @@
+-- Every kind of search walks lawfully: one proof for all profiles, and what each profile has to show for it.
+use mathlib.Core.Path.{_≡_, refl, sym, ap, _∙_, fun-ext, subst}
+use mathlib.Core.Bool.{Bool, true, false, _&&_, false≢true}
+use mathlib.Core.List.{List, [], _∷_, _++_, map}
+use Prim.Native.Nat.{ℕ, zero, suc, _+_, _*_, _/_, _%_, _^_, _≤_, _<_}
+use native.Mathlib.Nat.{pow-zero, div-one, mod-eq-of-lt}
+use native.Mathlib.Omega.{arith}
+use lib.Dec.{leb, ltb}
+use lib.ListN.{length, take, drop, length-append, drop-of-length-le}
+use lib.Seq.{take-all, take-append-le, drop-append-le}
+use borrow.Author.Tests.{leb-true, leb-false, le-leb}
+use Rattle.rules.specs.Limits.{Letter-BASES, Letter-KINDS}
+use Rattle.rules.specs.Lists.{if, keep, all?, sum}
+use Rattle.rules.specs.Motif.{spell}
+use Rattle.rules.specs.Profile.{Tally, by-sequence, by-occurrence, Profile, Proper, allowed, to-come, tallied, reaches, parts-in, measure, walk-in, exactly, repeated, substituted, within, mixed}
+use Rattle.rules.specs.Sound.{SoundTemplate}
+use Rattle.rules.specs.Support.{support, occurrence-rows, parts, frequent}
+use Rattle.rules.specs.Template.{Part, Reading, components, size, deal}
+use Rattle.rules.specs.Walk.{Walk, Lawful, exact, spelled}
+use Rattle.rules.specs.declared.Component.{Component}
+use Rattle.rules.specs.declared.Template.{Template}
+use Rattle.rules.proofs.Components.{components-some}
+use Rattle.rules.proofs.Lists.{keep-append}
+use Rattle.rules.proofs.Prefix.{size-some, support-antitone}
+use Rattle.rules.proofs.Repeats.{Lettered, rows-antitone}
+use Rattle.rules.proofs.Spelling.{spell-more, length-spell}
+use Rattle.rules.proofs.Tests.{both}
+
+-- ---- letters that are allowed
+
+allowed-nil : (f : Component → List ℕ → Bool) (cs : List Component) → allowed f cs [] ≡ true
+unfolding allowed
+allowed-nil f [] = refl
+allowed-nil f (c ∷ cs) = refl
+
+module _ (P : Profile) (proper : Proper P) where
+  allowed-first : (cs : List Component) → allowed (P .allows) cs (0 ∷ []) ≡ true
+  unfolding allowed
+  allowed-first [] = refl
+  allowed-first (c ∷ cs) = go (c .length) (allowed-first cs)
+    where
+      go : (n : ℕ) → allowed (P .allows) cs (0 ∷ []) ≡ true → P .allows c (take n (0 ∷ [])) && allowed (P .allows) cs (drop n (0 ∷ [])) ≡ true
+      go zero ih = both _ _ .1 (proper .none c, ih)
+      go (suc n) ih = let z : List ℕ = [] in rw (take-all n z (omega arith), drop-of-length-le z {i = n} (omega arith)) (both _ _ .1 (proper .first c, allowed-nil (P .allows) cs))
+
+  -- where some letters are allowed, so are those before the last
+  allowed-less : (cs : List Component) (v : List ℕ) (y : ℕ) → allowed (P .allows) cs (v ++ (y ∷ [])) ≡ true → allowed (P .allows) cs v ≡ true
+  unfolding allowed
+  allowed-less [] v y e = refl
+  allowed-less (c ∷ cs) [] y e = refl
+  allowed-less (c ∷ cs) (x ∷ w) y e = go (leb (c .length) (suc (length w))) refl (allowed-less cs (drop (c .length) (x ∷ w)) y)
+    where
+      v : List ℕ
+      v = x ∷ w
+
+      go : (b : Bool) → leb (c .length) (suc (length w)) ≡ b
+          → (allowed (P .allows) cs (drop (c .length) v ++ (y ∷ [])) ≡ true → allowed (P .allows) cs (drop (c .length) v) ≡ true)
+          → P .allows c (take (c .length) v) && allowed (P .allows) cs (drop (c .length) v) ≡ true
+      go true f ih =
+          let l = leb-true (c .length) (suc (length w)) f in
+          let h = both (P .allows c (take (c .length) v)) (allowed (P .allows) cs (drop (c .length) v ++ (y ∷ []))) .0 (rw (take-append-le (c .length) v (y ∷ []) l, drop-append-le (c .length) v (y ∷ []) l) at e) in
+          both (P .allows c (take (c .length) v)) _ .1 (h .0, ih (h .1))
+      go false f ih =
+          let l = leb-false (c .length) (suc (length w)) f in
+          let short : length v ≤ c .length = omega arith in
+          let long : length (v ++ (y ∷ [])) ≤ c .length = omega (arith, length-append v (y ∷ [])) in
+          let h : P .allows c (v ++ (y ∷ [])) ≡ true = rw (take-all (c .length) (v ++ (y ∷ [])) long) at (both (P .allows c (take (c .length) (v ++ (y ∷ [])))) _ .0 e .0) in
+          rw (take-all (c .length) v short, drop-of-length-le v {i = c .length} short) (both (P .allows c v) _ .1 (proper .closed c v y h, allowed-nil (P .allows) cs))
+
+  module _ (t : Template) where
+    -- what a prefix comes to, and one shorter
+    measure-antitone : SoundTemplate t → (ss : List (List ℕ)) (j m : ℕ) → 1 ≤ j → measure P t ss (suc j) m ≤ measure P t ss j (m / P .base)
+    unfolding measure parts-in
+    measure-antitone o ss j m h = go (P .tally)
+      where
+        go : (a : Tally) → tallied a (deal (P .reading) (components t) (spell (P .base) (suc j) m)) (to-come (components t) (spell (P .base) (suc j) m)) ss
+            ≤ tallied a (deal (P .reading) (components t) (spell (P .base) j (m / P .base))) (to-come (components t) (spell (P .base) j (m / P .base))) ss
+        go by-sequence = support-antitone (P .reading) (P .base) (components t) j m h ss
+        go by-occurrence = rows-antitone (P .reading) (P .base) (components t) j m (components-some o) h ss
+
+    module _ (quorum : ℕ) (ss : List (List ℕ)) where
+      good-anti : SoundTemplate t → (j m : ℕ) → reaches (measure P t ss) quorum (suc j) m ≡ true → reaches (measure P t ss) quorum j (m / P .base) ≡ true
+      unfolding reaches
+      good-anti o zero m e = refl
+      good-anti o (suc j) m e = le-leb quorum _ (omega (arith, leb-true quorum _ e, measure-antitone o ss (suc j) m (omega arith)))
+
+      first-may : allowed (P .allows) (components t) (spell (P .base) 1 0) ≡ true
+      unfolding spell
+      first-may = rw (pow-zero, div-one, mod-eq-of-lt (proper .pos)) (allowed-first (components t))
+
+      -- EVERY PROFILE walks lawfully
+      pub lawful-in : SoundTemplate t → Lawful (walk-in P t quorum ss)
+      unfolding walk-in reaches
+      lawful-in o = record { pos = proper .pos; deep = size-some t o; first = first-may; root = refl; anti = good-anti o }
+
+      -- and a prefix whose last letter may follow is one whose letters all may
+      pub spelled-in : (j m : ℕ) → spelled (walk-in P t quorum ss) (suc j) m ≡ allowed (P .allows) (components t) (spell (P .base) (suc j) m)
+      unfolding walk-in spelled
+      spelled-in zero m = go (allowed (P .allows) (components t) (spell (P .base) 1 m))
+        where
+          go : (b : Bool) → b && true ≡ b
+          go true = refl
+          go false = refl
+      spelled-in (suc j) m = rw (spelled-in j (m / P .base)) (go _ _ (λ e. allowed-less (components t) (spell (P .base) (suc j) (m / P .base)) (m % P .base) (rw (spell-more (P .base) (suc j) m) at e)))
+        where
+          go : (a b : Bool) → (a ≡ true → b ≡ true) → a && b ≡ a
+          go true b h = h refl
+          go false b h = refl
+
+-- ---- THE PROFILES
+
+pub exactly-proper : Proper exactly
+unfolding exactly
+exactly-proper = record { pos = omega arith; none = λ c. refl; first = λ c. refl; closed = λ c w y e. refl }
+
+pub repeated-proper : Proper repeated
+unfolding repeated
+repeated-proper = record { pos = omega arith; none = λ c. refl; first = λ c. refl; closed = λ c w y e. refl }
+
+pub substituted-proper : (e : Component → ℕ) → Proper (substituted e)
+unfolding substituted
+substituted-proper e = record { pos = omega arith; none = λ c. refl; first = λ c. refl; closed = λ c w y e. refl }
+
+all-less : {A : Type 0} (f : A → Bool) (xs ys : List A) → all? f (xs ++ ys) ≡ true → all? f xs ≡ true
+unfolding all?
+all-less f [] ys e = refl
+all-less f (x ∷ xs) ys e = let h = both (f x) _ .0 e in both _ _ .1 (h .0, all-less f xs ys (h .1))
+
+pub mixed-proper : (most : Component → ℕ) → Proper (mixed most)
+unfolding mixed within all? keep
+mixed-proper most = record {
+  pos = omega arith;
+  none = λ c. le-leb 0 (most c) (omega arith);
+  first = λ c. le-leb 0 (most c) (omega arith);
+  closed = λ c w y e.
+    let h = both (all? (λ x. ltb x Letter-KINDS) (w ++ (y ∷ []))) _ .0 e in
+    let l : length (keep (leb Letter-BASES) w) ≤ most c = omega (arith, leb-true _ (most c) (h .1), ap length (keep-append (leb Letter-BASES) w (y ∷ [])), length-append (keep (leb Letter-BASES) w) (keep (leb Letter-BASES) (y ∷ []))) in
+    both _ _ .1 (all-less _ w (y ∷ []) (h .0), le-leb _ (most c) l);
+}
+
+-- ---- the exact search as one of them
+
+allowed-all : (cs : List Component) (w : List ℕ) → allowed (λ c w. true) cs w ≡ true
+unfolding allowed
+allowed-all [] w = refl
+allowed-all (c ∷ cs) [] = refl
+allowed-all (c ∷ cs) (x ∷ w) = allowed-all cs (drop (c .length) (x ∷ w))
+
+pub exact-is : (t : Template) (quorum : ℕ) (ss : List (List ℕ)) → walk-in exactly t quorum ss ≡ exact t quorum ss
+unfolding walk-in exactly exact reaches measure parts-in parts frequent
+exact-is t quorum ss = λ i. record { base = Letter-BASES; may = fun-ext (λ j. fun-ext (λ m. allowed-all (components t) (spell Letter-BASES j m))) i; good = fun-ext (λ j. fun-ext (same j)) i; depth = size t }
+  where
+    same : (j m : ℕ) → reaches (measure exactly t ss) quorum j m ≡ frequent t quorum ss j m
+    same zero m = refl
+    same (suc j) m = refl
