@@ -18,7 +18,7 @@ use Rattle.rules.specs.declared.Search.{Search}
 use Rattle.rules.specs.declared.Template.{Template}
 use Rattle.rules.proofs.Candidates.{first-candidate}
 use Rattle.rules.proofs.Places.{passing-rule, passing-passes}
-use Rattle.rules.proofs.Prefix.{walk-lawful}
+use Rattle.rules.proofs.Profiles.{walk-lawful}
 use Rattle.rules.proofs.Saves.{unless-gives}
 use Rattle.rules.proofs.Sound.{SoundNew, SoundSearch, new-sound}
 use Rattle.rules.proofs.Trimmed.{trimmed-twice, trimmed-sound, trimmed-size, trimmed-parts}

@@ -23,7 +23,8 @@ use Rattle.rules.proofs.Candidates.{start-first}
 use Rattle.rules.proofs.Legs as walked
 use Rattle.rules.proofs.Lists.{keep-same}
 use Rattle.rules.proofs.Plain.{motifs-plain, tries-plain}
-use Rattle.rules.proofs.Prefix.{size-some, exact-plain, walk-lawful}
+use Rattle.rules.proofs.Prefix.{size-some, exact-plain}
+use Rattle.rules.proofs.Profiles.{walk-lawful}
 use Rattle.rules.proofs.Relay.{all-listed, all-tried, legs-enough}
 use Rattle.rules.proofs.Relayed.{granted, rows-of, relay-legs}
 use Rattle.rules.proofs.Trimmed.{trimmed-size, trimmed-parts}

@@ -31,6 +31,7 @@ use Rattle.rules.specs.declared.Search.{Search}
 use Rattle.rules.specs.declared.Template.{Template}
 use Rattle.rules.proofs.Bound.{list-bound}
 use Rattle.rules.proofs.Completes.{exact-motifs, exact-tries, relay-complete, relay-ends, relay-answers}
+use Rattle.rules.proofs.Demanded.{motifs-are, motifs-rise}
 use Rattle.rules.proofs.Legs.{Passed, leg-law}
 use Rattle.rules.proofs.LowFirst.{Bytes}
 use Rattle.rules.proofs.Members.{keep-run-in, keep-run-out}
@@ -38,12 +39,12 @@ use Rattle.rules.proofs.OccurrenceOrder.{keep-run-rising, rows-in-order
 use Rattle.rules.proofs.Occurs.{parts-worded, parts-some, rows-are}
 use Rattle.rules.proofs.Passing.{passing-from, from-passing}
 use Rattle.rules.proofs.Places.{sound-passing, passing-rule, passing-passes, place-deep}
-use Rattle.rules.proofs.Prefix.{size-some, walk-lawful}
+use Rattle.rules.proofs.Prefix.{size-some}
+use Rattle.rules.proofs.Profiles.{walk-lawful}
 use Rattle.rules.proofs.Saves.{restore-exactly, restore-saved, save-restored, cut-refused}
 use Rattle.rules.proofs.Sound.{SoundSearch, SoundBytes, search-sound}
 use Rattle.rules.proofs.Stands.{stands-exactly}
 use Rattle.rules.proofs.Tables.{put-front}
-use Rattle.rules.proofs.Tests.{both}
 use Rattle.rules.proofs.Ways.{support-counts, support-sequences}
 
 -- ---- DEMAND 1: a call refuses exactly what its checks refuse, with the number and place of the first that applies. A refused
@@ -209,14 +210,11 @@ recovered-page fine a c xs out e = (cc, refl)
 recovered-page (refused n p) a c xs out e = (cc, cc)
 
 pub demand2 : Demand2
-unfolding frequent-motifs whole-list recover-rule walk.motifs
+unfolding frequent-motifs whole-list recover-rule
 demand2 =
     record {
-      motifs-of = λ W m. (
-        λ h. let o = keep-run-out _ 0 (W .base ^ W .depth) m h in (omega (arith, o .1), both (spelled W (W .depth) m) _ .0 (o .2) .0, both (spelled W (W .depth) m) _ .0 (o .2) .1),
-        λ h. keep-run-in _ 0 (W .base ^ W .depth) m (omega arith) (omega (arith, h .0)) (both _ _ .1 (h .1, h .2)),
-      );
-      rising = λ W. keep-run-rising _ 0 (W .base ^ W .depth);
+      motifs-of = motifs-are;
+      rising = motifs-rise;
       exactly = exact-motifs;
       steps = exact-tries;
       motifs = λ t quorum ss m. (

@@ -25,6 +25,7 @@ pub mod Relay
 pub mod Passing
 pub mod Profiles
 pub mod Demanded
+pub mod Lower
 pub mod Verdicts
 pub mod EachCheck
 pub mod LaidOut

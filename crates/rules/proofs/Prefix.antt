@@ -1,4 +1,4 @@
--- "Frequent" is closed under taking prefixes. An occurrence of a prefix, cut short by a letter, is one of the shorter prefix:
+-- An occurrence of a prefix, cut short by a letter, is one of the shorter prefix:
 -- the last part loses its last letter, or goes whole if that was its only one, or the letter stood past the last part.
 use mathlib.Core.Path.{_≡_, refl, sym, _∙_}
 use mathlib.Core.Bool.{Bool, true, false, _||_, false≢true}
@@ -8,15 +8,14 @@ use native.Mathlib.Omega.{arith}
 use lib.Dec.{leb}
 use lib.ListN.{length, take, drop, length-append, drop-of-length-le}
 use lib.Seq.{take-all, take-append-le, drop-append-le}
-use borrow.Author.Tests.{leb-true, leb-false, le-leb}
-use Rattle.rules.specs.Limits.{Letter-BASES}
+use borrow.Author.Tests.{leb-true, leb-false}
 use Rattle.rules.specs.Lists.{run, if, keep, each, some?, sum}
 use Rattle.rules.specs.Motif.{spell}
 use Rattle.rules.specs.Occurrence.{spare, front-by, stands-by, found, reach, starts, occurrences}
 use Rattle.rules.specs.Sound.{SoundTemplate}
-use Rattle.rules.specs.Support.{marks, support, parts, frequent}
-use Rattle.rules.specs.Template.{Part, Reading, plain, read, slots, components, size, deal}
-use Rattle.rules.specs.Walk.{exact, walk-over, Lawful}
+use Rattle.rules.specs.Support.{marks, support}
+use Rattle.rules.specs.Template.{Part, Reading, read, slots, components, size, deal}
+use Rattle.rules.specs.Walk.{exact}
 use Rattle.rules.specs.declared.Component.{Component}
 use Rattle.rules.specs.declared.Template.{Template}
 use Rattle.rules.proofs.Lists.{some-map}
@@ -161,27 +160,9 @@ size-some t s = go (t .count) (s .some)
     go zero h = absurd (omega arith)
     go (suc n) h = omega (arith, s .each 0 (s .some) .some)
 
+-- ---- the exact walk
+
 module _ (t : Template) (quorum : ℕ) (ss : List (List ℕ)) where
-  -- and it is frequent if the longer one is
-  pub frequent-prefix : (j m : ℕ) → frequent t quorum ss (suc j) m ≡ true → frequent t quorum ss j (m / Letter-BASES) ≡ true
-  unfolding frequent parts
-  frequent-prefix zero m e = refl
-  frequent-prefix (suc j) m e =
-      le-leb quorum (support (parts t (suc j) (m / Letter-BASES)) ss)
-      (omega (arith, leb-true quorum (support (parts t (suc (suc j)) m) ss) e, support-antitone plain Letter-BASES (components t) (suc j) m (omega arith) ss))
-
-  -- ---- what the walk's laws ask of a search, for the search for frequent motifs
-
-  -- a prefix of a good one is good
-  pub exact-anti : (j m : ℕ) → (exact t quorum ss) .good (suc j) m ≡ true → (exact t quorum ss) .good j (m / (exact t quorum ss) .base) ≡ true
-  unfolding exact
-  exact-anti = frequent-prefix
-
-  -- the empty prefix is good
-  pub exact-root : (exact t quorum ss) .good 0 0 ≡ true
-  unfolding exact frequent
-  exact-root = refl
-
   -- there are letters
   pub exact-pos : 1 ≤ (exact t quorum ss) .base
   unfolding exact
@@ -191,15 +172,3 @@ module _ (t : Template) (quorum : ℕ) (ss : List (List ℕ)) where
   pub exact-plain : (j m : ℕ) → (exact t quorum ss) .may j m ≡ true
   unfolding exact
   exact-plain j m = refl
-
-  -- a motif has a letter
-  pub exact-deep : SoundTemplate t → 1 ≤ (exact t quorum ss) .depth
-  unfolding exact
-  exact-deep = size-some t
-
-  exact-lawful : SoundTemplate t → Lawful (exact t quorum ss)
-  exact-lawful o = record { pos = exact-pos; deep = exact-deep o; first = exact-plain 1 0; root = exact-root; anti = exact-anti }
-
-  -- THE WALK of a sound template is lawful
-  pub walk-lawful : SoundTemplate t → Lawful (walk-over t quorum ss)
-  walk-lawful = exact-lawful

@@ -16,7 +16,7 @@ use Rattle.rules.specs.Profile.{Tally, by-sequence, by-occurrence, Profi
 use Rattle.rules.specs.Sound.{SoundTemplate}
 use Rattle.rules.specs.Support.{support, occurrence-rows, parts, frequent}
 use Rattle.rules.specs.Template.{Part, Reading, components, size, deal}
-use Rattle.rules.specs.Walk.{Walk, Lawful, exact, spelled}
+use Rattle.rules.specs.Walk.{Lawful, exact, walk-over, spelled}
 use Rattle.rules.specs.declared.Component.{Component}
 use Rattle.rules.specs.declared.Template.{Template}
 use Rattle.rules.proofs.Components.{components-some}
@@ -153,3 +153,7 @@ exact-is t quorum ss = λ i. record { base = Letter-BASES; may = fun-ext (λ j. 
     same : (j m : ℕ) → reaches (measure exactly t ss) quorum j m ≡ frequent t quorum ss j m
     same zero m = refl
     same (suc j) m = refl
+
+-- so the walk of every search is lawful
+pub walk-lawful : (t : Template) (quorum : ℕ) (ss : List (List ℕ)) → SoundTemplate t → Lawful (walk-over t quorum ss)
+walk-lawful t quorum ss o = subst Lawful (exact-is t quorum ss) (lawful-in exactly exactly-proper t quorum ss o)

@@ -21,7 +21,7 @@ use Rattle.rules.proofs.Completes.{exact-tries}
 use Rattle.rules.proofs.Few.{whole-steps-few}
 use Rattle.rules.proofs.Legs.{Passed, leg-law, legs-law, leg-why}
 use Rattle.rules.proofs.Places.{place-deep}
-use Rattle.rules.proofs.Prefix.{walk-lawful}
+use Rattle.rules.proofs.Profiles.{walk-lawful}
 use Rattle.rules.proofs.Relayed.{granted, relay-legs}
 use Rattle.rules.proofs.Sound.{search-fine}
 use Rattle.rules.proofs.Whole.{tried}

@@ -25,7 +25,7 @@ use Rattle.rules.proofs.Candidates.{Candidate}
 use Rattle.rules.proofs.Completes.{frequent-some}
 use Rattle.rules.proofs.Passing.{Passing, passing-next}
 use Rattle.rules.proofs.Places.{walk-of, sound-passing}
-use Rattle.rules.proofs.Prefix.{walk-lawful}
+use Rattle.rules.proofs.Profiles.{walk-lawful}
 use Rattle.rules.proofs.Sound.{SoundSearch}
 use Rattle.rules.proofs.Tests.{both}
 use Rattle.search.proofs.Follow.{Following, follow-start, follow-passes, follow-lists}

@@ -1,0 +1,100 @@
+-- A lower quorum, or more sequences at the end, loses nothing: the old list is what the old rule keeps of the new one, and the
+-- steps are no fewer. Of any walk with a wider rule, and so of every kind of search.
+use mathlib.Core.Path.{_≡_, refl, sym, ap, _∙_}
+use mathlib.Core.Bool.{Bool, true, false, _&&_, false≢true}
+use mathlib.Core.List.{List, [], _∷_, _++_, map, map-append}
+use Prim.Native.Nat.{ℕ, zero, suc, _+_, _/_, _^_, _≤_}
+use native.Mathlib.Omega.{arith}
+use lib.Dec.{leb}
+use lib.ListN.{length, length-append}
+use borrow.Author.Tests.{leb-true, le-leb}
+use Rattle.rules.specs.Lists.{run, if, keep}
+use Rattle.rules.specs.Profile.{Tally, by-sequence, by-occurrence, Profile, tallied, reaches, measure, parts-in, walk-in}
+use Rattle.rules.specs.Support.{marks, support}
+use Rattle.rules.specs.Template.{Part, size}
+use Rattle.rules.specs.Walk.{Walk, spelled, candidate, motifs, tries}
+use Rattle.rules.specs.declared.Template.{Template}
+use Rattle.rules.proofs.Lists.{keep-append, keep-keep, keep-same}
+
+-- no fewer pass a wider test
+keep-wider : {A : Type 0} (f g : A → Bool) → ((x : A) → f x ≡ true → g x ≡ true) → (xs : List A) → length (keep f xs) ≤ length (keep g xs)
+unfolding keep
+keep-wider f g h [] = omega arith
+keep-wider f g h (x ∷ xs) = go (f x) (g x) (h x) (keep-wider f g h xs)
+  where
+    go : (a b : Bool) → (a ≡ true → b ≡ true) → length (keep f xs) ≤ length (keep g xs) → length (if a (x ∷ keep f xs) (keep f xs)) ≤ length (if b (x ∷ keep g xs) (keep g xs))
+    go true true k ih = omega arith
+    go true false k ih = absurd (false≢true (k refl))
+    go false true k ih = omega arith
+    go false false k ih = ih
+
+-- a walk with another rule of which prefixes are good
+abbrev pub ruled : Walk → (ℕ → ℕ → Bool) → Walk
+ruled W g = record { base = W .base; may = W .may; good = g; depth = W .depth }
+
+module _ (W : Walk) (g : ℕ → ℕ → Bool) (wider : (j m : ℕ) → g j m ≡ true → W .good j m ≡ true) where
+  spelled-same : (j m : ℕ) → spelled (ruled W g) j m ≡ spelled W j m
+  unfolding spelled
+  spelled-same zero m = refl
+  spelled-same (suc j) m = ap (λ b. W .may (suc j) m && b) (spelled-same j (m / W .base))
+
+  -- the old list is what the old rule keeps of the new
+  pub motifs-kept : motifs (ruled W g) ≡ keep (g (W .depth)) (motifs W)
+  unfolding motifs
+  motifs-kept = keep-same _ _ 0 (W .base ^ W .depth) (λ m h l. rw (spelled-same (W .depth) m) (go (spelled W (W .depth) m) (W .good (W .depth) m) (g (W .depth) m) (wider (W .depth) m)))
+      ∙ sym (keep-keep (g (W .depth)) (λ m. spelled W (W .depth) m && W .good (W .depth) m) (run 0 (W .base ^ W .depth)))
+    where
+      go : (a b c : Bool) → (c ≡ true → b ≡ true) → a && c ≡ (a && b) && c
+      go false b c h = refl
+      go true true c h = refl
+      go true false true h = absurd (false≢true (h refl))
+      go true false false h = refl
+
+  -- and the steps are no fewer
+  pub tries-fewer : (k : ℕ) → tries (ruled W g) k ≤ tries W k
+  unfolding tries candidate
+  tries-fewer zero = omega arith
+  tries-fewer (suc k) = omega (arith, tries-fewer k, keep-wider (candidate (ruled W g) (suc k)) (candidate W (suc k)) each (run 0 (W .base ^ suc k)))
+    where
+      go : (a b c d : Bool) → (c ≡ true → d ≡ true) → a && (b && c) ≡ true → a && (b && d) ≡ true
+      go true true true d h e = h refl
+      go true true false d h e = absurd (false≢true e)
+      go true false c d h e = e
+      go false b c d h e = e
+
+      each : (n : ℕ) → candidate (ruled W g) (suc k) n ≡ true → candidate W (suc k) n ≡ true
+      each n e = go (W .may (suc k) n) (spelled W k (n / W .base)) (g k (n / W .base)) (W .good k (n / W .base)) (wider k (n / W .base)) (rw (spelled-same k (n / W .base)) at e)
+
+-- ---- every kind of search
+
+reaches-wider : (f g : ℕ → ℕ → ℕ) (q r : ℕ) → r ≤ q → ((j m : ℕ) → f j m ≤ g j m) → (j m : ℕ) → reaches f q j m ≡ true → reaches g r j m ≡ true
+unfolding reaches
+reaches-wider f g q r h l zero m e = refl
+reaches-wider f g q r h l (suc j) m e = le-leb r _ (omega (arith, leb-true q _ e, l (suc j) m))
+
+pub support-append : (cs : List Part) (ss ts : List (List ℕ)) → support cs (ss ++ ts) ≡ support cs ss + support cs ts
+unfolding support marks
+support-append cs ss ts = rw (map-append, keep-append, length-append)
+
+tallied-more : (a : Tally) → a ≡ by-sequence → (cs : List Part) (n : ℕ) (ss ts : List (List ℕ)) → tallied a cs n ss ≤ tallied a cs n (ss ++ ts)
+tallied-more by-sequence e cs n ss ts = omega (arith, support-append cs ss ts)
+tallied-more by-occurrence e cs n ss ts = let z : false ≡ true = cc in absurd (false≢true z)
+
+module _ (P : Profile) (t : Template) (q r : ℕ) (lower : r ≤ q) (ss : List (List ℕ)) where
+  pub lower-lists : motifs (walk-in P t q ss) ≡ keep (reaches (measure P t ss) q (size t)) (motifs (walk-in P t r ss))
+  unfolding walk-in
+  lower-lists = motifs-kept (walk-in P t r ss) _ (reaches-wider _ _ q r lower (λ j m. omega arith))
+
+  pub lower-steps : tries (walk-in P t q ss) (size t) ≤ tries (walk-in P t r ss) (size t)
+  unfolding walk-in
+  lower-steps = tries-fewer (walk-in P t r ss) _ (reaches-wider _ _ q r lower (λ j m. omega arith)) (size t)
+
+  -- with more sequences at the end, where sequences are what is counted
+  module _ (by : P .tally ≡ by-sequence) (ts : List (List ℕ)) where
+    measure-more : (j m : ℕ) → measure P t ss j m ≤ measure P t (ss ++ ts) j m
+    unfolding measure
+    measure-more j m = tallied-more (P .tally) by (parts-in P t j m) _ ss ts
+
+    pub longer-lists : motifs (walk-in P t q ss) ≡ keep (reaches (measure P t ss) q (size t)) (motifs (walk-in P t r (ss ++ ts)))
+    unfolding walk-in
+    longer-lists = motifs-kept (walk-in P t r (ss ++ ts)) _ (reaches-wider _ _ q r lower measure-more)
