@@ -11,6 +11,7 @@ use lib.ListN.{length, drop, getD, length-take, length-drop}
 use borrow.Author.Tests.{ltb-true, ltb-false}
 use Rattle.descent.specs.Buffer.{Buffer, emits, after}
 use Rattle.descent.specs.Paths.{flag, paths, listed, Flagged}
+use Rattle.rules.specs.Profile.{profile-of, exactly}
 use Rattle.rules.proofs.Components.{components-length, components-some}
 use Rattle.descent.proofs.Paths.{flag-zero, flag-past}
 use Rattle.rules.specs.Limits.{Letter-BASES}
@@ -18,7 +19,7 @@ use Rattle.rules.specs.Lists.{run, if, each, some?, sum}
 use Rattle.rules.specs.Motif.{spell}
 use Rattle.rules.specs.Occurrence.{found, reach, starts, occurrences}
 use Rattle.rules.specs.Sound.{SoundTemplate}
-use Rattle.rules.specs.Support.{parts}
+use Rattle.rules.specs.Support.{parts-in, parts}
 use Rattle.rules.specs.Template.{deal, Part, none, components, size, cut}
 use Rattle.rules.specs.declared.Component.{Component}
 use Rattle.rules.specs.declared.Template.{Template}
@@ -119,7 +120,7 @@ module _ (s flags : List ℕ) where
 
 module _ {t : Template} (sound : SoundTemplate t) (m : ℕ) where
   parts-shaped : Shaped (components t) (parts t (size t) m)
-  unfolding parts size
+  unfolding parts-in profile-of exactly size
   parts-shaped = cut-shaped (components t) (spell Letter-BASES (size t) m) (components-some sound) (sym (length-spell Letter-BASES (size t) m))
 
   -- a part for each component

@@ -1,15 +1,17 @@
 -- An exported call answers 0 exactly if none of its checks refuses: every refusal has a number of at least 1.
 use mathlib.Core.Path.{_≡_, refl, ap}
 use mathlib.Core.Logic.{_↔_}
-use mathlib.Core.Bool.{Bool, true, false, _&&_, not}
+use mathlib.Core.Bool.{Bool, true, false, _&&_, _||_, not}
 use mathlib.Core.List.{List, [], _∷_, _++_}
 use Prim.Native.Nat.{ℕ, suc, _≤_, _^_}
 use native.Mathlib.Omega.{arith}
 use lib.Dec.{leb, ltb, eqb}
 use lib.ListN.{length}
+use Rattle.rules.specs.Profile.{profile-of, base-of}
+use Rattle.rules.specs.Support.{spelt-in}
 use Rattle.rules.specs.Calls.{begun, unless, written-unless, save-rule, restore-rule, recover-rule, join-rule}
 use Rattle.rules.specs.Join.{rising?}
-use Rattle.rules.specs.Limits.{Letter-BASES, Template-COMPONENTS, Template-LENGTH, Template-LETTERS, SequenceSet-SEQUENCES, SequenceSet-LETTERS}
+use Rattle.rules.specs.Limits.{Template-COMPONENTS, Template-LENGTH, SequenceSet-SEQUENCES, SequenceSet-LETTERS}
 use Rattle.rules.specs.Lists.{if, sum}
 use Rattle.rules.specs.Recovery.{whole-list}
 use Rattle.rules.specs.Refusals.{_else_, first, first-bad, outside, bad-range, passes?, check1, check2, check3, check4, check5, check6, check7, check8, check9, check10, check11, check11-place, check12, check13, check14, check15, check6-head, check8-range, check16, check17, set-checks, new-checks, restore-checks, value-checks, search-checks, save-checks, recover-checks, join-checks}
@@ -65,7 +67,7 @@ set-numbered letters lengths = (if-numbered (outside 1 SequenceSet-SEQUENCES (le
 
 template-numbered : (t : Template) → Numbered (check5 t) × (Numbered (check6 t) × (Numbered (check7 t) × Numbered (check8 t)))
 unfolding check5 check6 check7 check8
-template-numbered t = (if-numbered (outside 1 Template-COMPONENTS (t .count)) 5 0 (omega arith), (bad-numbered 6 _ 1 _ (omega arith), (if-numbered (ltb Template-LETTERS (size t)) 7 0 (omega arith), bad-numbered 8 _ 1 _ (omega arith))))
+template-numbered t = (if-numbered (outside 1 Template-COMPONENTS (t .count)) 5 0 (omega arith), (bad-numbered 6 _ 1 _ (omega arith), (if-numbered (ltb (profile-of t .most) (size t)) 7 0 (omega arith), bad-numbered 8 _ 1 _ (omega arith))))
 
 room-numbered : (n : ℕ) (out : List ℕ) → Numbered (check17 n out)
 unfolding check17
@@ -103,7 +105,7 @@ module _ (letters lengths : List ℕ) where
   recover-numbered t m f =
       let h = template-numbered t in
       both-numbered (set-checks letters lengths) (check5 t ∷ check6 t ∷ check7 t ∷ check8 t ∷ check14 t m ∷ check15 letters lengths t m f ∷ []) (set-numbered letters lengths)
-      (h .0, (h .1 .0, (h .1 .1 .0, (h .1 .1 .1, (if-numbered (leb (Letter-BASES ^ size t) m) 14 0 (omega arith), (if-numbered (ltb (length (whole-list t (sequences letters lengths) m)) f) 15 0 (omega arith), tt))))))
+      (h .0, (h .1 .0, (h .1 .1 .0, (h .1 .1 .1, (if-numbered (leb (base-of t ^ size t) m || not (spelt-in t (size t) m)) 14 0 (omega arith), (if-numbered (ltb (length (whole-list t (sequences letters lengths) m)) f) 15 0 (omega arith), tt))))))
 
 join-numbered : (xs ys : List ℕ) (head low high : ℕ) (out : List ℕ) → AllNumbered (join-checks xs ys head low high out)
 unfolding join-checks check6-head check8-range check16

@@ -5,6 +5,7 @@ use mathlib.Core.Path.{_≡_, refl, ap, _∙_}
 use Prim.Native.Nat.{ℕ, zero, suc, _≤_}
 use native.Mathlib.Omega.{arith}
 use lib.ListN.{length, take, drop, length-map}
+use Rattle.rules.specs.Profile.{profile-of, exactly}
 use Rattle.rules.proofs.Bytes.{lettered, Spelled, stands-bytes, cut-spelled, cut-bytes}
 use Rattle.rules.proofs.Lists.{each-same}
 use Rattle.rules.proofs.Occurs.{Worded, Plain, parts-worded, parts-some}
@@ -17,7 +18,7 @@ use Rattle.rules.specs.Motif.{spell}
 use Rattle.rules.specs.Occurrence.{stands, reach, starts, occurrences}
 use Rattle.rules.specs.Sequences.{split, sequences}
 use Rattle.rules.specs.Sound.{SoundTemplate}
-use Rattle.rules.specs.Support.{marks, support, parts}
+use Rattle.rules.specs.Support.{parts-in, marks, support, parts}
 use Rattle.rules.specs.Template.{Part, cut, components}
 use Rattle.rules.specs.declared.Template.{Template}
 use Rattle.matching.specs.Flags.{last-starts, left?}
@@ -65,7 +66,7 @@ marks-bytes cs low f h (n ∷ ns) l =
 pub support-bytes : (t : Template) (j m : ℕ) (letters lengths : List ℕ) → SoundTemplate t → 1 ≤ j → {w : List ℕ} → w ≡ bytes j m
     → {n r : ℕ} → r ≡ n → n ≡ left-count (cut (components t) w) (split lengths letters)
     → r ≡ support (parts t j m) (sequences letters lengths)
-unfolding support bytes parts sequences left-count
+unfolding support bytes parts-in profile-of exactly sequences left-count
 support-bytes t j m letters lengths sound h e p q =
     let v = spell Letter-BASES j m in
     let low : Spelled (cut (components t) v) = cut-spelled (components t) v (spell-below Letter-BASES j m (omega arith)) in

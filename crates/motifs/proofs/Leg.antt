@@ -20,7 +20,7 @@ use Rattle.rules.specs.declared.Search.{Search}
 use Rattle.rules.specs.declared.Template.{Template}
 use Rattle.rules.proofs.Legs.{Passed, leg-law, Why, leg-why}
 use Rattle.rules.proofs.Places.{walk-of, place-deep}
-use Rattle.rules.proofs.Prefix.{exact-pos}
+use Rattle.rules.proofs.Profiles.{walk-pos}
 use Rattle.rules.proofs.Lists.{keep-few}
 use Rattle.rules.proofs.Tables.{put-front}
 use Rattle.rules.proofs.Sound.{search-sound}
@@ -67,7 +67,7 @@ module _ (letters lengths : List ℕ) (s : Search) where
   pub accepted : first (search-checks letters lengths s) ≡ fine → (budget room : ℕ) → Passed (walk-of letters lengths s) (s .place) (stretch letters lengths s budget room)
   unfolding stretch
   accepted e budget room =
-      leg-law (walk-of letters lengths s) (exact-pos (s .template) (s .quorum) (sequences letters lengths)) budget room (s .place) (place-deep letters lengths s (search-sound letters lengths s e))
+      leg-law (walk-of letters lengths s) (walk-pos (s .template) (s .quorum) (sequences letters lengths)) budget room (s .place) (place-deep letters lengths s (search-sound letters lengths s e))
 
   why : (budget room : ℕ) → Why (walk-of letters lengths s) budget room (stretch letters lengths s budget room)
   unfolding stretch

@@ -83,7 +83,7 @@ module _ (letters lengths : List ℕ) where
   pub come-on : (s : Search) {w v : Way} {l : LegTold} {page : List ℕ} → Come s w → Onward w l v → Passage letters lengths (w .search) l page → Come s v
   come-on s {w} {v} {l} c o p =
       let W = walk-of letters lengths s in
-      let same : walk-of letters lengths (w .search) ≡ W = ap (λ (t : Search). exact (t .template) (t .quorum) (sequences letters lengths)) (c .search) in
+      let same : walk-of letters lengths (w .search) ≡ W = ap (walk-of letters lengths) (c .search) in
       let at : from W (l .search .place) ≡ from W (v .search .place) = ap (λ (t : Search). from W (t .place)) (sym (o .search)) in
       record {
         taken = c .taken ++ p .taken;

@@ -16,7 +16,7 @@ use Rattle.rules.specs.declared.Place.{Place}
 use Rattle.rules.specs.declared.Search.{Search}
 use Rattle.rules.proofs.Legs.{Passed}
 use Rattle.rules.proofs.Places.{walk-of, sound-passing, moved-sound}
-use Rattle.rules.proofs.Prefix.{exact-pos}
+use Rattle.rules.proofs.Profiles.{walk-pos}
 use Rattle.rules.proofs.Relayed.{leg-passing}
 use Rattle.rules.proofs.Sound.{search-sound, search-fine}
 use Rattle.rules.proofs.Step.{at-end}
@@ -58,5 +58,5 @@ module _ (letters lengths : List ℕ) where
         printed = ap (print-rows letters lengths s) (r .lists);
         search = refl;
         fine = next-fine s budget room e;
-        end = λ q. at-end (walk-of letters lengths s) (exact-pos (s .template) (s .quorum) (sequences letters lengths)) _ (eqb-true _ 0 (sym (r .says) ∙ q));
+        end = λ q. at-end (walk-of letters lengths s) (walk-pos (s .template) (s .quorum) (sequences letters lengths)) _ (eqb-true _ 0 (sym (r .says) ∙ q));
       })

@@ -23,8 +23,8 @@ use Rattle.rules.specs.declared.Template.{Template}
 use Rattle.rules.proofs.Begins.{begins}
 use Rattle.rules.proofs.Lists.{each-append}
 use Rattle.rules.proofs.Places.{walk-of}
-use Rattle.rules.proofs.Plain.{start-plain}
-use Rattle.rules.proofs.Prefix.{exact-pos, exact-plain}
+use Rattle.rules.proofs.Candidates.{start-first}
+use Rattle.rules.proofs.Profiles.{walk-pos, walk-lawful}
 use Rattle.rules.proofs.Sound.{search-fine}
 use Rattle.rules.proofs.StepsSoFar.{from-first, begun-steps-few}
 use Rattle.rules.proofs.Whole.{listed-append}
@@ -139,7 +139,7 @@ module _ (letters lengths : List ℕ) where
   unfolding print-search print-rows last-line
   search-printed t quorum s e =
       let W : Walk = walk-of letters lengths s in
-      let at : start W ≡ s .place = start-plain W (exact-plain (s .template) (s .quorum) (sequences letters lengths)) (exact-pos (s .template) (s .quorum) (sequences letters lengths)) ∙ sym (begins letters lengths t quorum s e .at) in
+      let at : start W ≡ s .place = start-first W (walk-lawful (s .template) (s .quorum) (sequences letters lengths) (begins letters lengths t quorum s e .sound .template)) ∙ sym (begins letters lengths t quorum s e .at) in
       rw at
 
   -- legs of a new search, printed

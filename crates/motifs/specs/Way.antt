@@ -5,10 +5,9 @@ use mathlib.Core.List.{List, _++_}
 use Prim.Native.Nat.{ℕ, _+_, _-_, _*_, _^_, _<_, _≤_, min}
 use lib.Dec.{ltb}
 use lib.ListN.{length}
-use Rattle.rules.specs.Sequences.{sequences}
 use Rattle.rules.specs.Text.{print-end}
 use Rattle.rules.specs.Told.{LegTold}
-use Rattle.rules.specs.Walk.{Walk, exact, from, listed}
+use Rattle.rules.specs.Walk.{Walk, walk-of, from, listed}
 use Rattle.rules.specs.declared.Search.{Search}
 use Rattle.text.specs.Printed.{Line-ROOM}
 use Rattle.motifs.specs.declared.Way.{Way}
@@ -47,7 +46,7 @@ module _ (letters lengths : List ℕ) (s : Search) where
   -- the last line of the whole search from s on: all steps and all rows
   unfoldable pub last-line : List ℕ
   last-line =
-      let W : Walk = exact (s .template) (s .quorum) (sequences letters lengths) in
+      let W : Walk = walk-of letters lengths s in
       print-end (length (from W (s .place))) (length (listed W (from W (s .place))))
 
 -- a text is the last part of another

@@ -7,18 +7,19 @@ use Prim.Native.Nat.{ℕ, zero, suc, _-_, _/_, _≤_}
 use native.Mathlib.Omega.{arith}
 use lib.Dec.{eqb}
 use borrow.Author.Tests.{ne-eqb, leb-true}
+use Rattle.rules.specs.Profile.{profile-of, exactly}
 use Rattle.rules.specs.Limits.{Letter-BASES}
 use Rattle.rules.specs.Refusals.{passes?}
 use Rattle.rules.specs.Saved.{place-rule?}
 use Rattle.rules.specs.Sequences.{sequences}
 use Rattle.rules.specs.Support.{frequent}
 use Rattle.rules.specs.Template.{size}
-use Rattle.rules.specs.Walk.{exact, candidate}
+use Rattle.rules.specs.Walk.{walk-in, exact, candidate}
 use Rattle.rules.specs.declared.Place.{Place}
 use Rattle.rules.specs.declared.Search.{Search}
 use Rattle.rules.specs.declared.Template.{Template}
 use Rattle.rules.proofs.Plain.{candidate-plain}
-use Rattle.rules.proofs.Prefix.{exact-plain}
+use Rattle.rules.proofs.Profiles.{exact-plain}
 use Rattle.rules.proofs.Tests.{both}
 
 or-false : (b : Bool) → b || false ≡ b
@@ -31,7 +32,7 @@ module _ (letters lengths : List ℕ) (s : Search) where
   passes-none e = rw e (sym (or-false (eqb (s .place .number) 0)))
 
   pub passes-some : 1 ≤ s .place .letters → frequent (s .template) (s .quorum) (sequences letters lengths) (s .place .letters - 1) (s .place .number / Letter-BASES) ≡ passes? letters lengths s
-  unfolding passes? exact
+  unfolding passes? walk-in profile-of exactly
   passes-some h = rw (ne-eqb (s .place .letters) 0 (omega arith)) (go (s .place .letters) h)
     where
       ss : List (List ℕ)
@@ -43,5 +44,5 @@ module _ (letters lengths : List ℕ) (s : Search) where
 
 -- a place that keeps its rule has at most K letters
 pub rule-deep : (t : Template) (p : Place) → place-rule? t p ≡ true → p .letters ≤ size t
-unfolding place-rule?
+unfolding place-rule? profile-of exactly
 rule-deep t p e = leb-true _ _ (both _ _ .0 e .0)

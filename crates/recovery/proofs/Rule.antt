@@ -14,6 +14,7 @@ use Rattle.descent.proofs.Buffer.{emits-none, emits-passed}
 use Rattle.descent.proofs.Flags.{parts-count}
 use Rattle.recovery.specs.Rule.{first-checks, rows-rule}
 use Rattle.recovery.proofs.Page.{emits-page}
+use Rattle.rules.specs.Profile.{profile-of, exactly}
 use Rattle.rules.specs.Calls.{recover-rule}
 use Rattle.rules.specs.Limits.{Letter-BASES}
 use Rattle.rules.specs.Recovery.{whole-list}
@@ -25,6 +26,7 @@ use Rattle.rules.specs.Support.{occurrence-rows, parts}
 use Rattle.rules.specs.Template.{size}
 use Rattle.rules.specs.Told.{Verdict, Told, fine, refused, gives, refuses, Counts}
 use Rattle.rules.specs.declared.Template.{Template}
+use Rattle.rules.proofs.Profiles.{allowed-all}
 use Rattle.rules.proofs.Occurs.{parts-worded, rows-are}
 use Rattle.rules.proofs.Sound.{set-sound, template-sound}
 use Rattle.rules.proofs.Verdicts.{first-append, first-both, else-fine}
@@ -36,12 +38,12 @@ use Rattle.checks.specs.Orders.{template-checks}
 module _ (t : Template) (m : ℕ) {k : ℕ} {spelled : Bool} (letters : k ≡ size t) (test : spelled ≡ ltb m (Letter-BASES ^ k)) where
   -- if they can, 14 passes
   pub motif-passes : spelled ≡ true → fine ≡ check14 t m
-  unfolding check14
-  motif-passes e = rw (← letters, lt-leb (Letter-BASES ^ k) m (ltb-true m (Letter-BASES ^ k) (sym test ∙ e)))
+  unfolding check14 profile-of exactly
+  motif-passes e = rw (allowed-all, ← letters, lt-leb (Letter-BASES ^ k) m (ltb-true m (Letter-BASES ^ k) (sym test ∙ e)))
 
   -- and else it is refused
   pub motif-refused : spelled ≡ false → refused 14 0 ≡ check14 t m
-  unfolding check14
+  unfolding check14 profile-of exactly
   motif-refused e = rw (← letters, le-leb (Letter-BASES ^ k) m (ltb-false m (Letter-BASES ^ k) (sym test ∙ e)))
 
 -- ---- 1 to 8 and 14

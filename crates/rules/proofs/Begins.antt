@@ -1,19 +1,18 @@
 -- What a new search that is accepted gives: a search that stands at the first candidate, that every later call accepts, and
 -- whose template reads as the one given.
-use mathlib.Core.Path.{_≡_, refl, fun-ext}
+use mathlib.Core.Path.{_≡_, refl}
 use mathlib.Core.Logic.{inr}
 use mathlib.Core.Bool.{true}
 use mathlib.Core.List.{List}
-use Prim.Native.Nat.{ℕ, zero, suc}
+use Prim.Native.Nat.{ℕ}
 use Rattle.rules.specs.Calls.{begun, begin-rule}
-use Rattle.rules.specs.Limits.{Letter-BASES}
 use Rattle.rules.specs.Refusals.{first, new-checks}
 use Rattle.rules.specs.Sequences.{sequences}
 use Rattle.rules.specs.Sound.{SoundTemplate}
-use Rattle.rules.specs.Support.{frequent}
-use Rattle.rules.specs.Template.{trimmed}
+use Rattle.rules.specs.Profile.{profile-of}
+use Rattle.rules.specs.Template.{size, trimmed}
 use Rattle.rules.specs.Told.{gives}
-use Rattle.rules.specs.Walk.{exact, walk-over, walk-of, first-place}
+use Rattle.rules.specs.Walk.{walk-in, walk-over, walk-of, first-place}
 use Rattle.rules.specs.declared.Search.{Search}
 use Rattle.rules.specs.declared.Template.{Template}
 use Rattle.rules.proofs.Candidates.{first-candidate}
@@ -21,16 +20,12 @@ use Rattle.rules.proofs.Places.{passing-rule, passing-passes}
 use Rattle.rules.proofs.Profiles.{walk-lawful}
 use Rattle.rules.proofs.Saves.{unless-gives}
 use Rattle.rules.proofs.Sound.{SoundNew, SoundSearch, new-sound}
-use Rattle.rules.proofs.Trimmed.{trimmed-twice, trimmed-sound, trimmed-size, trimmed-parts}
+use Rattle.rules.proofs.Trimmed.{trimmed-twice, trimmed-sound, trimmed-components, trimmed-profile, trimmed-measure}
 
 -- the walk of a trimmed template is the walk of the template
 pub walk-trimmed : (t : Template) (quorum : ℕ) (ss : List (List ℕ)) → walk-over (trimmed t) quorum ss ≡ walk-over t quorum ss
-unfolding exact frequent
-walk-trimmed t quorum ss = λ i. record { base = Letter-BASES; may = λ j m. true; good = fun-ext (λ j. fun-ext (same j)) i; depth = trimmed-size t i }
-  where
-    same : (j m : ℕ) → frequent (trimmed t) quorum ss j m ≡ frequent t quorum ss j m
-    same zero m = refl
-    same (suc j) m = rw (trimmed-parts t (suc j) m)
+unfolding walk-in size
+walk-trimmed t quorum ss = rw (trimmed-profile t, trimmed-measure (profile-of t) t ss, trimmed-components t)
 
 -- what begins
 pub record Beginning (letters lengths : List ℕ) (t : Template) (quorum : ℕ) (s : Search) : Type 0 where
@@ -51,7 +46,7 @@ module _ (letters lengths : List ℕ) (t : Template) (quorum : ℕ) where
       record {
         set = o .set;
         template = k;
-        place = passing-rule (trimmed t) quorum ss first-place p;
+        place = passing-rule (trimmed t) quorum ss k first-place p;
         count = refl;
         total = refl;
         some = o .some;

@@ -9,15 +9,15 @@ use native.Mathlib.Omega.{arith}
 use lib.ListN.{length, getD, take, drop, length-append, length-map, length-take, length-drop}
 use lib.Seq.{getD-take}
 use Rattle.rules.specs.Letters.{value}
-use Rattle.rules.specs.Limits.{Letter-BASES}
 use Rattle.rules.specs.Lists.{if, each, sum}
 use Rattle.rules.specs.Motif.{spell}
 use Rattle.rules.specs.Occurrence.{found, reach, starts, occurrences, ways}
+use Rattle.rules.specs.Profile.{Profile, profile-of}
 use Rattle.rules.specs.Recovery.{whole-list}
 use Rattle.rules.specs.Sequences.{split, sequences}
 use Rattle.rules.specs.Sound.{SoundSet, SoundTemplate}
-use Rattle.rules.specs.Support.{rows-from, occurrence-rows, parts}
-use Rattle.rules.specs.Template.{Part, part, Reading, plain, none, slots, components, size, deal}
+use Rattle.rules.specs.Support.{rows-from, occurrence-rows, parts, parts-in}
+use Rattle.rules.specs.Template.{Part, part, Reading, none, slots, components, size, deal}
 use Rattle.rules.specs.declared.Component.{Component}
 use Rattle.rules.specs.declared.Template.{Template}
 use Rattle.rules.proofs.Lengths.{each-run}
@@ -62,9 +62,12 @@ deal-few R (c ∷ cs) [] = omega arith
 deal-few R (c ∷ cs) (x ∷ w) = omega (arith, deal-few R cs (drop (c .length) (x ∷ w)))
 
 -- there are no more parts than components
+pub parts-in-few : (P : Profile) (t : Template) (j m : ℕ) → length (parts-in P t j m) ≤ t .count
+unfolding parts-in components
+parts-in-few P t j m = omega (arith, deal-few (P .reading) (take (t .count) (slots t)) (spell (P .base) j m), length-take (t .count) (slots t))
+
 pub parts-few : (t : Template) (j m : ℕ) → length (parts t j m) ≤ t .count
-unfolding parts components
-parts-few t j m = omega (arith, deal-few plain (take (t .count) (slots t)) (spell Letter-BASES j m), length-take (t .count) (slots t))
+parts-few t = parts-in-few (profile-of t) t
 
 -- a part has its component's range
 deal-near : (R : Reading) (b : ℕ) (cs : List Component) (w : List ℕ) → ((i : ℕ) → i < length cs → (getD cs i none) .high + 1 - (getD cs i none) .low ≤ b) → Near b (deal R cs w)
@@ -75,12 +78,15 @@ deal-near R b (c ∷ cs) (x ∷ w) h zero l = h 0 (omega arith)
 deal-near R b (c ∷ cs) (x ∷ w) h (suc i) l = deal-near R b cs (drop (c .length) (x ∷ w)) (λ i k. h (suc i) (omega arith)) i (omega arith)
 
 -- and so at most 256 positions
-pub parts-near : (t : Template) → SoundTemplate t → (j m : ℕ) → Near 256 (parts t j m)
-unfolding parts components
-parts-near t sound j m = deal-near plain 256 (take (t .count) (slots t)) (spell Letter-BASES j m) span
+pub parts-in-near : (P : Profile) (t : Template) → SoundTemplate t → (j m : ℕ) → Near 256 (parts-in P t j m)
+unfolding parts-in components
+parts-in-near P t sound j m = deal-near (P .reading) 256 (take (t .count) (slots t)) (spell (P .base) j m) span
   where
     span : (i : ℕ) → i < length (take (t .count) (slots t)) → (getD (take (t .count) (slots t)) i none) .high + 1 - (getD (take (t .count) (slots t)) i none) .low ≤ 256
     span i l = let k : i < t .count = omega (arith, length-take (t .count) (slots t)) in rw (getD-take (t .count) (slots t) i none k) (omega (arith, sound .each i k .near))
+
+pub parts-near : (t : Template) → SoundTemplate t → (j m : ℕ) → Near 256 (parts t j m)
+parts-near t = parts-in-near (profile-of t) t
 
 -- ---- the sequences
 

@@ -38,6 +38,15 @@ module _ (W : Walk) (L : Lawful W) where
       let q : 0 / base ≡ 0 = block base 0 0 (omega arith) (omega (arith, L .pos)) in
       record { most = L .deep; below = rw (pow-suc, pow-zero) (omega (arith, L .pos)); is = rw (L .first, q, L .root) }
 
+  -- the letters of a candidate may stand there
+  pub candidate-may : (p : Place) → Candidate W p → may (p .letters) (p .number) ≡ true
+  unfolding candidate
+  candidate-may p c = go (p .letters) (c .is)
+    where
+      go : (j : ℕ) → candidate W j (p .number) ≡ true → may j (p .number) ≡ true
+      go zero e = absurd (false≢true e)
+      go (suc j) e = both (may (suc j) (p .number)) _ .0 e .0
+
   self-in : (d j m : ℕ) → List·Memᴰ (place j m) (under W d j m)
   unfolding under
   self-in zero j m = List·Memᴰ·head refl

@@ -9,13 +9,14 @@ use lib.Dec.{leb}
 use Rattle.rules.specs.Calls.{begun, motif-parts, supports-of, weights-of, begin-rule}
 use Rattle.rules.specs.Legs.{Stop, ended, Stretch, legs}
 use Rattle.rules.specs.Limits.{Letter-BASES}
+use Rattle.rules.specs.Profile.{exactly}
 use Rattle.rules.specs.Relay.{frequent-motifs, whole-steps, Complete, Lent, Roomy, Ample, relay}
 use Rattle.rules.specs.Sequences.{sequences}
 use Rattle.rules.specs.Sound.{SoundTemplate}
-use Rattle.rules.specs.Support.{support, weight, parts, frequent}
+use Rattle.rules.specs.Support.{support, weight, parts, parts-in, measure, reaches}
 use Rattle.rules.specs.Template.{Part, size}
 use Rattle.rules.specs.Told.{gives}
-use Rattle.rules.specs.Walk.{Walk, Lawful, exact, walk-over, start, motifs, tries}
+use Rattle.rules.specs.Walk.{Walk, Lawful, exact, walk-in, walk-over, start, motifs, tries}
 use Rattle.rules.specs.declared.Search.{Search}
 use Rattle.rules.specs.declared.Template.{Template}
 use Rattle.rules.proofs.Begins.{Beginning, begins}
@@ -23,15 +24,15 @@ use Rattle.rules.proofs.Candidates.{start-first}
 use Rattle.rules.proofs.Legs as walked
 use Rattle.rules.proofs.Lists.{keep-same}
 use Rattle.rules.proofs.Plain.{motifs-plain, tries-plain}
-use Rattle.rules.proofs.Prefix.{size-some, exact-plain}
-use Rattle.rules.proofs.Profiles.{walk-lawful}
+use Rattle.rules.proofs.Prefix.{size-some}
+use Rattle.rules.proofs.Profiles.{exact-plain, walk-lawful}
 use Rattle.rules.proofs.Relay.{all-listed, all-tried, legs-enough}
 use Rattle.rules.proofs.Relayed.{granted, rows-of, relay-legs}
 use Rattle.rules.proofs.Trimmed.{trimmed-size, trimmed-parts}
 
 -- a prefix with a letter is frequent by its support
-pub frequent-some : (t : Template) (quorum : ℕ) (ss : List (List ℕ)) (j m : ℕ) → 1 ≤ j → frequent t quorum ss j m ≡ leb quorum (support (parts t j m) ss)
-unfolding frequent
+pub frequent-some : (t : Template) (quorum : ℕ) (ss : List (List ℕ)) (j m : ℕ) → 1 ≤ j → reaches (measure exactly t ss) quorum j m ≡ leb quorum (support (parts-in exactly t j m) ss)
+unfolding reaches measure exactly
 frequent-some t quorum ss zero m h = absurd (omega arith)
 frequent-some t quorum ss (suc j) m h = refl
 
@@ -45,11 +46,11 @@ ample-granted (g ∷ gs) a = (a .0, omega arith, ample-granted gs (a .4))
 module _ (t : Template) (quorum : ℕ) (ss : List (List ℕ)) where
   -- THE EXACT WALK: its motifs are those whose support reaches the quorum, and its tries the paper's count
   pub exact-motifs : SoundTemplate t → motifs (exact t quorum ss) ≡ frequent-motifs t quorum ss
-  unfolding frequent-motifs exact
+  unfolding frequent-motifs walk-in exactly
   exact-motifs o = motifs-plain (exact t quorum ss) (exact-plain t quorum ss) ∙ keep-same _ _ 0 (Letter-BASES ^ size t) (λ m h l. frequent-some t quorum ss (size t) m (size-some t o))
 
   pub exact-tries : tries (exact t quorum ss) (size t) ≡ whole-steps t quorum ss
-  unfolding whole-steps exact
+  unfolding whole-steps walk-in exactly
   exact-tries = tries-plain (exact t quorum ss) (exact-plain t quorum ss) (size t)
 
 module _ (letters lengths : List ℕ) (t : Template) (quorum : ℕ) (s : Search) (e : begin-rule letters lengths t quorum ≡ gives s) where

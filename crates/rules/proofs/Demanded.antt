@@ -8,9 +8,9 @@ use native.Mathlib.Omega.{arith}
 use lib.ListN.{length}
 use Rattle.rules.specs.Legs.{ended, Grant, leg, legs}
 use Rattle.rules.specs.Order.{Rising}
-use Rattle.rules.specs.Profile.{Profile, Proper, walk-in, exactly, repeated, substituted, mixed}
+use Rattle.rules.specs.Profile.{Profile, Proper, exactly, repeated, substituted, mixed}
 use Rattle.rules.specs.Sound.{SoundTemplate}
-use Rattle.rules.specs.Walk.{Walk, Lawful, ended-place, from, start, listed, spelled, motifs, tries}
+use Rattle.rules.specs.Walk.{walk-in, Walk, Lawful, ended-place, from, start, listed, spelled, motifs, tries}
 use Rattle.rules.specs.declared.Component.{Component}
 use Rattle.rules.specs.declared.Place.{Place}
 use Rattle.rules.specs.declared.Template.{Template}

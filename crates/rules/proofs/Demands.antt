@@ -15,13 +15,14 @@ use Rattle.rules.specs.Limits.{Letter-BASES, Record-BYTES, Record-EXTRA,
 use Rattle.rules.specs.Lists.{joined, keep, put, some?}
 use Rattle.rules.specs.Occurrence.{occurrences, StandsBy, Stands, Occurs}
 use Rattle.rules.specs.Order.{InOrder, Rising}
+use Rattle.rules.specs.Profile.{exactly}
 use Rattle.rules.specs.Recovery.{whole-list, page}
 use Rattle.rules.specs.Refusals.{first, new-checks, restore-checks, search-checks, save-checks, recover-checks, join-checks}
 use Rattle.rules.specs.Relay.{frequent-motifs, whole-steps, Complete, Lent, Roomy, Ample, after, alone, relay, Relayed}
 use Rattle.rules.specs.Saved.{bytes, sized?, laid-out?, read-search}
 use Rattle.rules.specs.Sequences.{sequences}
 use Rattle.rules.specs.Sound.{SoundSet, SoundTemplate}
-use Rattle.rules.specs.Support.{support, parts}
+use Rattle.rules.specs.Support.{support, parts, parts-in}
 use Rattle.rules.specs.Template.{size, trimmed}
 use Rattle.rules.specs.Told.{Told, gives, refuses, Verdict, fine, refused, Counts}
 use Rattle.rules.specs.Walk as walk
@@ -81,10 +82,10 @@ pub record Demand2 : Type 0 where
   pub motifs-of : (W : Walk) (m : ℕ) → List·Memᴰ m (walk.motifs W) ↔ ((m < W .base ^ W .depth) × (spelled W (W .depth) m ≡ true) × (W .good (W .depth) m ≡ true))
   pub rising : (W : Walk) → Rising (walk.motifs W)
   -- that of the exact walk those whose support reaches the quorum; and its steps are 4 times the frequent prefixes
-  pub exactly : (t : Template) (quorum : ℕ) (ss : List (List ℕ)) → SoundTemplate t → walk.motifs (exact t quorum ss) ≡ frequent-motifs t quorum ss
+  pub exact-list : (t : Template) (quorum : ℕ) (ss : List (List ℕ)) → SoundTemplate t → walk.motifs (exact t quorum ss) ≡ frequent-motifs t quorum ss
   pub steps : (t : Template) (quorum : ℕ) (ss : List (List ℕ)) → tries (exact t quorum ss) (size t) ≡ whole-steps t quorum ss
   pub motifs : (t : Template) (quorum : ℕ) (ss : List (List ℕ)) (m : ℕ)
-      → List·Memᴰ m (frequent-motifs t quorum ss) ↔ ((m < Letter-BASES ^ size t) × (quorum ≤ support (parts t (size t) m) ss))
+      → List·Memᴰ m (frequent-motifs t quorum ss) ↔ ((m < Letter-BASES ^ size t) × (quorum ≤ support (parts-in exactly t (size t) m) ss))
   pub in-letter-order : (t : Template) (quorum : ℕ) (ss : List (List ℕ)) → Rising (frequent-motifs t quorum ss)
   -- the support is the number of sequences in which the motif occurs
   pub supports : (t : Template) (j m : ℕ) (ss : List (List ℕ)) → support (parts t j m) ss ≡ length (keep (λ s. some? (occurrences (parts t j m) s)) ss)
@@ -215,7 +216,7 @@ demand2 =
     record {
       motifs-of = motifs-are;
       rising = motifs-rise;
-      exactly = exact-motifs;
+      exact-list = exact-motifs;
       steps = exact-tries;
       motifs = λ t quorum ss m. (
         λ h. let o = keep-run-out _ 0 (Letter-BASES ^ size t) m h in (omega (arith, o .1), leb-true _ _ (o .2)),
@@ -263,7 +264,7 @@ passes-checks letters lengths bs w h =
       search = record {
         set = w .set;
         template = w .template;
-        place = passing-rule t q ss _ p;
+        place = passing-rule t q ss (w .template) _ p;
         count = w .count;
         total = w .total;
         some = w .some;

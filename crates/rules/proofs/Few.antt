@@ -16,15 +16,16 @@ use Rattle.rules.specs.Limits.{Letter-BASES, SequenceSet-LETTERS}
 use Rattle.rules.specs.Lists.{run, if, each, keep, joined, sum}
 use Rattle.rules.specs.Motif.{number, spell}
 use Rattle.rules.specs.Occurrence.{front, front-by, stands, stands-by, found, reach, starts, occurrences}
+use Rattle.rules.specs.Profile.{exactly}
 use Rattle.rules.specs.Relay.{whole-steps}
 use Rattle.rules.specs.Sequences.{sequences}
 use Rattle.rules.specs.Sound.{SoundSet, SoundTemplate}
-use Rattle.rules.specs.Support.{support, parts, frequent}
+use Rattle.rules.specs.Support.{support, parts-in, measure, reaches}
 use Rattle.rules.specs.Template.{Part, component, components, size, deal, cut}
-use Rattle.rules.specs.Walk.{exact, goods}
+use Rattle.rules.specs.Walk.{exact, walk-in, goods}
 use Rattle.rules.specs.declared.Component.{Component}
 use Rattle.rules.specs.declared.Template.{Template}
-use Rattle.rules.proofs.Bound.{Near, parts-few, parts-near, sequences-letters}
+use Rattle.rules.proofs.Bound.{Near, parts-in-few, parts-in-near, sequences-letters}
 use Rattle.rules.proofs.Lengths.{rising-within, each-run, each-times, keep-some}
 use Rattle.rules.proofs.Members.{each-in, each-out, keep-run-out}
 use Rattle.rules.proofs.OccurrenceOrder.{keep-run-rising}
@@ -136,45 +137,45 @@ few-placed (c ∷ cs) l h s p = le-trans (placed-most 256 c cs s h p) (le-trans 
 
 -- what can be read off a sequence where the parts of a prefix of j letters are placed
 unfoldable readings : Template → ℕ → List ℕ → List (List ℕ)
-readings t j s = each (placed (map form (parts t j 0)) s) (run 1 (length s))
+readings t j s = each (placed (map form (parts-in exactly t j 0)) s) (run 1 (length s))
 
 -- all sequences have at most 2 ^ 40 of them for each letter
 readings-few : (t : Template) → SoundTemplate t → (j : ℕ) (ss : List (List ℕ)) → length (each (readings t j) ss) ≤ sum (map length ss) * 2 ^ 40
 unfolding readings
-readings-few t sound j ss = each-times (readings t j) length (2 ^ 40) (λ s. each-run _ (2 ^ 40) (few-placed (parts t j 0) few (parts-near t sound j 0) s) 1 (length s)) ss
+readings-few t sound j ss = each-times (readings t j) length (2 ^ 40) (λ s. each-run _ (2 ^ 40) (few-placed (parts-in exactly t j 0) few (parts-in-near exactly t sound j 0) s) 1 (length s)) ss
   where
-    few : length (parts t j 0) ≤ 6
-    few = omega (arith, parts-few t j 0, sound .few)
+    few : length (parts-in exactly t j 0) ≤ 6
+    few = omega (arith, parts-in-few exactly t j 0, sound .few)
 
 module _ (t : Template) (j m : ℕ) (deep : j ≤ size t) where
   -- a prefix that occurs is among them
-  occurs-read : (s ps : List ℕ) → List·Memᴰ ps (occurrences (parts t j m) s) → List·Memᴰ (spell Letter-BASES j m) (readings t j s)
-  unfolding readings occurrences parts size
+  occurs-read : (s ps : List ℕ) → List·Memᴰ ps (occurrences (parts-in exactly t j m) s) → List·Memᴰ (spell Letter-BASES j m) (readings t j s)
+  unfolding readings occurrences parts-in exactly size
   occurs-read s ps o =
-      let r = each-out (starts (parts t j m) s) (run 1 (length s)) o in
+      let r = each-out (starts (parts-in exactly t j m) s) (run 1 (length s)) o in
       let same = cut-forms (components t) (spell Letter-BASES j 0) (spell Letter-BASES j m) (length-spell Letter-BASES j 0 ∙ sym (length-spell Letter-BASES j m)) in
       let whole = cut-spelt (components t) (spell Letter-BASES j m) (omega (arith, length-spell Letter-BASES j m)) in
-      each-in _ (run 1 (length s)) (r .1) (rw same (Memᴰ·cast (sym whole) (placed-in (parts t j m) s (r .0) ps (cut-plain (components t) (spell Letter-BASES j m)) (r .2))))
+      each-in _ (run 1 (length s)) (r .1) (rw same (Memᴰ·cast (sym whole) (placed-in (parts-in exactly t j m) s (r .0) ps (cut-plain (components t) (spell Letter-BASES j m)) (r .2))))
 
   -- and so is one whose support is at least 1
-  support-read : (ss : List (List ℕ)) → 1 ≤ support (parts t j m) ss → List·Memᴰ (spell Letter-BASES j m) (each (readings t j) ss)
+  support-read : (ss : List (List ℕ)) → 1 ≤ support (parts-in exactly t j m) ss → List·Memᴰ (spell Letter-BASES j m) (each (readings t j) ss)
   support-read ss h =
-      let k = keep-some _ ss (rw (support-sequences (parts t j m) ss) at h) in
-      let o = some-is (occurrences (parts t j m) (k .0)) .0 (k .2) in
+      let k = keep-some _ ss (rw (support-sequences (parts-in exactly t j m) ss) at h) in
+      let o = some-is (occurrences (parts-in exactly t j m) (k .0)) .0 (k .2) in
       each-in (readings t j) ss (k .1) (occurs-read (k .0) (o .0) (o .1))
 
 -- ---- the count
 
 module _ (t : Template) (quorum : ℕ) (ss : List (List ℕ)) (sound : SoundTemplate t) (some : 1 ≤ quorum) (short : sum (map length ss) ≤ SequenceSet-LETTERS) where
   -- the numbers of the frequent prefixes of one length rise, and each of them is read off somewhere
-  level-few : (j : ℕ) → suc j ≤ size t → length (keep (frequent t quorum ss (suc j)) (run 0 (Letter-BASES ^ suc j))) ≤ 2 ^ 56
-  unfolding frequent
+  level-few : (j : ℕ) → suc j ≤ size t → length (keep (reaches (measure exactly t ss) quorum (suc j)) (run 0 (Letter-BASES ^ suc j))) ≤ 2 ^ 56
+  unfolding reaches measure exactly
   level-few j deep =
       omega
       (arith, rising-within level (map (number Letter-BASES) all) (keep-run-rising _ 0 (Letter-BASES ^ suc j)) within, length-map all (number Letter-BASES), readings-few t sound (suc j) ss)
     where
       level : List ℕ
-      level = keep (frequent t quorum ss (suc j)) (run 0 (Letter-BASES ^ suc j))
+      level = keep (reaches (measure exactly t ss) quorum (suc j)) (run 0 (Letter-BASES ^ suc j))
 
       all : List (List ℕ)
       all = each (readings t (suc j)) ss
@@ -187,7 +188,7 @@ module _ (t : Template) (quorum : ℕ) (ss : List (List ℕ)) (sound : SoundTemp
 
   -- the empty prefix, and those of 1 to k letters
   goods-few : (k : ℕ) → k ≤ size t → goods (exact t quorum ss) (suc k) ≤ 1 + k * 2 ^ 56
-  unfolding goods exact frequent keep run
+  unfolding goods walk-in reaches measure exactly keep run
   goods-few zero h = omega arith
   goods-few (suc k) h = omega (arith, goods-few k (omega arith), level-few k h)
 

@@ -9,10 +9,10 @@ use lib.Dec.{leb}
 use lib.ListN.{length, length-append}
 use borrow.Author.Tests.{leb-true, le-leb}
 use Rattle.rules.specs.Lists.{run, if, keep}
-use Rattle.rules.specs.Profile.{Tally, by-sequence, by-occurrence, Profile, tallied, reaches, measure, parts-in, walk-in}
-use Rattle.rules.specs.Support.{marks, support}
+use Rattle.rules.specs.Profile.{Tally, by-sequence, by-occurrence, Profile}
+use Rattle.rules.specs.Support.{tallied, reaches, measure, parts-in, marks, support}
 use Rattle.rules.specs.Template.{Part, size}
-use Rattle.rules.specs.Walk.{Walk, spelled, candidate, motifs, tries}
+use Rattle.rules.specs.Walk.{walk-in, Walk, spelled, candidate, motifs, tries}
 use Rattle.rules.specs.declared.Template.{Template}
 use Rattle.rules.proofs.Lists.{keep-append, keep-keep, keep-same}
 

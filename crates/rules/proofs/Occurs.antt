@@ -10,13 +10,13 @@ use native.Mathlib.Numerals.{one-add}
 use native.Mathlib.Omega.{arith}
 use lib.ListN.{length, take, drop, getD, length-take}
 use lib.Seq.{getD-take}
-use Rattle.rules.specs.Limits.{Letter-BASES}
 use Rattle.rules.specs.Lists.{run, if, each}
 use Rattle.rules.specs.Motif.{spell}
 use Rattle.rules.specs.Occurrence.{stands, found, reach, starts, occurrences, Found, Gap, Occurs}
+use Rattle.rules.specs.Profile.{profile-of, base-of}
 use Rattle.rules.specs.Sound.{SoundTemplate}
-use Rattle.rules.specs.Support.{rows-from, occurrence-rows, parts}
-use Rattle.rules.specs.Template.{Part, part, Reading, plain, none, slots, components, deal, cut}
+use Rattle.rules.specs.Support.{rows-from, occurrence-rows, parts, parts-in}
+use Rattle.rules.specs.Template.{Part, part, Reading, none, slots, components, deal, cut}
 use Rattle.rules.specs.declared.Component.{Component}
 use Rattle.rules.specs.declared.Template.{Template}
 use Rattle.rules.proofs.Members.{each-in, each-out}
@@ -51,19 +51,19 @@ deal-worded R (c ∷ cs) (x ∷ w) h (suc i) l = deal-worded R cs (drop (c .leng
 
 -- the parts of a motif, or of a prefix, under a sound template all have a letter
 pub parts-worded : (t : Template) → SoundTemplate t → (j m : ℕ) → Worded (parts t j m)
-unfolding parts components
-parts-worded t sound j m = deal-worded plain (take (t .count) (slots t)) (spell Letter-BASES j m) some
+unfolding parts-in components
+parts-worded t sound j m = deal-worded (profile-of t .reading) (take (t .count) (slots t)) (spell (base-of t) j m) some
   where
     some : (i : ℕ) → i < length (take (t .count) (slots t)) → 1 ≤ (getD (take (t .count) (slots t)) i none) .length
     some i l = let k : i < t .count = omega (arith, length-take (t .count) (slots t)) in rw (getD-take (t .count) (slots t) i none k) (sound .each i k .some)
 
 -- and there is a part as soon as there is a letter
 pub parts-some : (t : Template) → SoundTemplate t → (j m : ℕ) → 1 ≤ j → 1 ≤ length (parts t j m)
-unfolding parts components deal spell
+unfolding parts-in components deal spell
 parts-some t sound zero m l = absurd (omega arith)
 parts-some t sound (suc j) m l = go (t .count) (sound .some)
   where
-    go : (n : ℕ) → 1 ≤ n → 1 ≤ length (deal plain (take n (slots t)) (spell Letter-BASES (suc j) m))
+    go : (n : ℕ) → 1 ≤ n → 1 ≤ length (deal (profile-of t .reading) (take n (slots t)) (spell (base-of t) (suc j) m))
     go zero k = absurd (omega arith)
     go (suc n) k = omega arith
 

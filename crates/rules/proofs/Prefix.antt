@@ -15,7 +15,6 @@ use Rattle.rules.specs.Occurrence.{spare, front-by, stands-by, found, re
 use Rattle.rules.specs.Sound.{SoundTemplate}
 use Rattle.rules.specs.Support.{marks, support}
 use Rattle.rules.specs.Template.{Part, Reading, read, slots, components, size, deal}
-use Rattle.rules.specs.Walk.{exact}
 use Rattle.rules.specs.declared.Component.{Component}
 use Rattle.rules.specs.declared.Template.{Template}
 use Rattle.rules.proofs.Lists.{some-map}
@@ -159,16 +158,3 @@ size-some t s = go (t .count) (s .some)
     go : (n : ℕ) → 1 ≤ n → 1 ≤ sum (map (λ c. c .length) (take n (slots t)))
     go zero h = absurd (omega arith)
     go (suc n) h = omega (arith, s .each 0 (s .some) .some)
-
--- ---- the exact walk
-
-module _ (t : Template) (quorum : ℕ) (ss : List (List ℕ)) where
-  -- there are letters
-  pub exact-pos : 1 ≤ (exact t quorum ss) .base
-  unfolding exact
-  exact-pos = omega arith
-
-  -- each letter may follow any
-  pub exact-plain : (j m : ℕ) → (exact t quorum ss) .may j m ≡ true
-  unfolding exact
-  exact-plain j m = refl

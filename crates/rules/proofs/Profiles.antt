@@ -12,23 +12,23 @@ use borrow.Author.Tests.{leb-true, leb-false, le-leb}
 use Rattle.rules.specs.Limits.{Letter-BASES, Letter-KINDS}
 use Rattle.rules.specs.Lists.{if, keep, all?, sum}
 use Rattle.rules.specs.Motif.{spell}
-use Rattle.rules.specs.Profile.{Tally, by-sequence, by-occurrence, Profile, Proper, allowed, to-come, tallied, reaches, parts-in, measure, walk-in, exactly, repeated, substituted, within, mixed}
+use Rattle.rules.specs.Profile.{Tally, by-sequence, by-occurrence, Profile, Proper, allowed, to-come, exactly, profile-of, repeated, substituted, within, mixed}
 use Rattle.rules.specs.Sound.{SoundTemplate}
-use Rattle.rules.specs.Support.{support, occurrence-rows, parts, frequent}
+use Rattle.rules.specs.Support.{tallied, reaches, parts-in, measure, support, occurrence-rows}
 use Rattle.rules.specs.Template.{Part, Reading, components, size, deal}
-use Rattle.rules.specs.Walk.{Lawful, exact, walk-over, spelled}
+use Rattle.rules.specs.Walk.{walk-in, Lawful, exact, walk-over, spelled}
 use Rattle.rules.specs.declared.Component.{Component}
 use Rattle.rules.specs.declared.Template.{Template}
 use Rattle.rules.proofs.Components.{components-some}
 use Rattle.rules.proofs.Lists.{keep-append}
 use Rattle.rules.proofs.Prefix.{size-some, support-antitone}
-use Rattle.rules.proofs.Repeats.{Lettered, rows-antitone}
+use Rattle.rules.proofs.Repeats.{rows-antitone, none-to-come}
 use Rattle.rules.proofs.Spelling.{spell-more, length-spell}
 use Rattle.rules.proofs.Tests.{both}
 
 -- ---- letters that are allowed
 
-allowed-nil : (f : Component → List ℕ → Bool) (cs : List Component) → allowed f cs [] ≡ true
+pub allowed-nil : (f : Component → List ℕ → Bool) (cs : List Component) → allowed f cs [] ≡ true
 unfolding allowed
 allowed-nil f [] = refl
 allowed-nil f (c ∷ cs) = refl
@@ -111,49 +111,88 @@ module _ (P : Profile) (proper : Proper P) where
 
 pub exactly-proper : Proper exactly
 unfolding exactly
-exactly-proper = record { pos = omega arith; none = λ c. refl; first = λ c. refl; closed = λ c w y e. refl }
+exactly-proper = record { pos = omega arith; short = omega arith; wide = omega arith; none = λ c. refl; first = λ c. refl; closed = λ c w y e. refl }
 
 pub repeated-proper : Proper repeated
 unfolding repeated
-repeated-proper = record { pos = omega arith; none = λ c. refl; first = λ c. refl; closed = λ c w y e. refl }
+repeated-proper = record { pos = omega arith; short = omega arith; wide = omega arith; none = λ c. refl; first = λ c. refl; closed = λ c w y e. refl }
 
 pub substituted-proper : (e : Component → ℕ) → Proper (substituted e)
 unfolding substituted
-substituted-proper e = record { pos = omega arith; none = λ c. refl; first = λ c. refl; closed = λ c w y e. refl }
+substituted-proper e = record { pos = omega arith; short = omega arith; wide = omega arith; none = λ c. refl; first = λ c. refl; closed = λ c w y e. refl }
 
 all-less : {A : Type 0} (f : A → Bool) (xs ys : List A) → all? f (xs ++ ys) ≡ true → all? f xs ≡ true
 unfolding all?
 all-less f [] ys e = refl
 all-less f (x ∷ xs) ys e = let h = both (f x) _ .0 e in both _ _ .1 (h .0, all-less f xs ys (h .1))
 
-pub mixed-proper : (most : Component → ℕ) → Proper (mixed most)
+pub mixed-proper : (several : Component → ℕ) → Proper (mixed several)
 unfolding mixed within all? keep
-mixed-proper most = record {
+mixed-proper several = record {
   pos = omega arith;
-  none = λ c. le-leb 0 (most c) (omega arith);
-  first = λ c. le-leb 0 (most c) (omega arith);
+  short = omega arith;
+  wide = omega arith;
+  none = λ c. le-leb 0 (several c) (omega arith);
+  first = λ c. le-leb 0 (several c) (omega arith);
   closed = λ c w y e.
     let h = both (all? (λ x. ltb x Letter-KINDS) (w ++ (y ∷ []))) _ .0 e in
-    let l : length (keep (leb Letter-BASES) w) ≤ most c = omega (arith, leb-true _ (most c) (h .1), ap length (keep-append (leb Letter-BASES) w (y ∷ [])), length-append (keep (leb Letter-BASES) w) (keep (leb Letter-BASES) (y ∷ []))) in
-    both _ _ .1 (all-less _ w (y ∷ []) (h .0), le-leb _ (most c) l);
+    let l : length (keep (leb Letter-BASES) w) ≤ several c = omega (arith, leb-true _ (several c) (h .1), ap length (keep-append (leb Letter-BASES) w (y ∷ [])), length-append (keep (leb Letter-BASES) w) (keep (leb Letter-BASES) (y ∷ []))) in
+    both _ _ .1 (all-less _ w (y ∷ []) (h .0), le-leb _ (several c) l);
 }
+
+whole-size : (t : Template) → sum (map (λ c. c .length) (components t)) ≡ size t
+unfolding size
+whole-size t = refl
+
+reaches-one : (f : ℕ → ℕ → ℕ) (quorum k m n : ℕ) → f (suc k) m ≡ n → reaches f quorum (suc k) m ≡ leb quorum n
+unfolding reaches
+reaches-one f quorum k m n e = ap (leb quorum) e
+
+measure-one : (t : Template) (ss : List (List ℕ)) (k m : ℕ) → to-come (components t) (spell Letter-BASES k m) ≡ 1
+    → measure repeated t ss k m ≡ length (occurrence-rows (parts-in repeated t k m) ss)
+unfolding measure repeated
+measure-one t ss k m z = rw z (omega arith)
 
 -- ---- the exact search as one of them
 
-allowed-all : (cs : List Component) (w : List ℕ) → allowed (λ c w. true) cs w ≡ true
+pub allowed-all : (cs : List Component) (w : List ℕ) → allowed (λ c w. true) cs w ≡ true
 unfolding allowed
 allowed-all [] w = refl
 allowed-all (c ∷ cs) [] = refl
 allowed-all (c ∷ cs) (x ∷ w) = allowed-all cs (drop (c .length) (x ∷ w))
 
-pub exact-is : (t : Template) (quorum : ℕ) (ss : List (List ℕ)) → walk-in exactly t quorum ss ≡ exact t quorum ss
-unfolding walk-in exactly exact reaches measure parts-in parts frequent
-exact-is t quorum ss = λ i. record { base = Letter-BASES; may = fun-ext (λ j. fun-ext (λ m. allowed-all (components t) (spell Letter-BASES j m))) i; good = fun-ext (λ j. fun-ext (same j)) i; depth = size t }
-  where
-    same : (j m : ℕ) → reaches (measure exactly t ss) quorum j m ≡ frequent t quorum ss j m
-    same zero m = refl
-    same (suc j) m = refl
+-- each letter may follow any
+pub exact-plain : (t : Template) (quorum : ℕ) (ss : List (List ℕ)) (j m : ℕ) → (exact t quorum ss) .may j m ≡ true
+unfolding walk-in exactly
+exact-plain t quorum ss j m = allowed-all (components t) (spell Letter-BASES j m)
 
--- so the walk of every search is lawful
+-- there are letters
+pub exact-pos : (t : Template) (quorum : ℕ) (ss : List (List ℕ)) → 1 ≤ (exact t quorum ss) .base
+unfolding walk-in exactly
+exact-pos t quorum ss = omega arith
+
+-- and the repeated search: a motif is listed exactly if its occurrences reach the quorum
+pub repeated-good : (t : Template) → SoundTemplate t → (quorum : ℕ) (ss : List (List ℕ)) (m : ℕ)
+    → (walk-in repeated t quorum ss) .good (size t) m ≡ leb quorum (length (occurrence-rows (parts-in repeated t (size t) m) ss))
+unfolding walk-in measure repeated
+repeated-good t o quorum ss m = go (size t) refl (size-some t o)
+  where
+    go : (k : ℕ) → size t ≡ k → 1 ≤ k → reaches (measure repeated t ss) quorum k m ≡ leb quorum (length (occurrence-rows (parts-in repeated t k m) ss))
+    go zero e h = absurd (omega arith)
+    go (suc k) e h = last k (none-to-come (components t) (spell Letter-BASES (suc k) m) (components-some o) (whole-size t ∙ e ∙ sym (length-spell Letter-BASES (suc k) m)))
+      where
+        last : (k : ℕ) → to-come (components t) (spell Letter-BASES (suc k) m) ≡ 1
+            → reaches (measure repeated t ss) quorum (suc k) m ≡ leb quorum (length (occurrence-rows (parts-in repeated t (suc k) m) ss))
+        last k z = reaches-one (measure repeated t ss) quorum k m _ (measure-one t ss (suc k) m z)
+
+-- THE PROFILE of every template is proper, so the walk of every search is lawful
+pub profile-proper : (t : Template) → Proper (profile-of t)
+unfolding profile-of
+profile-proper t = exactly-proper
+
+pub walk-pos : (t : Template) (quorum : ℕ) (ss : List (List ℕ)) → 1 ≤ (walk-over t quorum ss) .base
+unfolding walk-in
+walk-pos t quorum ss = profile-proper t .pos
+
 pub walk-lawful : (t : Template) (quorum : ℕ) (ss : List (List ℕ)) → SoundTemplate t → Lawful (walk-over t quorum ss)
-walk-lawful t quorum ss o = subst Lawful (exact-is t quorum ss) (lawful-in exactly exactly-proper t quorum ss o)
+walk-lawful t quorum ss o = lawful-in (profile-of t) (profile-proper t) t quorum ss o

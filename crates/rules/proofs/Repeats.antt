@@ -6,7 +6,7 @@ use mathlib.Core.List.{List, [], _∷_, _++_, map}
 use Prim.Native.Nat.{ℕ, zero, suc, _+_, _-_, _*_, _/_, _%_, _≤_, _<_}
 use native.Mathlib.Omega.{arith}
 use lib.Dec.{leb}
-use lib.ListN.{length, take, drop, getD, length-append, drop-of-length-le}
+use lib.ListN.{length, take, drop, getD, length-append, length-drop, drop-of-length-le}
 use lib.Seq.{take-all, take-append-le, drop-append-le}
 use borrow.Author.Tests.{leb-true, leb-false}
 use Rattle.rules.specs.Lists.{run, if, sum}
@@ -137,3 +137,10 @@ pub rows-antitone : (R : Reading) (base : ℕ) (cs : List Component) (j m : ℕ)
 rows-antitone R base cs j m l h ss =
     rw (rows-count, rows-count, spell-more base j m)
     (sum-times _ _ _ _ (λ s. fewer-occurrences R s cs (spell base j (m / base)) (m % base) l (rw length-spell h)) ss)
+
+-- a whole motif has no gap to come
+pub none-to-come : (cs : List Component) (w : List ℕ) → Lettered cs → sum (map (λ c. c .length) cs) ≡ length w → to-come cs w ≡ 1
+unfolding to-come sum
+none-to-come [] w l e = refl
+none-to-come (c ∷ cs) [] l e = absurd (omega (arith, l 0 (omega arith)))
+none-to-come (c ∷ cs) (x ∷ w) l e = none-to-come cs (drop (c .length) (x ∷ w)) (λ i h. l (suc i) (omega arith)) (omega (arith, length-drop (c .length) (x ∷ w)))

@@ -4,13 +4,14 @@ use mathlib.Core.Path.{_≡_, refl}
 use mathlib.Core.Bool.{Bool, true, false}
 use mathlib.Core.List.{List, _++_}
 use Prim.Native.Nat.{ℕ, zero, suc, _+_, _*_, _^_, _≤_, _<_}
-use native.Mathlib.Nat.{pow-le-pow-right}
+use native.Mathlib.Nat.{le-trans, pow-le-pow-right}
 use native.Mathlib.Omega.{arith}
-use lib.Dec.{leb}
+use lib.Dec.{leb, ltb}
 use lib.ListN.{length, getD, drop}
 use borrow.Author.Tests.{leb-true, ltb-true, le-leb, eq-eqb}
 use Rattle.rules.specs.Limits.{Letter-BASES, Record-BYTES, Record-EXTRA, Template-COMPONENTS, Template-LETTERS}
 use Rattle.rules.specs.Lists.{if, all?, joined}
+use Rattle.rules.specs.Profile.{profile-of, base-of}
 use Rattle.rules.specs.Saved.{low-first, read-low, size-record, component-record, place-record, records, bytes, record-at, field, record-count, component-count, read-component, read-place, read-template, read-search, sized?, blank?, size-record?, component-record?, place-record?, component-records?, place-rule?, laid-out?}
 use Rattle.rules.specs.Sound.{SoundSet, SoundTemplate}
 use Rattle.rules.specs.Template.{none, slots, components, kept, size, trimmed}
@@ -18,6 +19,7 @@ use Rattle.rules.specs.declared.Component.{Component}
 use Rattle.rules.specs.declared.Place.{Place}
 use Rattle.rules.specs.declared.Search.{Search}
 use Rattle.rules.proofs.LowFirst.{Bytes, read-written}
+use Rattle.rules.proofs.Profiles.{profile-proper}
 use Rattle.rules.proofs.Tests.{both}
 use Rattle.rules.proofs.Components.{components-length, components-at}
 use Rattle.rules.proofs.Records.{All, all-at, all-joined, records-are, bytes-counted, size-at, component-at, place-at}
@@ -47,8 +49,11 @@ unfolding place-rule?
 sound-fits letters lengths s set t n m q rule =
     let p = both (leb (s .place .letters) (size (s .template))) _ .0 rule in
     let j : s .place .letters ≤ Template-LETTERS = let e = leb-true (s .place .letters) (size (s .template)) (p .0) in omega (arith, t .deep) in
-    let x : s .place .number < Letter-BASES ^ s .place .letters = ltb-true (s .place .number) (Letter-BASES ^ s .place .letters) (p .1) in
-    let y : Letter-BASES ^ s .place .letters ≤ 256 ^ 8 = pow-le-pow-right {n = Letter-BASES} (omega arith) j in
+    let b : ℕ = base-of (s .template) in
+    let x : s .place .number < b ^ s .place .letters = ltb-true (s .place .number) (b ^ s .place .letters) (both (ltb (s .place .number) (b ^ s .place .letters)) _ .0 (p .1) .0) in
+    let proper = profile-proper (s .template) in
+    let k : s .place .letters ≤ profile-of (s .template) .most = let e = leb-true (s .place .letters) (size (s .template)) (p .0) in omega (arith, t .fits) in
+    let y : b ^ s .place .letters ≤ 256 ^ 8 = le-trans (pow-le-pow-right {n = b} (proper .pos) k) (proper .wide) in
     record {
       count = t .few;
       each = λ i h. let c = t .each i h in record { length = omega arith; low = omega arith; high = omega arith };

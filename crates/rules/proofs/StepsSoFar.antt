@@ -7,11 +7,12 @@ use native.Mathlib.Omega.{arith}
 use lib.ListN.{length, length-append}
 use Rattle.rules.specs.Calls.{begun, stretch, begin-rule, leg-rule}
 use Rattle.rules.specs.Legs.{spent, Stretch, leg, legs}
+use Rattle.rules.specs.Profile.{exactly, profile-of}
 use Rattle.rules.specs.Relay.{whole-steps, Lent, Roomy, relay}
 use Rattle.rules.specs.Sequences.{sequences}
 use Rattle.rules.specs.Sound.{SoundTemplate}
 use Rattle.rules.specs.Told.{gives}
-use Rattle.rules.specs.Walk.{Walk, exact, walk-of, first-place, from}
+use Rattle.rules.specs.Walk.{Walk, walk-in, walk-over, walk-of, first-place, from}
 use Rattle.rules.specs.declared.Place.{Place}
 use Rattle.rules.specs.declared.Search.{Search}
 use Rattle.rules.specs.declared.Template.{Template}
@@ -31,10 +32,10 @@ passed-most : (W : Walk) (p : Place) (l : Stretch) → Passed W p l → l .steps
 passed-most W p l r = omega (arith, r .counts, simp length-append at (ap length (r .split)))
 
 -- from A on there are as many candidates as the paper counts
-pub from-first : (t : Template) (quorum : ℕ) (ss : List (List ℕ)) → SoundTemplate t → length (from (exact t quorum ss) first-place) ≡ whole-steps t quorum ss
-unfolding exact
+pub from-first : (t : Template) (quorum : ℕ) (ss : List (List ℕ)) → SoundTemplate t → length (from (walk-over t quorum ss) first-place) ≡ whole-steps t quorum ss
+unfolding walk-in profile-of exactly
 from-first t quorum ss o =
-    let W : Walk = exact t quorum ss in
+    let W : Walk = walk-over t quorum ss in
     let L = walk-lawful t quorum ss o in
     ap (λ p. length (from W p)) (sym (start-first W L)) ∙ tried W L ∙ exact-tries t quorum ss
 
@@ -50,7 +51,7 @@ module _ (letters lengths : List ℕ) (t : Template) (quorum : ℕ) (s : Search)
   -- the steps of its legs, with a save and a restore between them, are never more
   pub steps-so-far : (gs : List Lent) → Roomy gs → (relay letters lengths gs s) .steps ≤ whole-steps t quorum (sequences letters lengths)
   steps-so-far gs h =
-      let W : Walk = exact t quorum (sequences letters lengths) in
+      let W : Walk = walk-over t quorum (sequences letters lengths) in
       let L = walk-lawful t quorum (sequences letters lengths) (b .template) in
       let r = passed-most W first-place (legs W (map granted gs) first-place) (legs-law W (L .pos) (map granted gs) first-place (L .deep)) in
       rw (relay-legs letters lengths gs s (b .sound) (b .trim) h, b .walk, b .at)

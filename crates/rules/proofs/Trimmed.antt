@@ -1,5 +1,5 @@
 -- Emptying the slots that a template does not count changes nothing that is read of it.
-use mathlib.Core.Path.{_≡_, refl, ap, _∙_}
+use mathlib.Core.Path.{_≡_, refl, ap, _∙_, fun-ext}
 use mathlib.Core.Bool.{Bool, true, false}
 use mathlib.Core.List.{List, [], _∷_}
 use Prim.Native.Nat.{ℕ, zero, suc, _≤_, _<_}
@@ -9,7 +9,8 @@ use lib.ListN.{length, take, getD}
 use borrow.Author.Tests.{le-leb}
 use Rattle.rules.specs.Lists.{if}
 use Rattle.rules.specs.Sound.{SoundTemplate}
-use Rattle.rules.specs.Support.{parts}
+use Rattle.rules.specs.Profile.{Profile, profile-of}
+use Rattle.rules.specs.Support.{parts, parts-in, measure}
 use Rattle.rules.specs.Template.{none, slots, components, size, kept, trimmed}
 use Rattle.rules.specs.declared.Component.{Component}
 use Rattle.rules.specs.declared.Template.{Template}
@@ -57,9 +58,18 @@ pub trimmed-size : (t : Template) → size (trimmed t) ≡ size t
 unfolding size
 trimmed-size t = rw (trimmed-components t)
 
+-- and it asks for the same kind of search
+pub trimmed-profile : (t : Template) → profile-of (trimmed t) ≡ profile-of t
+unfolding profile-of
+trimmed-profile t = refl
+
 pub trimmed-parts : (t : Template) (j m : ℕ) → parts (trimmed t) j m ≡ parts t j m
-unfolding parts
-trimmed-parts t j m = rw (trimmed-components t)
+unfolding parts-in
+trimmed-parts t j m = rw (trimmed-profile t, trimmed-components t)
+
+pub trimmed-measure : (P : Profile) (t : Template) (ss : List (List ℕ)) → measure P (trimmed t) ss ≡ measure P t ss
+unfolding measure parts-in
+trimmed-measure P t ss = fun-ext (λ j. fun-ext (λ m. rw (trimmed-components t)))
 
 pub trimmed-sound : (t : Template) → SoundTemplate t → SoundTemplate (trimmed t)
 unfolding trimmed
@@ -68,6 +78,7 @@ trimmed-sound t o =
       some = o .some;
       few = o .few;
       deep = rw (trimmed-size t) (o .deep);
+      fits = rw (trimmed-size t, trimmed-profile t) (o .fits);
       each = λ i h. rw (trimmed-slot t i h) (o .each i h);
       low = ap (λ (c : Component). c .low) (kept-counted (t .count) 1 (t .c1) (o .some)) ∙ o .low;
       high = ap (λ (c : Component). c .high) (kept-counted (t .count) 1 (t .c1) (o .some)) ∙ o .high;

@@ -7,9 +7,9 @@ pub mod Template
 pub mod Motif
 pub mod Occurrence
 pub mod Order
+pub mod Profile
 pub mod Support
 pub mod Walk
-pub mod Profile
 pub mod Legs
 pub mod Told
 pub mod Saved

@@ -26,6 +26,10 @@ Template-LENGTH = 12
 abbrev pub Template-LETTERS : ℕ
 Template-LETTERS = 32
 
+-- K of a template for mixed letters
+abbrev pub Template-MIXED : ℕ
+Template-MIXED = 16
+
 abbrev pub Template-GAP : ℕ
 Template-GAP = 255
 

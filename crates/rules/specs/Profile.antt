@@ -1,17 +1,14 @@
--- The kinds of search, as instances of one walk: how a motif's letters are read, which letters a component may have, and what
+-- The kinds of search, as instances of one: how a motif's letters are read, which letters a component may have, and what
 -- must reach the quorum. `exactly`, `mixed`, `substituted` and `repeated` are ours.
 use mathlib.Core.Bool.{Bool, true, _&&_}
 use mathlib.Core.List.{List, [], _∷_, _++_}
 use mathlib.Core.Path.{_≡_}
-use Prim.Native.Nat.{ℕ, zero, suc, _+_, _-_, _*_, _/_, _%_, _^_, _≤_}
+use Prim.Native.Nat.{ℕ, _+_, _-_, _*_, _/_, _%_, _^_, _≤_}
 use lib.Dec.{leb, ltb, eqb}
 use lib.ListN.{length, take, drop, getD}
-use Rattle.rules.specs.Limits.{Letter-BASES, Letter-KINDS, Letter-PLACES}
+use Rattle.rules.specs.Limits.{Letter-BASES, Letter-KINDS, Letter-PLACES, Template-LETTERS, Template-MIXED}
 use Rattle.rules.specs.Lists.{keep, all?}
-use Rattle.rules.specs.Motif.{spell}
-use Rattle.rules.specs.Support.{support, occurrence-rows}
-use Rattle.rules.specs.Template.{Part, Reading, plain, components, size, deal}
-use Rattle.rules.specs.Walk.{Walk}
+use Rattle.rules.specs.Template.{Reading, plain}
 use Rattle.rules.specs.declared.Component.{Component}
 use Rattle.rules.specs.declared.Template.{Template}
 
@@ -22,6 +19,8 @@ pub data Tally : Type 0 where
 pub record Profile : Type 0 where
   -- the base of a motif's number
   pub base : ℕ
+  -- its letters in all
+  pub most : ℕ
   -- which letter of a sequence a letter of a motif fits, and how many of a component's may fail to
   pub reading : Reading
   -- a component may begin with some letters
@@ -40,53 +39,28 @@ to-come [] w = 1
 to-come (c ∷ cs) [] = (c .high + 1 - c .low) * to-come cs []
 to-come (c ∷ cs) (x ∷ w) = to-come cs (drop (c .length) (x ∷ w))
 
--- what some letters come to: the sequences in which they occur; or their occurrences times the spans still to come
-abbrev pub tallied : Tally → List Part → ℕ → List (List ℕ) → ℕ
-tallied by-sequence cs n ss = support cs ss
-tallied by-occurrence cs n ss = length (occurrence-rows cs ss) * n
-
--- a prefix is good if what it comes to reaches the quorum; the empty one always is
-unfoldable pub reaches : (ℕ → ℕ → ℕ) → ℕ → ℕ → ℕ → Bool
-reaches f quorum zero m = true
-reaches f quorum (suc j) m = leb quorum (f (suc j) m)
-
-module _ (P : Profile) (t : Template) where
-  -- the parts of a motif, or of a prefix of j letters, with the number m
-  unfoldable pub parts-in : ℕ → ℕ → List Part
-  parts-in j m = deal (P .reading) (components t) (spell (P .base) j m)
-
-  unfoldable pub measure : List (List ℕ) → ℕ → ℕ → ℕ
-  measure ss j m = tallied (P .tally) (parts-in j m) (to-come (components t) (spell (P .base) j m)) ss
-
-  -- THE WALK of a profile
-  unfoldable pub walk-in : ℕ → List (List ℕ) → Walk
-  walk-in quorum ss =
-      record {
-        base = P .base;
-        may = λ j m. allowed (P .allows) (components t) (spell (P .base) j m);
-        good = reaches (measure ss) quorum;
-        depth = size t;
-      }
-
 -- what the laws ask of a profile: there are letters; A may come first; and where some letters are allowed, so are those before
 -- the last of them
 pub record Proper (P : Profile) : Type 0 where
   pub pos : 1 ≤ P .base
+  -- a motif's number fits eight bytes
+  pub short : P .most ≤ Template-LETTERS
+  pub wide : P .base ^ P .most ≤ 256 ^ 8
   pub none : (c : Component) → P .allows c [] ≡ true
   pub first : (c : Component) → P .allows c (0 ∷ []) ≡ true
   pub closed : (c : Component) (w : List ℕ) (y : ℕ) → P .allows c (w ++ (y ∷ [])) ≡ true → P .allows c w ≡ true
 
 -- THE PROFILES. Four letters, each of which fits itself and may follow any
 unfoldable pub exactly : Profile
-exactly = record { base = Letter-BASES; reading = plain; allows = λ c w. true; tally = by-sequence }
+exactly = record { base = Letter-BASES; most = Template-LETTERS; reading = plain; allows = λ c w. true; tally = by-sequence }
 
 -- the same, by occurrences
 unfoldable pub repeated : Profile
-repeated = record { base = Letter-BASES; reading = plain; allows = λ c w. true; tally = by-occurrence }
+repeated = record { base = Letter-BASES; most = Template-LETTERS; reading = plain; allows = λ c w. true; tally = by-occurrence }
 
 -- the same as `exactly`, but that e of a component's letters may be others
 unfoldable pub substituted : (Component → ℕ) → Profile
-substituted e = record { base = Letter-BASES; reading = record { fits = eqb; slack = e }; allows = λ c w. true; tally = by-sequence }
+substituted e = record { base = Letter-BASES; most = Template-LETTERS; reading = record { fits = eqb; slack = e }; allows = λ c w. true; tally = by-sequence }
 
 -- the bases that each letter stands for, by its place in A C G T R Y K M S W B D H V: A is 1, C 2, G 4, T 8, added up
 unfoldable pub bases : List ℕ
@@ -97,7 +71,14 @@ stands-for x y = eqb ((getD bases x 0 / 2 ^ y) % 2) 1
 
 -- fourteen letters, of which a component may have so many that stand for several bases
 unfoldable pub within : (Component → ℕ) → Component → List ℕ → Bool
-within most c w = all? (λ x. ltb x Letter-KINDS) w && leb (length (keep (leb Letter-BASES) w)) (most c)
+within several c w = all? (λ x. ltb x Letter-KINDS) w && leb (length (keep (leb Letter-BASES) w)) (several c)
 
 unfoldable pub mixed : (Component → ℕ) → Profile
-mixed most = record { base = Letter-PLACES; reading = record { fits = stands-for; slack = λ c. 0 }; allows = within most; tally = by-sequence }
+mixed several = record { base = Letter-PLACES; most = Template-MIXED; reading = record { fits = stands-for; slack = λ c. 0 }; allows = within several; tally = by-sequence }
+
+-- THE PROFILE of a template: the one place that says which kind of search it asks for
+unfoldable pub profile-of : Template → Profile
+profile-of t = exactly
+
+abbrev pub base-of : Template → ℕ
+base-of t = profile-of t .base

@@ -6,11 +6,13 @@ use lib.Dec.{leb, ltb, eqb}
 use lib.ListN.{length}
 use Rattle.rules.specs.Join.{rising?}
 use Rattle.rules.specs.Letters.{letter?}
-use Rattle.rules.specs.Limits.{Letter-BASES, Template-COMPONENTS, Template-LENGTH, Template-LETTERS, Template-GAP, SequenceSet-SEQUENCES, SequenceSet-LETTERS}
+use Rattle.rules.specs.Limits.{Template-COMPONENTS, Template-LENGTH, Template-GAP, SequenceSet-SEQUENCES, SequenceSet-LETTERS}
 use Rattle.rules.specs.Lists.{if, sum}
+use Rattle.rules.specs.Profile.{profile-of, base-of}
 use Rattle.rules.specs.Recovery.{whole-list}
 use Rattle.rules.specs.Saved.{bytes, sized?, laid-out?, place-rule?, read-search}
 use Rattle.rules.specs.Sequences.{sequences}
+use Rattle.rules.specs.Support.{spelt-in}
 use Rattle.rules.specs.Template.{components, size}
 use Rattle.rules.specs.Told.{Verdict, fine, refused}
 use Rattle.rules.specs.Walk.{walk-of, candidate}
@@ -69,7 +71,7 @@ unfoldable pub check6 : Template → Verdict
 check6 t = first-bad 6 bad-length 1 (components t)
 
 unfoldable pub check7 : Template → Verdict
-check7 t = refuse-if (ltb Template-LETTERS (size t)) 7
+check7 t = refuse-if (ltb (profile-of t .most) (size t)) 7
 
 -- a range must have low ≤ high ≤ 255, and the first component's be 0, 0
 abbrev pub bad-range : ℕ → ℕ → Bool
@@ -110,7 +112,7 @@ check13 letters lengths s = refuse-if (not (passes? letters lengths s)) 13
 
 -- a recovery:
 unfoldable pub check14 : Template → ℕ → Verdict
-check14 t m = refuse-if (leb (Letter-BASES ^ size t) m) 14
+check14 t m = refuse-if (leb (base-of t ^ size t) m || not (spelt-in t (size t) m)) 14
 
 unfoldable pub check15 : List ℕ → List ℕ → Template → ℕ → ℕ → Verdict
 check15 letters lengths t m f = refuse-if (ltb (length (whole-list t (sequences letters lengths) m)) f) 15

@@ -9,7 +9,8 @@ use Rattle.rules.specs.Calls.{LegRule, leg-rule, save-rule, restore-rule
 use Rattle.rules.specs.Legs.{Stop, ended, spent, full}
 use Rattle.rules.specs.Limits.{Letter-BASES, Record-BYTES, Record-EXTRA, Template-COMPONENTS}
 use Rattle.rules.specs.Lists.{run, if, keep}
-use Rattle.rules.specs.Support.{support, weight, parts}
+use Rattle.rules.specs.Profile.{exactly}
+use Rattle.rules.specs.Support.{support, weight, parts-in}
 use Rattle.rules.specs.Template.{Part, size}
 use Rattle.rules.specs.Told.{Told, gives, refuses}
 use Rattle.rules.specs.Walk as walk
@@ -28,7 +29,7 @@ pub record Complete (W : Walk) (cs : ℕ → List Part) (ss : List (List ℕ)) (
 -- what these come to in the exact search: the motifs whose support reaches the quorum, and 4 times the number of frequent
 -- prefixes of 0 to K - 1 letters
 unfoldable pub frequent-motifs : Template → ℕ → List (List ℕ) → List ℕ
-frequent-motifs t quorum ss = keep (λ m. leb quorum (support (parts t (size t) m) ss)) (run 0 (Letter-BASES ^ size t))
+frequent-motifs t quorum ss = keep (λ m. leb quorum (support (parts-in exactly t (size t) m) ss)) (run 0 (Letter-BASES ^ size t))
 
 unfoldable pub whole-steps : Template → ℕ → List (List ℕ) → ℕ
 whole-steps t quorum ss = Letter-BASES * goods (exact t quorum ss) (size t)

@@ -8,6 +8,7 @@ use lib.ListN.{length, getD}
 use Rattle.rules.specs.Letters.{letter?}
 use Rattle.rules.specs.Limits.{Template-COMPONENTS, Template-LENGTH, Template-LETTERS, Template-GAP, SequenceSet-SEQUENCES, SequenceSet-LETTERS}
 use Rattle.rules.specs.Lists.{sum}
+use Rattle.rules.specs.Profile.{profile-of}
 use Rattle.rules.specs.Template.{slots, none, size}
 use Rattle.rules.specs.declared.Component.{Component}
 use Rattle.rules.specs.declared.Template.{Template}
@@ -32,6 +33,7 @@ pub record SoundTemplate (t : Template) : Type 0 where
   pub some : 1 ≤ t .count
   pub few : t .count ≤ Template-COMPONENTS
   pub deep : size t ≤ Template-LETTERS
+  pub fits : size t ≤ profile-of t .most
   pub each : (i : ℕ) → i < t .count → SoundComponent (getD (slots t) i none)
   pub low : t .c1 .low ≡ 0
   pub high : t .c1 .high ≡ 0

@@ -1,14 +1,14 @@
 -- What a set of sequences says of a motif: its support, its weighted support, and the whole list of its occurrences.
 use mathlib.Core.Bool.{Bool, true}
 use mathlib.Core.List.{List, [], _∷_, _++_, map}
-use Prim.Native.Nat.{ℕ, zero, suc}
+use Prim.Native.Nat.{ℕ, zero, suc, _*_}
 use lib.Dec.{leb}
 use lib.ListN.{length}
-use Rattle.rules.specs.Limits.{Letter-BASES}
 use Rattle.rules.specs.Lists.{run, keep, some?, sum}
 use Rattle.rules.specs.Motif.{spell}
 use Rattle.rules.specs.Occurrence.{starts, occurrences}
-use Rattle.rules.specs.Template.{Part, cut, components}
+use Rattle.rules.specs.Profile.{Tally, by-sequence, by-occurrence, Profile, profile-of, base-of, allowed, to-come}
+use Rattle.rules.specs.Template.{Part, components, deal}
 use Rattle.rules.specs.declared.Template.{Template}
 
 -- one mark for each sequence: whether the parts occur in it
@@ -36,11 +36,31 @@ rows-from i cs (s ∷ ss) = map (λ t. i ∷ t) (occurrences cs s) ++ rows-from 
 unfoldable pub occurrence-rows : List Part → List (List ℕ) → List (List ℕ)
 occurrence-rows cs ss = rows-from 1 cs ss
 
--- the parts of a motif, or of a prefix of j letters, with the number m
-unfoldable pub parts : Template → ℕ → ℕ → List Part
-parts t j m = cut (components t) (spell Letter-BASES j m)
+-- what some letters come to: the sequences in which they occur; or their occurrences times the spans still to come
+abbrev pub tallied : Tally → List Part → ℕ → List (List ℕ) → ℕ
+tallied by-sequence cs n ss = support cs ss
+tallied by-occurrence cs n ss = length (occurrence-rows cs ss) * n
 
--- a prefix is frequent if its support reaches the quorum; the empty prefix counts as frequent
-unfoldable pub frequent : Template → ℕ → List (List ℕ) → ℕ → ℕ → Bool
-frequent t quorum ss zero m = true
-frequent t quorum ss (suc j) m = leb quorum (support (parts t (suc j) m) ss)
+module _ (P : Profile) (t : Template) where
+  -- the parts of a motif, or of a prefix of j letters, with the number m
+  unfoldable pub parts-in : ℕ → ℕ → List Part
+  parts-in j m = deal (P .reading) (components t) (spell (P .base) j m)
+
+  -- what it comes to
+  unfoldable pub measure : List (List ℕ) → ℕ → ℕ → ℕ
+  measure ss j m = tallied (P .tally) (parts-in j m) (to-come (components t) (spell (P .base) j m)) ss
+
+-- a prefix is good if what it comes to reaches the quorum; the empty one always is
+unfoldable pub reaches : (ℕ → ℕ → ℕ) → ℕ → ℕ → ℕ → Bool
+reaches f quorum zero m = true
+reaches f quorum (suc j) m = leb quorum (f (suc j) m)
+
+-- the same of a template, by its own profile; and whether the letters of a prefix are allowed
+abbrev pub spelt-in : Template → ℕ → ℕ → Bool
+spelt-in t j m = allowed (profile-of t .allows) (components t) (spell (base-of t) j m)
+
+abbrev pub parts : Template → ℕ → ℕ → List Part
+parts t j m = parts-in (profile-of t) t j m
+
+abbrev pub frequent : Template → ℕ → List (List ℕ) → ℕ → ℕ → Bool
+frequent t quorum ss j m = reaches (measure (profile-of t) t ss) quorum j m

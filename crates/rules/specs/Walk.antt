@@ -1,16 +1,17 @@
 -- The walk: which candidates a search visits, in which order, and what that comes to. It is stated over the base, over
--- which letter may follow, and over which prefix is good, so that every kind of search is one instance; `exact` is ours.
+-- which letter may follow, and over which prefix is good, so that every kind of search is one instance, by its profile.
 use mathlib.Core.Bool.{Bool, true, false, _&&_}
 use mathlib.Core.List.{List, [], _∷_, _++_, map}
 use mathlib.Core.Path.{_≡_}
 use Prim.Native.Nat.{ℕ, zero, suc, _+_, _-_, _*_, _/_, _%_, _^_, _≤_}
 use lib.Dec.{ltb, eqb}
 use lib.ListN.{length}
-use Rattle.rules.specs.Limits.{Letter-BASES}
 use Rattle.rules.specs.Lists.{run, if, keep, each}
+use Rattle.rules.specs.Motif.{spell}
+use Rattle.rules.specs.Profile.{Profile, allowed, exactly, profile-of}
 use Rattle.rules.specs.Sequences.{sequences}
-use Rattle.rules.specs.Support.{frequent}
-use Rattle.rules.specs.Template.{size}
+use Rattle.rules.specs.Support.{measure, reaches}
+use Rattle.rules.specs.Template.{components, size}
 use Rattle.rules.specs.declared.Place.{Place}
 use Rattle.rules.specs.declared.Search.{Search}
 use Rattle.rules.specs.declared.Template.{Template}
@@ -37,14 +38,22 @@ pub record Walk : Type 0 where
   -- a motif has so many letters
   pub depth : ℕ
 
--- the search for frequent motifs of a template: four letters, each of which may follow any
-unfoldable pub exact : Template → ℕ → List (List ℕ) → Walk
-exact t quorum ss = record { base = Letter-BASES; may = λ j m. true; good = frequent t quorum ss; depth = size t }
+-- the walk of a profile over a template
+unfoldable pub walk-in : Profile → Template → ℕ → List (List ℕ) → Walk
+walk-in P t quorum ss =
+    record {
+      base = P .base;
+      may = λ j m. allowed (P .allows) (components t) (spell (P .base) j m);
+      good = reaches (measure P t ss) quorum;
+      depth = size t;
+    }
 
--- THE WALK of what a template and a quorum ask of some sequences, and of a search over a lent set. Which kind of search it is
--- is decided here and nowhere else: all that follows cites these two
+abbrev pub exact : Template → ℕ → List (List ℕ) → Walk
+exact t quorum ss = walk-in exactly t quorum ss
+
+-- THE WALK of what a template and a quorum ask of some sequences, and of a search over a lent set
 abbrev pub walk-over : Template → ℕ → List (List ℕ) → Walk
-walk-over t quorum ss = exact t quorum ss
+walk-over t quorum ss = walk-in (profile-of t) t quorum ss
 
 abbrev pub walk-of : List ℕ → List ℕ → Search → Walk
 walk-of letters lengths s = walk-over (s .template) (s .quorum) (sequences letters lengths)

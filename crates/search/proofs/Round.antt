@@ -1,5 +1,5 @@
 -- One round of a leg's loop over a search that the checks accept: what holds before it, and how each way through it goes on.
-use mathlib.Core.Path.{_≡_, refl, sym, ap, _∙_}
+use mathlib.Core.Path.{_≡_, refl, sym, ap, _∙_, fun-ext}
 use mathlib.Core.Logic.{inl, inr}
 use mathlib.Core.Bool.{Bool, true, false, _&&_, false≢true}
 use mathlib.Core.List.{List, map}
@@ -8,15 +8,17 @@ use native.Mathlib.Omega.{arith}
 use lib.ListN.{length, set, drop, length-append, length-drop, length-map}
 use borrow.Author.Tests.{eqb-true, eqb-false}
 use lib.Dec.{eqb, leb}
+use Rattle.rules.specs.Profile.{profile-of, exactly}
 use Rattle.rules.specs.Calls.{moved, motif-parts, stretch, supports-of, weights-of}
 use Rattle.rules.specs.Legs.{Stop, leg}
 use Rattle.rules.specs.Limits.{Letter-BASES}
 use Rattle.rules.specs.Lists.{if, put}
 use Rattle.rules.specs.Sequences.{sequences}
 use Rattle.rules.specs.Support.{support, weight, frequent, parts}
-use Rattle.rules.specs.Template.{size}
+use Rattle.rules.specs.Motif.{spell}
+use Rattle.rules.specs.Template.{components, size}
 use Rattle.rules.specs.Told.{gives, toldAnswer, toldLeg}
-use Rattle.rules.specs.Walk.{Walk, place, exact, next, motif}
+use Rattle.rules.specs.Walk.{walk-in, Walk, place, exact, next, motif}
 use Rattle.rules.specs.declared.Leg.{Leg}
 use Rattle.rules.specs.declared.LegAnswer.{LegAnswer}
 use Rattle.rules.specs.declared.Place.{Place}
@@ -25,7 +27,7 @@ use Rattle.rules.proofs.Candidates.{Candidate}
 use Rattle.rules.proofs.Completes.{frequent-some}
 use Rattle.rules.proofs.Passing.{Passing, passing-next}
 use Rattle.rules.proofs.Places.{walk-of, sound-passing}
-use Rattle.rules.proofs.Profiles.{walk-lawful}
+use Rattle.rules.proofs.Profiles.{allowed-all, walk-lawful}
 use Rattle.rules.proofs.Sound.{SoundSearch}
 use Rattle.rules.proofs.Tests.{both}
 use Rattle.search.proofs.Follow.{Following, follow-start, follow-passes, follow-lists}
@@ -57,7 +59,7 @@ module _ (letters lengths : List ℕ) (s : Search) (o : SoundSearch letters leng
 
     -- its letters are at most K, and spell its number
     pub run-depth : p .letters ≤ size (s .template)
-    unfolding exact
+    unfolding walk-in profile-of exactly
     run-depth = go (r .passing)
       where
         go : Passing (walk-of letters lengths s) p → p .letters ≤ size (s .template)
@@ -65,7 +67,7 @@ module _ (letters lengths : List ℕ) (s : Search) (o : SoundSearch letters leng
         go (inr c) = c .most
 
     pub run-below : p .number < Letter-BASES ^ p .letters
-    unfolding exact
+    unfolding walk-in profile-of exactly
     run-below = go (r .passing)
       where
         go : Passing (walk-of letters lengths s) p → p .number < Letter-BASES ^ p .letters
@@ -93,7 +95,7 @@ module _ (letters lengths : List ℕ) (s : Search) (o : SoundSearch letters leng
           → found ≡ support (parts (s .template) (p .letters) (p .number)) (sequences letters lengths)
           → motifs′ ≡ if hit (set motifs rows (p .number)) motifs → supports′ ≡ if hit (set supports rows found) supports → weights′ ≡ if hit (set weights rows (weight (motif-parts s (p .number)) (sequences letters lengths))) weights
           → rows′ ≡ if hit (rows + 1) rows → Running motifs′ supports′ weights′ (steps + 1) rows′ q
-      unfolding motif exact
+      unfolding motif walk-in profile-of exactly
       run-step {motifs′} {supports′} {weights′} {rows′} {found} true m k lm ls lw f em es ew er =
           let u : rows < room = omega (arith, r .follow .rows, eqb-false rows room k) in
           let d : p .letters ≡ size (s .template) = eqb-true _ _ (both _ _ .0 m .0) in
@@ -123,13 +125,20 @@ module _ (letters lengths : List ℕ) (s : Search) (o : SoundSearch letters leng
 -- a candidate is a listed motif by its letters and by whether it is frequent
 pub motif-is : (letters lengths : List ℕ) (s : Search) (p : Place) (depth : ℕ) (good hit : Bool) → depth ≡ size (s .template) → good ≡ frequent (s .template) (s .quorum) (sequences letters lengths) (p .letters) (p .number)
     → hit ≡ (eqb (p .letters) depth && good) → motif (walk-of letters lengths s) p ≡ hit
-unfolding motif exact
+unfolding motif walk-in profile-of exactly
 motif-is letters lengths s p depth good hit d g e = rw (← d, ← g) (sym e)
 
 -- the walk is one over four letters
 pub walk-four : (letters lengths : List ℕ) (s : Search) (depth : ℕ) → depth ≡ size (s .template) → four (frequent (s .template) (s .quorum) (sequences letters lengths)) depth ≡ walk-of letters lengths s
-unfolding exact
-walk-four letters lengths s depth d = rw d
+unfolding walk-in profile-of exactly
+walk-four letters lengths s depth d =
+    rw d
+    (λ i. record {
+      base = Letter-BASES;
+      may = fun-ext (λ j. fun-ext (λ m. sym (allowed-all (components (s .template)) (spell Letter-BASES j m)))) i;
+      good = frequent (s .template) (s .quorum) (sequences letters lengths);
+      depth = size (s .template);
+    })
 
 -- where the loop goes on to
 pub next-is : (letters lengths : List ℕ) (s : Search) (depth : ℕ) (p : Place) {q : Place} → depth ≡ size (s .template)
@@ -139,6 +148,7 @@ next-is letters lengths s depth p d e = rw (walk-four letters lengths s depth d)
 -- a candidate is frequent if its support reaches the quorum
 pub frequent-is : (letters lengths : List ℕ) (s : Search) (p : Place) {found : ℕ} {good : Bool} → 1 ≤ p .letters → found ≡ support (parts (s .template) (p .letters) (p .number)) (sequences letters lengths)
     → good ≡ leb (s .quorum) found → good ≡ frequent (s .template) (s .quorum) (sequences letters lengths) (p .letters) (p .number)
+unfolding profile-of
 frequent-is letters lengths s p h f g = g ∙ rw f (sym (frequent-some (s .template) (s .quorum) (sequences letters lengths) (p .letters) (p .number) h))
 
 -- a motif that is not one too many has a row in each table

@@ -5,10 +5,11 @@ use Prim.Native.Nat.{ℕ, zero, suc, _+_, _-_, _*_, _≤_, _<_}
 use native.Mathlib.Numerals.{add-one}
 use native.Mathlib.Omega.{arith}
 use lib.ListN.{length, take, drop, getD, length-append}
+use Rattle.rules.specs.Profile.{profile-of, exactly}
 use Rattle.rules.specs.Lists.{sum}
 use Rattle.rules.specs.Motif.{spell}
 use Rattle.rules.specs.Sound.{SoundTemplate, SoundComponent}
-use Rattle.rules.specs.Support.{parts}
+use Rattle.rules.specs.Support.{parts-in, parts}
 use Rattle.rules.specs.Template.{deal, part, slots, none, components, size, cut}
 use Rattle.rules.specs.Text.{decimal, shape, shape-rest}
 use Rattle.rules.specs.declared.Component.{Component}
@@ -81,7 +82,7 @@ module _ (t : Template) (S : SoundTemplate t) where
 
   -- a motif's shape is the first component's letters and the shape of the others
   pub shape-is : (m : ℕ) → shape (parts t (size t) m) ≡ letters (t .c1 .length) (size t) m ++ shape-from t 1 m
-  unfolding parts shape-from
+  unfolding parts-in profile-of exactly shape-from
   shape-is m =
       rw size-is (shape-first (t .c1) (size-from t 1) m (from-more 0 (S .some) refl) (S .each 0 (S .some) .some))
 

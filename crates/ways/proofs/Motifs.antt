@@ -5,6 +5,7 @@ use mathlib.Core.List.{List, [], _∷_, map}
 use Prim.Native.Nat.{ℕ, zero, suc, _+_, _-_, _^_, _≤_, _<_}
 use native.Mathlib.Omega.{arith}
 use lib.ListN.{length, drop, getD, length-map}
+use Rattle.rules.specs.Profile.{profile-of, exactly}
 use Rattle.rules.specs.Letters.{letter, value}
 use Rattle.rules.specs.Limits.{Letter-BASES}
 use Rattle.rules.specs.Lists.{each, sum}
@@ -12,7 +13,7 @@ use Rattle.rules.specs.Motif.{spell}
 use Rattle.rules.specs.Recovery.{whole-list}
 use Rattle.rules.specs.Sequences.{sequences}
 use Rattle.rules.specs.Sound.{SoundSet, SoundTemplate}
-use Rattle.rules.specs.Support.{weight, occurrence-rows, parts}
+use Rattle.rules.specs.Support.{parts-in, weight, occurrence-rows, parts}
 use Rattle.rules.specs.Template.{deal, none, components, size, cut}
 use Rattle.rules.specs.declared.Component.{Component}
 use Rattle.rules.specs.declared.Template.{Template}
@@ -49,7 +50,7 @@ aligned-bytes cs n m h =
 
 module _ {t : Template} (sound : SoundTemplate t) (m n : ℕ) (fits : size t ≤ n) where
   parts-from : (c : ℕ) → drop c (parts t (size t) m) ≡ cut (drop c (components t)) (spell Letter-BASES (letters-of (drop c (components t))) m)
-  unfolding parts size letters-of
+  unfolding parts-in profile-of exactly size letters-of
   parts-from c = drop-cut (components t) (components-some sound) c m
 
   spelled-from : (c : ℕ) → Spelled (drop c (parts t (size t) m))
