@@ -11,13 +11,13 @@ use lib.Seq.{getD-take}
 use Rattle.rules.specs.Letters.{value}
 use Rattle.rules.specs.Lists.{if, each, sum}
 use Rattle.rules.specs.Motif.{spell}
-use Rattle.rules.specs.Occurrence.{found, reach, starts, occurrences, ways}
+use Rattle.rules.specs.Occurrence.{found, reach, starts, occurrences, ways, nth}
 use Rattle.rules.specs.Profile.{Profile, profile-of}
 use Rattle.rules.specs.Recovery.{whole-list}
 use Rattle.rules.specs.Sequences.{split, sequences}
 use Rattle.rules.specs.Sound.{SoundSet, SoundTemplate}
 use Rattle.rules.specs.Support.{rows-from, occurrence-rows, parts, parts-in}
-use Rattle.rules.specs.Template.{Part, part, Reading, none, slots, components, size, deal}
+use Rattle.rules.specs.Template.{Part, Reading, none, slots, components, size, deal}
 use Rattle.rules.specs.declared.Component.{Component}
 use Rattle.rules.specs.declared.Template.{Template}
 use Rattle.rules.proofs.Lengths.{each-run}
@@ -25,9 +25,9 @@ use Rattle.rules.proofs.Ways.{ways-count}
 
 -- ---- under one start
 
--- the range before each part has at most b positions
+-- each part may start at no more than b places after the one before
 abbrev pub Near : ℕ → List Part → Type 0
-Near b cs = (i : ℕ) → i < length cs → (getD cs i (part 0 0 [])) .high + 1 - (getD cs i (part 0 0 [])) .low ≤ b
+Near b cs = (i : ℕ) → i < length cs → nth cs i .far + 1 - nth cs i .near ≤ b
 
 -- of parts that start at p, the k later ones can follow in at most b ^ k ways
 pub starts-most : (b : ℕ) (c : Part) (cs : List Part) (s : List ℕ) → Near b (c ∷ cs) → (p : ℕ) → length (starts (c ∷ cs) s p) ≤ b ^ length cs
@@ -40,10 +40,10 @@ starts-most b c [] s h p = rw pow-zero (go (found c s p))
 starts-most b c (d ∷ ds) s h p = go (found c s p) (starts-most b d ds s (λ i l. h (suc i) (omega arith)))
   where
     later : List ℕ
-    later = reach (length (c .word)) (d .low) (d .high) p
+    later = reach (d .near) (d .far) p
 
-    few : ((q : ℕ) → length (starts (d ∷ ds) s q) ≤ b ^ length ds) → length (each (starts (d ∷ ds) s) later) ≤ (d .high + 1 - d .low) * b ^ length ds
-    few ih = unfold reach in each-run (starts (d ∷ ds) s) (b ^ length ds) ih (p + length (c .word) + d .low) (d .high + 1 - d .low)
+    few : ((q : ℕ) → length (starts (d ∷ ds) s q) ≤ b ^ length ds) → length (each (starts (d ∷ ds) s) later) ≤ (d .far + 1 - d .near) * b ^ length ds
+    few ih = unfold reach in each-run (starts (d ∷ ds) s) (b ^ length ds) ih (p + d .near) (d .far + 1 - d .near)
 
     go : (a : Bool) → ((q : ℕ) → length (starts (d ∷ ds) s q) ≤ b ^ length ds) → length (if a (map (λ t. p ∷ t) (each (starts (d ∷ ds) s) later)) []) ≤ b ^ suc (length ds)
     go true ih = rw pow-succ' (omega (arith, length-map (each (starts (d ∷ ds) s) later) (λ t. p ∷ t), few ih, mul-le-mul-right (b ^ length ds) (h 1 (omega arith))))
@@ -55,32 +55,32 @@ ways-most b c cs s h p = rw ways-count (starts-most b c cs s h p)
 
 -- ---- the parts of a motif
 
-deal-few : (R : Reading) (cs : List Component) (w : List ℕ) → length (deal R cs w) ≤ length cs
+deal-few : (R : Reading) (n : ℕ) (cs : List Component) (w : List ℕ) → length (deal R n cs w) ≤ length cs
 unfolding deal
-deal-few R [] w = omega arith
-deal-few R (c ∷ cs) [] = omega arith
-deal-few R (c ∷ cs) (x ∷ w) = omega (arith, deal-few R cs (drop (c .length) (x ∷ w)))
+deal-few R n [] w = omega arith
+deal-few R n (c ∷ cs) [] = omega arith
+deal-few R n (c ∷ cs) (x ∷ w) = omega (arith, deal-few R (c .length) cs (drop (c .length) (x ∷ w)))
 
 -- there are no more parts than components
 pub parts-in-few : (P : Profile) (t : Template) (j m : ℕ) → length (parts-in P t j m) ≤ t .count
 unfolding parts-in components
-parts-in-few P t j m = omega (arith, deal-few (P .reading) (take (t .count) (slots t)) (spell (P .base) j m), length-take (t .count) (slots t))
+parts-in-few P t j m = omega (arith, deal-few (P .reading) 0 (take (t .count) (slots t)) (spell (P .base) j m), length-take (t .count) (slots t))
 
 pub parts-few : (t : Template) (j m : ℕ) → length (parts t j m) ≤ t .count
 parts-few t = parts-in-few (profile-of t) t
 
--- a part has its component's range
-deal-near : (R : Reading) (b : ℕ) (cs : List Component) (w : List ℕ) → ((i : ℕ) → i < length cs → (getD cs i none) .high + 1 - (getD cs i none) .low ≤ b) → Near b (deal R cs w)
+-- a part has as many as its component's range
+deal-near : (R : Reading) (b n : ℕ) (cs : List Component) (w : List ℕ) → ((i : ℕ) → i < length cs → (getD cs i none) .high + 1 - (getD cs i none) .low ≤ b) → Near b (deal R n cs w)
 unfolding deal
-deal-near R b [] w h i l = absurd (omega arith)
-deal-near R b (c ∷ cs) [] h i l = absurd (omega arith)
-deal-near R b (c ∷ cs) (x ∷ w) h zero l = h 0 (omega arith)
-deal-near R b (c ∷ cs) (x ∷ w) h (suc i) l = deal-near R b cs (drop (c .length) (x ∷ w)) (λ i k. h (suc i) (omega arith)) i (omega arith)
+deal-near R b n [] w h i l = absurd (omega arith)
+deal-near R b n (c ∷ cs) [] h i l = absurd (omega arith)
+deal-near R b n (c ∷ cs) (x ∷ w) h zero l = omega (arith, h 0 (omega arith))
+deal-near R b n (c ∷ cs) (x ∷ w) h (suc i) l = deal-near R b (c .length) cs (drop (c .length) (x ∷ w)) (λ i k. h (suc i) (omega arith)) i (omega arith)
 
 -- and so at most 256 positions
 pub parts-in-near : (P : Profile) (t : Template) → SoundTemplate t → (j m : ℕ) → Near 256 (parts-in P t j m)
 unfolding parts-in components
-parts-in-near P t sound j m = deal-near (P .reading) 256 (take (t .count) (slots t)) (spell (P .base) j m) span
+parts-in-near P t sound j m = deal-near (P .reading) 256 0 (take (t .count) (slots t)) (spell (P .base) j m) span
   where
     span : (i : ℕ) → i < length (take (t .count) (slots t)) → (getD (take (t .count) (slots t)) i none) .high + 1 - (getD (take (t .count) (slots t)) i none) .low ≤ 256
     span i l = let k : i < t .count = omega (arith, length-take (t .count) (slots t)) in rw (getD-take (t .count) (slots t) i none k) (omega (arith, sound .each i k .near))

@@ -67,7 +67,7 @@ stands-bytes w s h (suc o) = rw (map-drop value o s) (front-bytes w (drop o s) h
 
 -- a part with the bytes of its letters
 abbrev pub lettered : Part → Part
-lettered c = part (c .low) (c .high) (map letter (c .word))
+lettered c = part (c .near) (c .far) (map letter (c .word))
 
 -- parts of such letters, read exactly
 unfoldable pub Spelled : List Part → Type 0
@@ -84,15 +84,15 @@ digits-drop : (n : ℕ) (w : List ℕ) → Digits w → Digits (drop n w)
 digits-drop n w h i = rw (getD-drop n w i 0) (h (n + i))
 
 -- parts of letters below the base have such letters
-pub cut-spelled : (cs : List Component) (w : List ℕ) → Digits w → Spelled (cut cs w)
+pub cut-spelled : (n : ℕ) (cs : List Component) (w : List ℕ) → Digits w → Spelled (cut n cs w)
 unfolding deal Spelled
-cut-spelled [] w h = tt
-cut-spelled (c ∷ cs) [] h = tt
-cut-spelled (c ∷ cs) (x ∷ w) h = (digits-take (c .length) (x ∷ w) h, λ s p. refl, cut-spelled cs (drop (c .length) (x ∷ w)) (digits-drop (c .length) (x ∷ w) h))
+cut-spelled n [] w h = tt
+cut-spelled n (c ∷ cs) [] h = tt
+cut-spelled n (c ∷ cs) (x ∷ w) h = (digits-take (c .length) (x ∷ w) h, λ s p. refl, cut-spelled (c .length) cs (drop (c .length) (x ∷ w)) (digits-drop (c .length) (x ∷ w) h))
 
 -- the bytes of letters give the bytes of the parts
-pub cut-bytes : (cs : List Component) (w : List ℕ) → cut cs (map letter w) ≡ map lettered (cut cs w)
+pub cut-bytes : (n : ℕ) (cs : List Component) (w : List ℕ) → cut n cs (map letter w) ≡ map lettered (cut n cs w)
 unfolding deal
-cut-bytes [] w = refl
-cut-bytes (c ∷ cs) [] = refl
-cut-bytes (c ∷ cs) (x ∷ w) = rw (map-take letter (c .length) (x ∷ w), map-drop letter (c .length) (x ∷ w), cut-bytes cs (drop (c .length) (x ∷ w)))
+cut-bytes n [] w = refl
+cut-bytes n (c ∷ cs) [] = refl
+cut-bytes n (c ∷ cs) (x ∷ w) = rw (map-take letter (c .length) (x ∷ w), map-drop letter (c .length) (x ∷ w), cut-bytes (c .length) cs (drop (c .length) (x ∷ w)))

@@ -1,7 +1,7 @@
 -- The components of a template, and the letters dealt out to them.
 use mathlib.Core.List.{List, [], _∷_}
 use mathlib.Core.Path.{_≡_, refl}
-use Prim.Native.Nat.{ℕ, suc, _≤_, _<_}
+use Prim.Native.Nat.{ℕ, suc, _+_, _≤_, _<_}
 use native.Mathlib.Omega.{arith}
 use lib.ListN.{length, take, drop, getD, drop-of-length-le}
 use lib.Seq.{drop-cons, getD-take, length-take-le}
@@ -37,7 +37,8 @@ components-some {t} sound i h =
     rw (components-at t i l) (sound .each i l .some)
 
 -- the first component takes the first letters, if there are any
-pub cut-some : (c : Component) (cs : List Component) (w : List ℕ) → 0 < length w → cut (c ∷ cs) w ≡ part (c .low) (c .high) (take (c .length) w) ∷ cut cs (drop (c .length) w)
+pub cut-some : (n : ℕ) (c : Component) (cs : List Component) (w : List ℕ) → 0 < length w
+    → cut n (c ∷ cs) w ≡ part (n + c .low) (n + c .high) (take (c .length) w) ∷ cut (c .length) cs (drop (c .length) w)
 unfolding deal
-cut-some c cs [] h = absurd (omega arith)
-cut-some c cs (x ∷ w) h = refl
+cut-some n c cs [] h = absurd (omega arith)
+cut-some n c cs (x ∷ w) h = refl

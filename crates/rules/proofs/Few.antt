@@ -21,7 +21,7 @@ use Rattle.rules.specs.Relay.{whole-steps}
 use Rattle.rules.specs.Sequences.{sequences}
 use Rattle.rules.specs.Sound.{SoundSet, SoundTemplate}
 use Rattle.rules.specs.Support.{support, parts-in, measure, reaches}
-use Rattle.rules.specs.Template.{Part, component, components, size, deal, cut}
+use Rattle.rules.specs.Template.{Part, components, size, deal, cut}
 use Rattle.rules.specs.Walk.{exact, walk-in, goods}
 use Rattle.rules.specs.declared.Component.{Component}
 use Rattle.rules.specs.declared.Template.{Template}
@@ -41,15 +41,20 @@ abbrev letters-at : ℕ → List ℕ → ℕ → List ℕ
 letters-at n s zero = []
 letters-at n s (suc o) = take n (drop o s)
 
--- what can be read off s where components are placed, the first at p and each next within its range
-unfoldable placed : List Component → List ℕ → ℕ → List (List ℕ)
-placed [] s p = []
-placed (c ∷ []) s p = letters-at (c .length) s p ∷ []
-placed (c ∷ d ∷ ds) s p = map (λ w. letters-at (c .length) s p ++ w) (each (placed (d ∷ ds) s) (reach (c .length) (d .low) (d .high) p))
+-- the length and the distances of a part, without its letters
+record Form : Type 0 where
+  letters : ℕ
+  near : ℕ
+  far : ℕ
 
--- the length and the range of a part, without its letters
-abbrev form : Part → Component
-form c = component (length (c .word)) (c .low) (c .high)
+abbrev form : Part → Form
+form c = record { letters = length (c .word); near = c .near; far = c .far }
+
+-- what can be read off s where such parts are placed, the first at p and each next within its distances
+unfoldable placed : List Form → List ℕ → ℕ → List (List ℕ)
+placed [] s p = []
+placed (c ∷ []) s p = letters-at (c .letters) s p ∷ []
+placed (c ∷ d ∷ ds) s p = map (λ w. letters-at (c .letters) s p ++ w) (each (placed (d ∷ ds) s) (reach (d .near) (d .far) p))
 
 -- the letters of parts, one part after another
 abbrev spelt : List Part → List ℕ
@@ -60,8 +65,8 @@ placed-most : (b : ℕ) (c : Part) (cs : List Part) (s : List ℕ) → Near b (c
 unfolding placed reach
 placed-most b c [] s h p = rw pow-zero (omega arith)
 placed-most b c (d ∷ ds) s h p =
-    let later : List (List ℕ) = each (placed (map form (d ∷ ds)) s) (reach (length (c .word)) (d .low) (d .high) p) in
-    let most : length later ≤ (d .high + 1 - d .low) * b ^ length ds = each-run _ _ (placed-most b d ds s (λ i l. h (suc i) (omega arith))) _ _ in
+    let later : List (List ℕ) = each (placed (map form (d ∷ ds)) s) (reach (d .near) (d .far) p) in
+    let most : length later ≤ (d .far + 1 - d .near) * b ^ length ds = each-run _ _ (placed-most b d ds s (λ i l. h (suc i) (omega arith))) _ _ in
     rw pow-succ' (omega (arith, length-map later (λ w. letters-at (length (c .word)) s p ++ w), most, mul-le-mul-right (b ^ length ds) (h 1 (omega arith))))
 
 -- letters that are the first of s are read off it
@@ -93,7 +98,7 @@ placed-in (c ∷ []) s p ps x m = go (found c s p) refl m
 placed-in (c ∷ d ∷ ds) s p ps x m = go (found c s p) refl m (λ q qs. placed-in (d ∷ ds) s q qs (x .1))
   where
     next : List ℕ
-    next = reach (length (c .word)) (d .low) (d .high) p
+    next = reach (d .near) (d .far) p
 
     later : List (List ℕ)
     later = each (placed (map form (d ∷ ds)) s) next
@@ -109,26 +114,26 @@ placed-in (c ∷ d ∷ ds) s p ps x m = go (found c s p) refl m (λ q qs. placed
 
 -- ---- the parts of a prefix
 
--- the lengths and ranges go by how many letters are dealt out, not by which
-cut-forms : (cs : List Component) (v w : List ℕ) → length v ≡ length w → map form (cut cs v) ≡ map form (cut cs w)
+-- the lengths and distances go by how many letters are dealt out, not by which
+cut-forms : (b : ℕ) (cs : List Component) (v w : List ℕ) → length v ≡ length w → map form (cut b cs v) ≡ map form (cut b cs w)
 unfolding deal
-cut-forms [] v w e = refl
-cut-forms (c ∷ cs) [] [] e = refl
-cut-forms (c ∷ cs) [] (y ∷ w) e = absurd (omega arith)
-cut-forms (c ∷ cs) (x ∷ v) [] e = absurd (omega arith)
-cut-forms (c ∷ cs) (x ∷ v) (y ∷ w) e =
+cut-forms b [] v w e = refl
+cut-forms b (c ∷ cs) [] [] e = refl
+cut-forms b (c ∷ cs) [] (y ∷ w) e = absurd (omega arith)
+cut-forms b (c ∷ cs) (x ∷ v) [] e = absurd (omega arith)
+cut-forms b (c ∷ cs) (x ∷ v) (y ∷ w) e =
     let n : ℕ = c .length in
     let k : length (take n (x ∷ v)) ≡ length (take n (y ∷ w)) = omega (arith, length-take n (x ∷ v), length-take n (y ∷ w)) in
-    rw (k, cut-forms cs (drop n (x ∷ v)) (drop n (y ∷ w)) (omega (arith, length-drop n (x ∷ v), length-drop n (y ∷ w))))
+    rw (k, cut-forms n cs (drop n (x ∷ v)) (drop n (y ∷ w)) (omega (arith, length-drop n (x ∷ v), length-drop n (y ∷ w))))
 
 -- letters dealt out to components that have room for them are all there
-cut-spelt : (cs : List Component) (w : List ℕ) → length w ≤ sum (map (λ c. c .length) cs) → spelt (cut cs w) ≡ w
+cut-spelt : (n : ℕ) (cs : List Component) (w : List ℕ) → length w ≤ sum (map (λ c. c .length) cs) → spelt (cut n cs w) ≡ w
 unfolding deal joined sum
-cut-spelt [] [] h = refl
-cut-spelt [] (x ∷ w) h = absurd (omega arith)
-cut-spelt (c ∷ cs) [] h = refl
-cut-spelt (c ∷ cs) (x ∷ w) h =
-    rw (cut-spelt cs (drop (c .length) (x ∷ w)) (omega (arith, length-drop (c .length) (x ∷ w)))) (take-append-drop (c .length) (x ∷ w))
+cut-spelt n [] [] h = refl
+cut-spelt n [] (x ∷ w) h = absurd (omega arith)
+cut-spelt n (c ∷ cs) [] h = refl
+cut-spelt n (c ∷ cs) (x ∷ w) h =
+    rw (cut-spelt (c .length) cs (drop (c .length) (x ∷ w)) (omega (arith, length-drop (c .length) (x ∷ w)))) (take-append-drop (c .length) (x ∷ w))
 
 -- at most five parts after the first
 few-placed : (cs : List Part) → length cs ≤ 6 → Near 256 cs → (s : List ℕ) (p : ℕ) → length (placed (map form cs) s p) ≤ 2 ^ 40
@@ -153,9 +158,9 @@ module _ (t : Template) (j m : ℕ) (deep : j ≤ size t) where
   unfolding readings occurrences parts-in exactly size
   occurs-read s ps o =
       let r = each-out (starts (parts-in exactly t j m) s) (run 1 (length s)) o in
-      let same = cut-forms (components t) (spell Letter-BASES j 0) (spell Letter-BASES j m) (length-spell Letter-BASES j 0 ∙ sym (length-spell Letter-BASES j m)) in
-      let whole = cut-spelt (components t) (spell Letter-BASES j m) (omega (arith, length-spell Letter-BASES j m)) in
-      each-in _ (run 1 (length s)) (r .1) (rw same (Memᴰ·cast (sym whole) (placed-in (parts-in exactly t j m) s (r .0) ps (cut-plain (components t) (spell Letter-BASES j m)) (r .2))))
+      let same = cut-forms 0 (components t) (spell Letter-BASES j 0) (spell Letter-BASES j m) (length-spell Letter-BASES j 0 ∙ sym (length-spell Letter-BASES j m)) in
+      let whole = cut-spelt 0 (components t) (spell Letter-BASES j m) (omega (arith, length-spell Letter-BASES j m)) in
+      each-in _ (run 1 (length s)) (r .1) (rw same (Memᴰ·cast (sym whole) (placed-in (parts-in exactly t j m) s (r .0) ps (cut-plain 0 (components t) (spell Letter-BASES j m)) (r .2))))
 
   -- and so is one whose support is at least 1
   support-read : (ss : List (List ℕ)) → 1 ≤ support (parts-in exactly t j m) ss → List·Memᴰ (spell Letter-BASES j m) (each (readings t j) ss)

@@ -6,6 +6,7 @@ pub mod Over
 pub mod Members
 pub mod Stands
 pub mod Occurs
+pub mod Exactly
 pub mod OccurrenceOrder
 pub mod Ways
 pub mod Spelling

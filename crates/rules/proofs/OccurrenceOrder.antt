@@ -75,10 +75,10 @@ starts-in-order (c ∷ []) s p = go (found c s p)
 starts-in-order (c ∷ d ∷ ds) s p = go (found c s p) (starts-in-order (d ∷ ds) s)
   where
     next : List ℕ
-    next = reach (length (c .word)) (d .low) (d .high) p
+    next = reach (d .near) (d .far) p
 
     go : (b : Bool) → ((q : ℕ) → InOrder (starts (d ∷ ds) s q)) → InOrder (if b (map (λ t. p ∷ t) (each (starts (d ∷ ds) s) next)) [])
-    go true ih = map-in-order p (each (starts (d ∷ ds) s) next) (each-in-order (starts (d ∷ ds) s) ih (starts-lead (d ∷ ds) s) next (run-rising (p + length (c .word) + d .low) (d .high + 1 - d .low)))
+    go true ih = map-in-order p (each (starts (d ∷ ds) s) next) (each-in-order (starts (d ∷ ds) s) ih (starts-lead (d ∷ ds) s) next (run-rising (p + d .near) (d .far + 1 - d .near)))
     go false ih = tt
 
 -- the occurrences in a sequence stand each once, in order

@@ -12,7 +12,7 @@ use lib.ListN.{length, take, drop, getD, length-take}
 use lib.Seq.{getD-take}
 use Rattle.rules.specs.Lists.{run, if, each}
 use Rattle.rules.specs.Motif.{spell}
-use Rattle.rules.specs.Occurrence.{stands, found, reach, starts, occurrences, Found, Gap, Occurs}
+use Rattle.rules.specs.Occurrence.{stands, found, reach, starts, occurrences, Found, nth, Follows, Occurs}
 use Rattle.rules.specs.Profile.{profile-of, base-of}
 use Rattle.rules.specs.Sound.{SoundTemplate}
 use Rattle.rules.specs.Support.{rows-from, occurrence-rows, parts, parts-in}
@@ -24,7 +24,7 @@ use Rattle.rules.proofs.Stands.{found-is, run-in, reach-is}
 
 -- every part has a letter
 abbrev pub Worded : List Part → Type 0
-Worded cs = (i : ℕ) → i < length cs → 1 ≤ length ((getD cs i (part 0 0 [])) .word)
+Worded cs = (i : ℕ) → i < length cs → 1 ≤ length ((nth cs i) .word)
 
 -- a part, and parts, that are read exactly
 abbrev pub Exact : Part → Type 0
@@ -35,24 +35,24 @@ Plain [] = Unit {0}
 Plain (c ∷ cs) = Exact c × Plain cs
 
 -- those of the exact search are
-pub cut-plain : (cs : List Component) (w : List ℕ) → Plain (cut cs w)
+pub cut-plain : (n : ℕ) (cs : List Component) (w : List ℕ) → Plain (cut n cs w)
 unfolding deal
-cut-plain [] w = tt
-cut-plain (c ∷ cs) [] = tt
-cut-plain (c ∷ cs) (x ∷ w) = (λ s p. refl, cut-plain cs (drop (c .length) (x ∷ w)))
+cut-plain n [] w = tt
+cut-plain n (c ∷ cs) [] = tt
+cut-plain n (c ∷ cs) (x ∷ w) = (λ s p. refl, cut-plain (c .length) cs (drop (c .length) (x ∷ w)))
 
 -- letters dealt out to components of at least one letter leave no part without one
-deal-worded : (R : Reading) (cs : List Component) (w : List ℕ) → ((i : ℕ) → i < length cs → 1 ≤ (getD cs i none) .length) → Worded (deal R cs w)
+deal-worded : (R : Reading) (n : ℕ) (cs : List Component) (w : List ℕ) → ((i : ℕ) → i < length cs → 1 ≤ (getD cs i none) .length) → Worded (deal R n cs w)
 unfolding deal
-deal-worded R [] w h i l = absurd (omega arith)
-deal-worded R (c ∷ cs) [] h i l = absurd (omega arith)
-deal-worded R (c ∷ cs) (x ∷ w) h zero l = omega (arith, h 0 (omega arith), length-take (c .length) (x ∷ w))
-deal-worded R (c ∷ cs) (x ∷ w) h (suc i) l = deal-worded R cs (drop (c .length) (x ∷ w)) (λ i k. h (suc i) (omega arith)) i (omega arith)
+deal-worded R n [] w h i l = absurd (omega arith)
+deal-worded R n (c ∷ cs) [] h i l = absurd (omega arith)
+deal-worded R n (c ∷ cs) (x ∷ w) h zero l = omega (arith, h 0 (omega arith), length-take (c .length) (x ∷ w))
+deal-worded R n (c ∷ cs) (x ∷ w) h (suc i) l = deal-worded R (c .length) cs (drop (c .length) (x ∷ w)) (λ i k. h (suc i) (omega arith)) i (omega arith)
 
 -- the parts of a motif, or of a prefix, under a sound template all have a letter
 pub parts-worded : (t : Template) → SoundTemplate t → (j m : ℕ) → Worded (parts t j m)
 unfolding parts-in components
-parts-worded t sound j m = deal-worded (profile-of t .reading) (take (t .count) (slots t)) (spell (base-of t) j m) some
+parts-worded t sound j m = deal-worded (profile-of t .reading) 0 (take (t .count) (slots t)) (spell (base-of t) j m) some
   where
     some : (i : ℕ) → i < length (take (t .count) (slots t)) → 1 ≤ (getD (take (t .count) (slots t)) i none) .length
     some i l = let k : i < t .count = omega (arith, length-take (t .count) (slots t)) in rw (getD-take (t .count) (slots t) i none k) (sound .each i k .some)
@@ -63,35 +63,34 @@ unfolding parts-in components deal spell
 parts-some t sound zero m l = absurd (omega arith)
 parts-some t sound (suc j) m l = go (t .count) (sound .some)
   where
-    go : (n : ℕ) → 1 ≤ n → 1 ≤ length (deal (profile-of t .reading) (take n (slots t)) (spell (base-of t) (suc j) m))
+    go : (n : ℕ) → 1 ≤ n → 1 ≤ length (deal (profile-of t .reading) 0 (take n (slots t)) (spell (base-of t) (suc j) m))
     go zero k = absurd (omega arith)
     go (suc n) k = omega arith
 
 -- an occurrence of one part
 occurs-one : (c : Part) (s : List ℕ) (p : ℕ) → Found c s p → Occurs (c ∷ []) s (p ∷ [])
-occurs-one c s p h = record { one-each = refl; standing = standing; gaps = λ i l. absurd (omega arith) }
+occurs-one c s p h = record { one-each = refl; standing = standing; following = λ i l. absurd (omega arith) }
   where
-    standing : (i : ℕ) → i < 1 → Found (getD (c ∷ []) i (part 0 0 [])) s (getD (p ∷ []) i 0)
+    standing : (i : ℕ) → i < 1 → Found (nth (c ∷ []) i) s (getD (p ∷ []) i 0)
     standing zero l = h
     standing (suc i) l = absurd (omega arith)
 
 module _ (c d : Part) (ds : List Part) (s : List ℕ) (p q : ℕ) (qs : List ℕ) where
   -- an occurrence of the later parts that a part stands before
-  occurs-more : Found c s p → Gap (length (c .word)) (d .low) (d .high) p q → Occurs (d ∷ ds) s (q ∷ qs) → Occurs (c ∷ d ∷ ds) s (p ∷ q ∷ qs)
-  occurs-more h g o = record { one-each = ap suc (o .one-each); standing = standing; gaps = gaps }
+  occurs-more : Found c s p → Follows (d .near) (d .far) p q → Occurs (d ∷ ds) s (q ∷ qs) → Occurs (c ∷ d ∷ ds) s (p ∷ q ∷ qs)
+  occurs-more h g o = record { one-each = ap suc (o .one-each); standing = standing; following = following }
     where
-      standing : (i : ℕ) → i < length (c ∷ d ∷ ds) → Found (getD (c ∷ d ∷ ds) i (part 0 0 [])) s (getD (p ∷ q ∷ qs) i 0)
+      standing : (i : ℕ) → i < length (c ∷ d ∷ ds) → Found (nth (c ∷ d ∷ ds) i) s (getD (p ∷ q ∷ qs) i 0)
       standing zero l = h
       standing (suc i) l = o .standing i (omega arith)
 
-      gaps : (i : ℕ) → suc i < length (c ∷ d ∷ ds)
-          → Gap (length ((getD (c ∷ d ∷ ds) i (part 0 0 [])) .word)) ((getD (d ∷ ds) i (part 0 0 [])) .low) ((getD (d ∷ ds) i (part 0 0 [])) .high) (getD (p ∷ q ∷ qs) i 0) (getD (q ∷ qs) i 0)
-      gaps zero l = g
-      gaps (suc i) l = o .gaps i (omega arith)
+      following : (i : ℕ) → suc i < length (c ∷ d ∷ ds) → Follows (nth (d ∷ ds) i .near) (nth (d ∷ ds) i .far) (getD (p ∷ q ∷ qs) i 0) (getD (q ∷ qs) i 0)
+      following zero l = g
+      following (suc i) l = o .following i (omega arith)
 
   -- and back: what is left of an occurrence without its first part
   occurs-rest : Occurs (c ∷ d ∷ ds) s (p ∷ q ∷ qs) → Occurs (d ∷ ds) s (q ∷ qs)
-  occurs-rest o = record { one-each = omega (arith, o .one-each); standing = λ i l. o .standing (suc i) (omega arith); gaps = λ i l. o .gaps (suc i) (omega arith) }
+  occurs-rest o = record { one-each = omega (arith, o .one-each); standing = λ i l. o .standing (suc i) (omega arith); following = λ i l. o .following (suc i) (omega arith) }
 
 -- each tuple under a first start begins with it
 pub starts-lead : (cs : List Part) (s : List ℕ) (p : ℕ) (ps : List ℕ) → List·Memᴰ ps (starts cs s p) → (rest : List ℕ) × (ps ≡ p ∷ rest)
@@ -105,7 +104,7 @@ starts-lead (c ∷ []) s p ps m = go (found c s p) m
 starts-lead (c ∷ d ∷ ds) s p ps m = go (found c s p) m
   where
     later : List (List ℕ)
-    later = each (starts (d ∷ ds) s) (reach (length (c .word)) (d .low) (d .high) p)
+    later = each (starts (d ∷ ds) s) (reach (d .near) (d .far) p)
 
     go : (b : Bool) → List·Memᴰ ps (if b (map (λ t. p ∷ t) later) []) → (rest : List ℕ) × (ps ≡ p ∷ rest)
     go true m = let r = Memᴰ·of-map (λ t. p ∷ t) later m in (r .0, sym (r .2))
@@ -122,7 +121,7 @@ starts-only (c ∷ []) s p ps w m = go (found c s p) refl m
 starts-only (c ∷ d ∷ ds) s p ps w m = go (found c s p) refl m (λ q qs m. starts-only (d ∷ ds) s q qs (λ i l. w (suc i) (omega arith)) m)
   where
     next : List ℕ
-    next = reach (length (c .word)) (d .low) (d .high) p
+    next = reach (d .near) (d .far) p
 
     go : (b : Bool) → found c s p ≡ b → List·Memᴰ ps (if b (map (λ t. p ∷ t) (each (starts (d ∷ ds) s) next)) []) → ((q : ℕ) (qs : List ℕ) → List·Memᴰ qs (starts (d ∷ ds) s q) → Occurs (d ∷ ds) s qs) → Occurs (c ∷ d ∷ ds) s ps
     go true e m ih =
@@ -130,7 +129,7 @@ starts-only (c ∷ d ∷ ds) s p ps w m = go (found c s p) refl m (λ q qs m. st
         let k = each-out (starts (d ∷ ds) s) next (r .1) in
         let l = starts-lead (d ∷ ds) s (k .0) (r .0) (k .2) in
         subst (Occurs (c ∷ d ∷ ds) s) (ap (λ t. p ∷ t) (sym (l .1)) ∙ r .2)
-        (occurs-more c d ds s p (k .0) (l .0) (found-is c s p (w 0 (omega arith)) .0 e) (reach-is (length (c .word)) (d .low) (d .high) p (k .0) .0 (k .1)) (subst (Occurs (d ∷ ds) s) (l .1) (ih (k .0) (r .0) (k .2))))
+        (occurs-more c d ds s p (k .0) (l .0) (found-is c s p (w 0 (omega arith)) .0 e) (reach-is (d .near) (d .far) p (k .0) .0 (k .1)) (subst (Occurs (d ∷ ds) s) (l .1) (ih (k .0) (r .0) (k .2))))
     go false e m ih = absurd (List·Memᴰ·not-nil m)
 
 starts-all : (cs : List Part) (s : List ℕ) (p : ℕ) (ps : List ℕ) → Worded cs → Occurs cs s (p ∷ ps) → List·Memᴰ (p ∷ ps) (starts cs s p)
@@ -142,8 +141,8 @@ starts-all (c ∷ d ∷ ds) s p [] w o = absurd (omega (arith, o .one-each))
 starts-all (c ∷ d ∷ ds) s p (q ∷ qs) w o =
     rw (found-is c s p (w 0 (omega arith)) .1 (o .standing 0 (omega arith)))
     (Memᴰ·map (λ t. p ∷ t)
-    (each-in (starts (d ∷ ds) s) (reach (length (c .word)) (d .low) (d .high) p)
-    (reach-is (length (c .word)) (d .low) (d .high) p q .1 (o .gaps 0 (omega arith)))
+    (each-in (starts (d ∷ ds) s) (reach (d .near) (d .far) p)
+    (reach-is (d .near) (d .far) p q .1 (o .following 0 (omega arith)))
     (starts-all (d ∷ ds) s q qs (λ i l. w (suc i) (omega arith)) (occurs-rest c d ds s p q qs o))))
 
 module _ (cs : List Part) (s : List ℕ) (worded : Worded cs) where

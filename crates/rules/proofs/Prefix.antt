@@ -3,7 +3,7 @@
 use mathlib.Core.Path.{_≡_, refl, sym, _∙_}
 use mathlib.Core.Bool.{Bool, true, false, _||_, false≢true}
 use mathlib.Core.List.{List, [], _∷_, _++_, map}
-use Prim.Native.Nat.{ℕ, zero, suc, _/_, _%_, _≤_}
+use Prim.Native.Nat.{ℕ, zero, suc, _+_, _/_, _%_, _≤_}
 use native.Mathlib.Omega.{arith}
 use lib.Dec.{leb}
 use lib.ListN.{length, take, drop, length-append, drop-of-length-le}
@@ -64,10 +64,10 @@ unfolding stands-by
 stands-less f k w y s zero e = e
 stands-less f k w y s (suc o) e = front-less f k w y (drop o s) e
 
-pub deal-nil : (R : Reading) (cs : List Component) → deal R cs [] ≡ []
+pub deal-nil : (R : Reading) (n : ℕ) (cs : List Component) → deal R n cs [] ≡ []
 unfolding deal
-deal-nil R [] = refl
-deal-nil R (c ∷ cs) = refl
+deal-nil R n [] = refl
+deal-nil R n (c ∷ cs) = refl
 
 module _ (R : Reading) (s : List ℕ) where
   -- parts start where the first of them stands
@@ -81,49 +81,49 @@ module _ (R : Reading) (s : List ℕ) where
   one-starts c p e = rw e
 
   -- with a first part more, those start still that did
-  after : (a : Part) (c : Component) (v w : List ℕ) (ds es : List Part) → ((p : ℕ) → some? (starts (read R c v ∷ ds) s p) ≡ true → some? (starts (read R c w ∷ es) s p) ≡ true)
-      → (p : ℕ) → some? (starts (a ∷ read R c v ∷ ds) s p) ≡ true → some? (starts (a ∷ read R c w ∷ es) s p) ≡ true
+  after : (a : Part) (n : ℕ) (c : Component) (v w : List ℕ) (ds es : List Part) → ((p : ℕ) → some? (starts (read R n c v ∷ ds) s p) ≡ true → some? (starts (read R n c w ∷ es) s p) ≡ true)
+      → (p : ℕ) → some? (starts (a ∷ read R n c v ∷ ds) s p) ≡ true → some? (starts (a ∷ read R n c w ∷ es) s p) ≡ true
   unfolding starts
-  after a c v w ds es h p e =
+  after a n c v w ds es h p e =
       let k = some-if (found a s p) _ e in
-      rw (k .0) (some-map (λ t. p ∷ t) _ ∙ some-each _ _ (reach (length (a .word)) (c .low) (c .high) p) h (sym (some-map (λ t. p ∷ t) _) ∙ k .1))
+      rw (k .0) (some-map (λ t. p ∷ t) _ ∙ some-each _ _ (reach (n + c .low) (n + c .high) p) h (sym (some-map (λ t. p ∷ t) _) ∙ k .1))
 
   -- so it is where a letter is taken from what follows the first part
-  less-after : (a : Part) (cs : List Component) (v : List ℕ) (y : ℕ) → (1 ≤ length v → (p : ℕ) → some? (starts (deal R cs (v ++ (y ∷ []))) s p) ≡ true → some? (starts (deal R cs v) s p) ≡ true)
-      → (p : ℕ) → some? (starts (a ∷ deal R cs (v ++ (y ∷ []))) s p) ≡ true → some? (starts (a ∷ deal R cs v) s p) ≡ true
+  less-after : (a : Part) (n : ℕ) (cs : List Component) (v : List ℕ) (y : ℕ) → (1 ≤ length v → (p : ℕ) → some? (starts (deal R n cs (v ++ (y ∷ []))) s p) ≡ true → some? (starts (deal R n cs v) s p) ≡ true)
+      → (p : ℕ) → some? (starts (a ∷ deal R n cs (v ++ (y ∷ []))) s p) ≡ true → some? (starts (a ∷ deal R n cs v) s p) ≡ true
   unfolding deal
-  less-after a [] v y ih p e = e
-  less-after a (d ∷ ds) [] y ih p e = one-starts a p (first-stands a _ p e)
-  less-after a (d ∷ ds) (x ∷ w) y ih p e = after a d _ _ _ _ (ih (omega arith)) p e
+  less-after a n [] v y ih p e = e
+  less-after a n (d ∷ ds) [] y ih p e = one-starts a p (first-stands a _ p e)
+  less-after a n (d ∷ ds) (x ∷ w) y ih p e = after a n d _ _ _ _ (ih (omega arith)) p e
 
   -- with a letter less in all, parts start where they did
-  fewer : (cs : List Component) (v : List ℕ) (y : ℕ) → 1 ≤ length v → (p : ℕ) → some? (starts (deal R cs (v ++ (y ∷ []))) s p) ≡ true → some? (starts (deal R cs v) s p) ≡ true
+  fewer : (n : ℕ) (cs : List Component) (v : List ℕ) (y : ℕ) → 1 ≤ length v → (p : ℕ) → some? (starts (deal R n cs (v ++ (y ∷ []))) s p) ≡ true → some? (starts (deal R n cs v) s p) ≡ true
   unfolding deal
-  fewer [] v y h p e = e
-  fewer (c ∷ cs) [] y h p e = absurd (omega arith)
-  fewer (c ∷ cs) (x ∷ w) y h p e = go (leb (c .length) (suc (length w))) refl (fewer cs (drop (c .length) (x ∷ w)) y)
+  fewer n [] v y h p e = e
+  fewer n (c ∷ cs) [] y h p e = absurd (omega arith)
+  fewer n (c ∷ cs) (x ∷ w) y h p e = go (leb (c .length) (suc (length w))) refl (fewer (c .length) cs (drop (c .length) (x ∷ w)) y)
     where
       v : List ℕ
       v = x ∷ w
 
       go : (b : Bool) → leb (c .length) (suc (length w)) ≡ b
-          → (1 ≤ length (drop (c .length) v) → (p : ℕ) → some? (starts (deal R cs (drop (c .length) v ++ (y ∷ []))) s p) ≡ true → some? (starts (deal R cs (drop (c .length) v)) s p) ≡ true)
-          → some? (starts (read R c (take (c .length) v) ∷ deal R cs (drop (c .length) v)) s p) ≡ true
+          → (1 ≤ length (drop (c .length) v) → (p : ℕ) → some? (starts (deal R (c .length) cs (drop (c .length) v ++ (y ∷ []))) s p) ≡ true → some? (starts (deal R (c .length) cs (drop (c .length) v)) s p) ≡ true)
+          → some? (starts (read R n c (take (c .length) v) ∷ deal R (c .length) cs (drop (c .length) v)) s p) ≡ true
       -- the letter stood after the first part
       go true f ih = let l = leb-true (c .length) (suc (length w)) f in
-          less-after _ cs (drop (c .length) v) y ih p (rw (take-append-le (c .length) v (y ∷ []) l, drop-append-le (c .length) v (y ∷ []) l) at e)
+          less-after _ (c .length) cs (drop (c .length) v) y ih p (rw (take-append-le (c .length) v (y ∷ []) l, drop-append-le (c .length) v (y ∷ []) l) at e)
       -- it was the first part's last
       go false f ih =
           let l = leb-false (c .length) (suc (length w)) f in
           let short : length v ≤ c .length = omega arith in
           let long : length (v ++ (y ∷ [])) ≤ c .length = omega (arith, length-append v (y ∷ [])) in
-          rw (take-all (c .length) v short, drop-of-length-le v short, deal-nil R cs)
+          rw (take-all (c .length) v short, drop-of-length-le v short, deal-nil R (c .length) cs)
           (one-starts _ p (stands-less (R .fits) (R .slack c) v y s p (rw (take-all (c .length) (v ++ (y ∷ [])) long) at (first-stands _ _ p e))))
 
   -- so they occur in the sequences in which they did
-  fewer-occur : (cs : List Component) (v : List ℕ) (y : ℕ) → 1 ≤ length v → some? (occurrences (deal R cs (v ++ (y ∷ []))) s) ≡ true → some? (occurrences (deal R cs v) s) ≡ true
+  fewer-occur : (n : ℕ) (cs : List Component) (v : List ℕ) (y : ℕ) → 1 ≤ length v → some? (occurrences (deal R n cs (v ++ (y ∷ []))) s) ≡ true → some? (occurrences (deal R n cs v) s) ≡ true
   unfolding occurrences
-  fewer-occur cs v y h e = some-each _ _ (run 1 (length s)) (fewer cs v y h) e
+  fewer-occur n cs v y h e = some-each _ _ (run 1 (length s)) (fewer n cs v y h) e
 
 -- ---- support
 
@@ -140,13 +140,13 @@ marks-le f g h (x ∷ xs) = go (f x) (g x) (h x) (marks-le f g h xs)
     go false true k ih = omega arith
     go false false k ih = ih
 
-module _ (R : Reading) (base : ℕ) (cs : List Component) (j m : ℕ) (h : 1 ≤ j) where
+module _ (R : Reading) (base n : ℕ) (cs : List Component) (j m : ℕ) (h : 1 ≤ j) where
   -- a prefix one letter shorter occurs wherever the longer one does
-  pub prefix-occurs : (s : List ℕ) → some? (occurrences (deal R cs (spell base (suc j) m)) s) ≡ true → some? (occurrences (deal R cs (spell base j (m / base))) s) ≡ true
-  prefix-occurs s e = fewer-occur R s cs (spell base j (m / base)) (m % base) (rw length-spell h) (rw (spell-more base j m) at e)
+  pub prefix-occurs : (s : List ℕ) → some? (occurrences (deal R n cs (spell base (suc j) m)) s) ≡ true → some? (occurrences (deal R n cs (spell base j (m / base))) s) ≡ true
+  prefix-occurs s e = fewer-occur R s n cs (spell base j (m / base)) (m % base) (rw length-spell h) (rw (spell-more base j m) at e)
 
   -- so its support is no smaller
-  pub support-antitone : (ss : List (List ℕ)) → support (deal R cs (spell base (suc j) m)) ss ≤ support (deal R cs (spell base j (m / base))) ss
+  pub support-antitone : (ss : List (List ℕ)) → support (deal R n cs (spell base (suc j) m)) ss ≤ support (deal R n cs (spell base j (m / base))) ss
   unfolding support marks
   support-antitone ss = marks-le _ _ prefix-occurs ss
 

@@ -73,10 +73,10 @@ module _ (P : Profile) (proper : Proper P) where
     unfolding measure parts-in
     measure-antitone o ss j m h = go (P .tally)
       where
-        go : (a : Tally) → tallied a (deal (P .reading) (components t) (spell (P .base) (suc j) m)) (to-come (components t) (spell (P .base) (suc j) m)) ss
-            ≤ tallied a (deal (P .reading) (components t) (spell (P .base) j (m / P .base))) (to-come (components t) (spell (P .base) j (m / P .base))) ss
-        go by-sequence = support-antitone (P .reading) (P .base) (components t) j m h ss
-        go by-occurrence = rows-antitone (P .reading) (P .base) (components t) j m (components-some o) h ss
+        go : (a : Tally) → tallied a (deal (P .reading) 0 (components t) (spell (P .base) (suc j) m)) (to-come (components t) (spell (P .base) (suc j) m)) ss
+            ≤ tallied a (deal (P .reading) 0 (components t) (spell (P .base) j (m / P .base))) (to-come (components t) (spell (P .base) j (m / P .base))) ss
+        go by-sequence = support-antitone (P .reading) (P .base) 0 (components t) j m h ss
+        go by-occurrence = rows-antitone (P .reading) (P .base) 0 (components t) j m (components-some o) h ss
 
     module _ (quorum : ℕ) (ss : List (List ℕ)) where
       good-anti : SoundTemplate t → (j m : ℕ) → reaches (measure P t ss) quorum (suc j) m ≡ true → reaches (measure P t ss) quorum j (m / P .base) ≡ true

@@ -1,6 +1,6 @@
 -- Occurrences times the spans of the gaps still to come: a prefix one letter shorter comes to no less. Its last part loses a
 -- letter, and so stands wherever it did; or goes whole, and then it could follow in at most as many places as its range has.
-use mathlib.Core.Path.{_≡_, refl}
+use mathlib.Core.Path.{_≡_, refl, ap}
 use mathlib.Core.Bool.{Bool, true, false, false≢true}
 use mathlib.Core.List.{List, [], _∷_, _++_, map}
 use Prim.Native.Nat.{ℕ, zero, suc, _+_, _-_, _*_, _/_, _%_, _≤_, _<_}
@@ -66,77 +66,80 @@ module _ (R : Reading) (s : List ℕ) where
       go false = omega arith
 
   -- a part that goes whole
-  last-gone : (a : Part) (c : Component) (cs : List Component) (y : ℕ) → 1 ≤ c .length → (p : ℕ)
-      → ways (a ∷ deal R (c ∷ cs) (y ∷ [])) s p * to-come (c ∷ cs) (y ∷ []) ≤ ways (a ∷ []) s p * to-come (c ∷ cs) []
+  last-gone : (a : Part) (n : ℕ) (c : Component) (cs : List Component) (y : ℕ) → 1 ≤ c .length → (p : ℕ)
+      → ways (a ∷ deal R n (c ∷ cs) (y ∷ [])) s p * to-come (c ∷ cs) (y ∷ []) ≤ ways (a ∷ []) s p * to-come (c ∷ cs) []
   unfolding deal to-come ways reach
-  last-gone a c cs y h p = rw (take-all (c .length) (y ∷ []) h, drop-of-length-le (y ∷ []) {i = c .length} h, deal-nil R cs) (go (found a s p))
+  last-gone a n c cs y h p = rw (take-all (c .length) (y ∷ []) h, drop-of-length-le (y ∷ []) {i = c .length} h, deal-nil R (c .length) cs) (go (found a s p))
     where
       b : Part
-      b = read R c (y ∷ [])
+      b = read R n c (y ∷ [])
 
       later : List ℕ
-      later = run (p + length (a .word) + c .low) (c .high + 1 - c .low)
+      later = run (p + (n + c .low)) (n + c .high + 1 - (n + c .low))
 
-      most : sum (map (ways (b ∷ []) s) later) * to-come cs [] ≤ (c .high + 1 - c .low) * to-come cs []
-      most = sum-run (ways (read R c (y ∷ []) ∷ []) s) (to-come cs []) (to-come cs []) (λ q. le q) (p + length (a .word) + c .low) (c .high + 1 - c .low)
+      most : sum (map (ways (b ∷ []) s) later) * to-come cs [] ≤ (n + c .high + 1 - (n + c .low)) * to-come cs []
+      most = sum-run (ways (read R n c (y ∷ []) ∷ []) s) (to-come cs []) (to-come cs []) (λ q. le q) (p + (n + c .low)) (n + c .high + 1 - (n + c .low))
         where
-          le : (q : ℕ) → ways (read R c (y ∷ []) ∷ []) s q * to-come cs [] ≤ to-come cs []
-          le q = omega (arith, times _ 1 (to-come cs []) (at-most-one (read R c (y ∷ [])) q))
+          le : (q : ℕ) → ways (read R n c (y ∷ []) ∷ []) s q * to-come cs [] ≤ to-come cs []
+          le q = omega (arith, times _ 1 (to-come cs []) (at-most-one (read R n c (y ∷ [])) q))
+
+      span : n + c .high + 1 - (n + c .low) ≡ c .high + 1 - c .low
+      span = omega arith
 
       go : (x : Bool) → if x (sum (map (ways (b ∷ []) s) later)) 0 * to-come cs [] ≤ if x 1 0 * ((c .high + 1 - c .low) * to-come cs [])
-      go true = omega (arith, most)
+      go true = omega (arith, most, ap (λ k. k * to-come cs []) span)
       go false = omega arith
 
   -- with a first part more
-  with-first : (a : Part) (d : Component) (ds : List Component) (x : ℕ) (w : List ℕ) (y : ℕ)
-      → ((p : ℕ) → ways (deal R (d ∷ ds) (x ∷ w ++ (y ∷ []))) s p * to-come (d ∷ ds) (x ∷ w ++ (y ∷ [])) ≤ ways (deal R (d ∷ ds) (x ∷ w)) s p * to-come (d ∷ ds) (x ∷ w))
-      → (p : ℕ) → ways (a ∷ deal R (d ∷ ds) (x ∷ w ++ (y ∷ []))) s p * to-come (d ∷ ds) (x ∷ w ++ (y ∷ [])) ≤ ways (a ∷ deal R (d ∷ ds) (x ∷ w)) s p * to-come (d ∷ ds) (x ∷ w)
+  with-first : (a : Part) (n : ℕ) (d : Component) (ds : List Component) (x : ℕ) (w : List ℕ) (y : ℕ)
+      → ((p : ℕ) → ways (deal R n (d ∷ ds) (x ∷ w ++ (y ∷ []))) s p * to-come (d ∷ ds) (x ∷ w ++ (y ∷ [])) ≤ ways (deal R n (d ∷ ds) (x ∷ w)) s p * to-come (d ∷ ds) (x ∷ w))
+      → (p : ℕ) → ways (a ∷ deal R n (d ∷ ds) (x ∷ w ++ (y ∷ []))) s p * to-come (d ∷ ds) (x ∷ w ++ (y ∷ [])) ≤ ways (a ∷ deal R n (d ∷ ds) (x ∷ w)) s p * to-come (d ∷ ds) (x ∷ w)
   unfolding deal ways
-  with-first a d ds x w y h p = if-times (found a s p) _ _ _ _ (sum-times _ _ _ _ h (reach (length (a .word)) (d .low) (d .high) p))
+  with-first a n d ds x w y h p = if-times (found a s p) _ _ _ _ (sum-times _ _ _ _ h (reach (n + d .low) (n + d .high) p))
 
   -- a letter taken from what follows the first part
-  less-after : (a : Part) (cs : List Component) (v : List ℕ) (y : ℕ) → Lettered cs
-      → (1 ≤ length v → (p : ℕ) → ways (deal R cs (v ++ (y ∷ []))) s p * to-come cs (v ++ (y ∷ [])) ≤ ways (deal R cs v) s p * to-come cs v)
-      → (p : ℕ) → ways (a ∷ deal R cs (v ++ (y ∷ []))) s p * to-come cs (v ++ (y ∷ [])) ≤ ways (a ∷ deal R cs v) s p * to-come cs v
-  less-after a [] v y l ih p = unfold deal to-come in omega arith
-  less-after a (d ∷ ds) [] y l ih p = rw (deal-nil R (d ∷ ds)) (last-gone a d ds y (l 0 (omega arith)) p)
-  less-after a (d ∷ ds) (x ∷ w) y l ih p = with-first a d ds x w y (ih (omega arith)) p
+  less-after : (a : Part) (n : ℕ) (cs : List Component) (v : List ℕ) (y : ℕ) → Lettered cs
+      → (1 ≤ length v → (p : ℕ) → ways (deal R n cs (v ++ (y ∷ []))) s p * to-come cs (v ++ (y ∷ [])) ≤ ways (deal R n cs v) s p * to-come cs v)
+      → (p : ℕ) → ways (a ∷ deal R n cs (v ++ (y ∷ []))) s p * to-come cs (v ++ (y ∷ [])) ≤ ways (a ∷ deal R n cs v) s p * to-come cs v
+  less-after a n [] v y l ih p = unfold deal to-come in omega arith
+  less-after a n (d ∷ ds) [] y l ih p = rw (deal-nil R n (d ∷ ds)) (last-gone a n d ds y (l 0 (omega arith)) p)
+  less-after a n (d ∷ ds) (x ∷ w) y l ih p = with-first a n d ds x w y (ih (omega arith)) p
 
   -- with a letter less in all
-  fewer-ways : (cs : List Component) (v : List ℕ) (y : ℕ) → Lettered cs → 1 ≤ length v → (p : ℕ)
-      → ways (deal R cs (v ++ (y ∷ []))) s p * to-come cs (v ++ (y ∷ [])) ≤ ways (deal R cs v) s p * to-come cs v
+  fewer-ways : (n : ℕ) (cs : List Component) (v : List ℕ) (y : ℕ) → Lettered cs → 1 ≤ length v → (p : ℕ)
+      → ways (deal R n cs (v ++ (y ∷ []))) s p * to-come cs (v ++ (y ∷ [])) ≤ ways (deal R n cs v) s p * to-come cs v
   unfolding deal to-come
-  fewer-ways [] v y l h p = omega arith
-  fewer-ways (c ∷ cs) [] y l h p = absurd (omega arith)
-  fewer-ways (c ∷ cs) (x ∷ w) y l h p = go (leb (c .length) (suc (length w))) refl (fewer-ways cs (drop (c .length) (x ∷ w)) y (λ i k. l (suc i) (omega arith)))
+  fewer-ways n [] v y l h p = omega arith
+  fewer-ways n (c ∷ cs) [] y l h p = absurd (omega arith)
+  fewer-ways n (c ∷ cs) (x ∷ w) y l h p = go (leb (c .length) (suc (length w))) refl (fewer-ways (c .length) cs (drop (c .length) (x ∷ w)) y (λ i k. l (suc i) (omega arith)))
     where
       v : List ℕ
       v = x ∷ w
 
       go : (b : Bool) → leb (c .length) (suc (length w)) ≡ b
-          → (1 ≤ length (drop (c .length) v) → (p : ℕ) → ways (deal R cs (drop (c .length) v ++ (y ∷ []))) s p * to-come cs (drop (c .length) v ++ (y ∷ [])) ≤ ways (deal R cs (drop (c .length) v)) s p * to-come cs (drop (c .length) v))
-          → ways (read R c (take (c .length) (v ++ (y ∷ []))) ∷ deal R cs (drop (c .length) (v ++ (y ∷ [])))) s p * to-come cs (drop (c .length) (v ++ (y ∷ [])))
-          ≤ ways (read R c (take (c .length) v) ∷ deal R cs (drop (c .length) v)) s p * to-come cs (drop (c .length) v)
+          → (1 ≤ length (drop (c .length) v) → (p : ℕ) → ways (deal R (c .length) cs (drop (c .length) v ++ (y ∷ []))) s p * to-come cs (drop (c .length) v ++ (y ∷ [])) ≤ ways (deal R (c .length) cs (drop (c .length) v)) s p * to-come cs (drop (c .length) v))
+          → ways (read R n c (take (c .length) (v ++ (y ∷ []))) ∷ deal R (c .length) cs (drop (c .length) (v ++ (y ∷ [])))) s p * to-come cs (drop (c .length) (v ++ (y ∷ [])))
+          ≤ ways (read R n c (take (c .length) v) ∷ deal R (c .length) cs (drop (c .length) v)) s p * to-come cs (drop (c .length) v)
       go true f ih = let k = leb-true (c .length) (suc (length w)) f in
-          rw (take-append-le (c .length) v (y ∷ []) k, drop-append-le (c .length) v (y ∷ []) k) (less-after _ cs (drop (c .length) v) y (λ i k. l (suc i) (omega arith)) ih p)
+          rw (take-append-le (c .length) v (y ∷ []) k, drop-append-le (c .length) v (y ∷ []) k) (less-after _ (c .length) cs (drop (c .length) v) y (λ i k. l (suc i) (omega arith)) ih p)
       go false f ih =
           let k = leb-false (c .length) (suc (length w)) f in
           let short : length v ≤ c .length = omega arith in
           let long : length (v ++ (y ∷ [])) ≤ c .length = omega (arith, length-append v (y ∷ [])) in
-          rw (take-all (c .length) v short, drop-of-length-le v {i = c .length} short, take-all (c .length) (v ++ (y ∷ [])) long, drop-of-length-le (v ++ (y ∷ [])) {i = c .length} long, deal-nil R cs)
-          (times _ _ (to-come cs []) (one-way (read R c (v ++ (y ∷ []))) (read R c v) p (stands-less (R .fits) (R .slack c) v y s p)))
+          rw (take-all (c .length) v short, drop-of-length-le v {i = c .length} short, take-all (c .length) (v ++ (y ∷ [])) long, drop-of-length-le (v ++ (y ∷ [])) {i = c .length} long, deal-nil R (c .length) cs)
+          (times _ _ (to-come cs []) (one-way (read R n c (v ++ (y ∷ []))) (read R n c v) p (stands-less (R .fits) (R .slack c) v y s p)))
 
-  fewer-occurrences : (cs : List Component) (v : List ℕ) (y : ℕ) → Lettered cs → 1 ≤ length v
-      → length (occurrences (deal R cs (v ++ (y ∷ []))) s) * to-come cs (v ++ (y ∷ [])) ≤ length (occurrences (deal R cs v) s) * to-come cs v
-  fewer-occurrences cs v y l h = rw (occurrences-count, occurrences-count) (sum-times _ _ _ _ (fewer-ways cs v y l h) (run 1 (length s)))
+  fewer-occurrences : (n : ℕ) (cs : List Component) (v : List ℕ) (y : ℕ) → Lettered cs → 1 ≤ length v
+      → length (occurrences (deal R n cs (v ++ (y ∷ []))) s) * to-come cs (v ++ (y ∷ [])) ≤ length (occurrences (deal R n cs v) s) * to-come cs v
+  fewer-occurrences n cs v y l h = rw (occurrences-count, occurrences-count) (sum-times _ _ _ _ (fewer-ways n cs v y l h) (run 1 (length s)))
 
 -- a prefix one letter shorter comes to no less
-pub rows-antitone : (R : Reading) (base : ℕ) (cs : List Component) (j m : ℕ) → Lettered cs → 1 ≤ j → (ss : List (List ℕ))
-    → length (occurrence-rows (deal R cs (spell base (suc j) m)) ss) * to-come cs (spell base (suc j) m)
-    ≤ length (occurrence-rows (deal R cs (spell base j (m / base))) ss) * to-come cs (spell base j (m / base))
-rows-antitone R base cs j m l h ss =
+pub rows-antitone : (R : Reading) (base n : ℕ) (cs : List Component) (j m : ℕ) → Lettered cs → 1 ≤ j → (ss : List (List ℕ))
+    → length (occurrence-rows (deal R n cs (spell base (suc j) m)) ss) * to-come cs (spell base (suc j) m)
+    ≤ length (occurrence-rows (deal R n cs (spell base j (m / base))) ss) * to-come cs (spell base j (m / base))
+rows-antitone R base n cs j m l h ss =
     rw (rows-count, rows-count, spell-more base j m)
-    (sum-times _ _ _ _ (λ s. fewer-occurrences R s cs (spell base j (m / base)) (m % base) l (rw length-spell h)) ss)
+    (sum-times _ _ _ _ (λ s. fewer-occurrences R s n cs (spell base j (m / base)) (m % base) l (rw length-spell h)) ss)
 
 -- a whole motif has no gap to come
 pub none-to-come : (cs : List Component) (w : List ℕ) → Lettered cs → sum (map (λ c. c .length) cs) ≡ length w → to-come cs w ≡ 1

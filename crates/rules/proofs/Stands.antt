@@ -1,5 +1,5 @@
 -- Where letters stand and where the next part may start: what `found` and `reach` find is what the sentences `Found` and
--- `Gap` say. Letters are compared one by one from the front, and a reach is a run of numbers between the two ends of a gap.
+-- `Follows` say. Letters are compared one by one from the front, and a reach is a run of numbers between its two ends.
 use mathlib.Core.Path.{_≡_, refl, sym, _∙_}
 use mathlib.Core.Logic.{_↔_, _⊎_, inl, inr}
 use mathlib.Core.Bool.{Bool, true, false, false≢true}
@@ -11,7 +11,7 @@ use lib.ListN.{length, drop, getD, length-drop}
 use lib.Seq.{getD-drop}
 use borrow.Author.Tests.{ltb-true, ltb-false, eqb-true, eq-eqb}
 use Rattle.rules.specs.Lists.{run, if}
-use Rattle.rules.specs.Occurrence.{spare, front-by, stands-by, found, reach, misses, StandsBy, Found, Stands, Gap}
+use Rattle.rules.specs.Occurrence.{spare, front-by, stands-by, found, reach, misses, StandsBy, Found, Stands, Follows}
 use Rattle.rules.specs.Template.{Part}
 
 -- ---- letters at the front, but for k of them
@@ -115,10 +115,10 @@ run-out a (suc n) x m = go (List·Memᴰ·cases-cons m) (run-out (suc a) n x)
     go (inl e) ih = omega arith
     go (inr m) ih = let r = ih m in omega arith
 
--- the next part may start at q exactly if the gap lies in the range
-pub reach-is : (n low high p q : ℕ) → List·Memᴰ q (reach n low high p) ↔ Gap n low high p q
+-- the next part may start at q exactly if q follows within its distances
+pub reach-is : (near far p q : ℕ) → List·Memᴰ q (reach near far p) ↔ Follows near far p q
 unfolding reach
-reach-is n low high p q = (
-  λ m. let r = run-out (p + n + low) (high + 1 - low) q m in record { least = r .0; most = omega arith },
-  λ g. run-in (p + n + low) (high + 1 - low) q (g .least) (omega (arith, g .least, g .most)),
+reach-is near far p q = (
+  λ m. let r = run-out (p + near) (far + 1 - near) q m in record { least = r .0; most = omega arith },
+  λ g. run-in (p + near) (far + 1 - near) q (g .least) (omega (arith, g .least, g .most)),
 )

@@ -33,7 +33,7 @@ ways-count (c ∷ []) s p = go (found c s p)
 ways-count (c ∷ d ∷ ds) s p = go (found c s p) (each-count (ways (d ∷ ds) s) (starts (d ∷ ds) s) (ways-count (d ∷ ds) s) next)
   where
     next : List ℕ
-    next = reach (length (c .word)) (d .low) (d .high) p
+    next = reach (d .near) (d .far) p
 
     later : List (List ℕ)
     later = each (starts (d ∷ ds) s) next

@@ -6,7 +6,8 @@ use Prim.Native.Nat.{ℕ, zero, suc, _+_, _-_, _≤_, _<_}
 use lib.Dec.{eqb}
 use lib.ListN.{length, drop, getD}
 use Rattle.rules.specs.Lists.{run, if, each, sum}
-use Rattle.rules.specs.Template.{Part, part}
+use Rattle.rules.specs.Template.{Part, part, none, cut}
+use Rattle.rules.specs.declared.Component.{Component}
 
 -- one of k less: with none left a, and else what g makes of the others
 abbrev pub spare : {A : Type 0} → ℕ → A → (ℕ → A) → A
@@ -35,9 +36,9 @@ stands w s p = stands-by eqb 0 w s p
 abbrev pub found : Part → List ℕ → ℕ → Bool
 found c s p = stands-by (c .fits) (c .slack) (c .word) s p
 
--- where the next part may start if one of n letters starts at p: after its letters and a gap of low to high positions
-unfoldable pub reach : ℕ → ℕ → ℕ → ℕ → List ℕ
-reach n low high p = run (p + n + low) (high + 1 - low)
+-- where the next part may start if one starts at p: near to far positions on
+unfoldable pub reach : ℕ → ℕ → ℕ → List ℕ
+reach near far p = run (p + near) (far + 1 - near)
 
 -- THE LIST. The occurrences of the parts whose first start is p: all later starts under it, rising
 unfoldable pub starts : List Part → List ℕ → ℕ → List (List ℕ)
@@ -45,7 +46,7 @@ starts [] s p = []
 starts (c ∷ []) s p = if (found c s p) ((p ∷ []) ∷ []) []
 starts (c ∷ d ∷ ds) s p =
     if (found c s p)
-    (map (λ t. p ∷ t) (each (starts (d ∷ ds) s) (reach (length (c .word)) (d .low) (d .high) p)))
+    (map (λ t. p ∷ t) (each (starts (d ∷ ds) s) (reach (d .near) (d .far) p)))
     []
 
 -- all occurrences in s, by first start, then by second, and so on
@@ -56,7 +57,7 @@ occurrences cs s = each (starts cs s) (run 1 (length s))
 unfoldable pub ways : List Part → List ℕ → ℕ → ℕ
 ways [] s p = 0
 ways (c ∷ []) s p = if (found c s p) 1 0
-ways (c ∷ d ∷ ds) s p = if (found c s p) (sum (map (ways (d ∷ ds) s) (reach (length (c .word)) (d .low) (d .high) p))) 0
+ways (c ∷ d ∷ ds) s p = if (found c s p) (sum (map (ways (d ∷ ds) s) (reach (d .near) (d .far) p))) 0
 
 -- THE SENTENCE. How many of the letters w do not fit those that s begins with
 unfoldable pub misses : (ℕ → ℕ → Bool) → List ℕ → List ℕ → ℕ
@@ -73,20 +74,36 @@ pub record StandsBy (f : ℕ → ℕ → Bool) (k : ℕ) (w s : List ℕ) (p : �
 abbrev pub Found : Part → List ℕ → ℕ → Type 0
 Found c s p = StandsBy (c .fits) (c .slack) (c .word) s p
 
--- exactly: each letter is the one there
+-- the next part starts at q, near to far positions after the start p of one
+pub record Follows (near far p q : ℕ) : Type 0 where
+  pub least : p + near ≤ q
+  pub most : q ≤ p + far
+
+-- part i of some, from 0
+abbrev pub nth : List Part → ℕ → Part
+nth cs i = getD cs i (part 0 0 [])
+
+-- an occurrence: one start for each part, such that its letters stand there and each next start follows within its distances
+pub record Occurs (cs : List Part) (s ps : List ℕ) : Type 0 where
+  pub one-each : length ps ≡ length cs
+  pub standing : (i : ℕ) → i < length cs → Found (nth cs i) s (getD ps i 0)
+  pub following : (i : ℕ) → suc i < length cs → Follows (nth cs (suc i) .near) (nth cs (suc i) .far) (getD ps i 0) (getD ps (suc i) 0)
+
+-- THE PAPER'S OWN SENTENCE, where letters are read exactly. The letters w stand in s at position p: each is the one there
 pub record Stands (w s : List ℕ) (p : ℕ) : Type 0 where
   pub counted : 1 ≤ p
   pub room : p + length w ≤ length s + 1
   pub same : (i : ℕ) → i < length w → getD s (p - 1 + i) 0 ≡ getD w i 0
 
--- the gap between a part of n letters that starts at p and the next at q lies in the range
+-- the gap between a component of n letters that starts at p and the next at q lies in the range
 pub record Gap (n low high p q : ℕ) : Type 0 where
   pub least : p + n + low ≤ q
   pub most : q ≤ p + n + high
 
--- an occurrence: one start for each part, such that its letters stand there and each next start keeps its range
-pub record Occurs (cs : List Part) (s ps : List ℕ) : Type 0 where
-  pub one-each : length ps ≡ length cs
-  pub standing : (i : ℕ) → i < length cs → Found (getD cs i (part 0 0 [])) s (getD ps i 0)
-  pub gaps : (i : ℕ) → suc i < length cs
-      → Gap (length ((getD cs i (part 0 0 [])) .word)) ((getD cs (suc i) (part 0 0 [])) .low) ((getD cs (suc i) (part 0 0 [])) .high) (getD ps i 0) (getD ps (suc i) 0)
+-- letters w dealt out to components cs: one start for each, such that its letters stand there, and each next start minus the
+-- previous start minus the previous length lies in its range
+pub record OccursExactly (cs : List Component) (w s ps : List ℕ) : Type 0 where
+  pub one-each : length ps ≡ length (cut 0 cs w)
+  pub standing : (i : ℕ) → i < length (cut 0 cs w) → Stands (nth (cut 0 cs w) i .word) s (getD ps i 0)
+  pub gaps : (i : ℕ) → suc i < length (cut 0 cs w)
+      → Gap (getD cs i none .length) (getD cs (suc i) none .low) (getD cs (suc i) none .high) (getD ps i 0) (getD ps (suc i) 0)

@@ -44,7 +44,7 @@ tallied by-occurrence cs n ss = length (occurrence-rows cs ss) * n
 module _ (P : Profile) (t : Template) where
   -- the parts of a motif, or of a prefix of j letters, with the number m
   unfoldable pub parts-in : ℕ → ℕ → List Part
-  parts-in j m = deal (P .reading) (components t) (spell (P .base) j m)
+  parts-in j m = deal (P .reading) 0 (components t) (spell (P .base) j m)
 
   -- what it comes to
   unfoldable pub measure : List (List ℕ) → ℕ → ℕ → ℕ

@@ -1,7 +1,7 @@
 -- Templates: their components, K, and the parts that a prefix of a motif has under one.
 use mathlib.Core.Bool.{Bool}
 use mathlib.Core.List.{List, [], _∷_, map}
-use Prim.Native.Nat.{ℕ}
+use Prim.Native.Nat.{ℕ, _+_}
 use lib.Dec.{leb, eqb}
 use lib.ListN.{length, take, drop}
 use Rattle.rules.specs.Lists.{if, sum}
@@ -41,11 +41,11 @@ trimmed t = record {
   c6 = kept (t .count) 6 (t .c6);
 }
 
--- a component of a motif: the gap range before it, and its letters; which letter of a sequence each of them fits, and how many
--- may fail to
+-- a component of a motif: how far its start may lie from the start of the one before, at least and at most; its letters; which
+-- letter of a sequence each of them fits, and how many may fail to
 pub record Part : Type 0 where
-  pub low : ℕ
-  pub high : ℕ
+  pub near : ℕ
+  pub far : ℕ
   pub word : List ℕ
   pub fits : ℕ → ℕ → Bool
   pub slack : ℕ
@@ -59,18 +59,21 @@ pub record Reading : Type 0 where
 abbrev pub plain : Reading
 plain = record { fits = eqb; slack = λ c. 0 }
 
--- a component's part with the letters w, and one that is read exactly
-abbrev pub read : Reading → Component → List ℕ → Part
-read R c w = record { low = c .low; high = c .high; word = w; fits = R .fits; slack = R .slack c }
+-- a component's part with the letters w: it starts after the n letters of the one before and a gap of its range
+abbrev pub read : Reading → ℕ → Component → List ℕ → Part
+read R n c w = record { near = n + c .low; far = n + c .high; word = w; fits = R .fits; slack = R .slack c }
 
+-- a part that is read exactly
 abbrev pub part : ℕ → ℕ → List ℕ → Part
-part l u w = record { low = l; high = u; word = w; fits = eqb; slack = 0 }
+part near far w = record { near = near; far = far; word = w; fits = eqb; slack = 0 }
 
--- the letters of a motif, or of a prefix, dealt out to the components: the last one cut short, and none after it
-unfoldable pub deal : Reading → List Component → List ℕ → List Part
-deal R [] w = []
-deal R (c ∷ cs) [] = []
-deal R (c ∷ cs) (x ∷ w) = read R c (take (c .length) (x ∷ w)) ∷ deal R cs (drop (c .length) (x ∷ w))
+-- the letters of a motif, or of a prefix, dealt out to the components that follow one of n letters: the last one cut short, and
+-- none after it
+unfoldable pub deal : Reading → ℕ → List Component → List ℕ → List Part
+deal R n [] w = []
+deal R n (c ∷ cs) [] = []
+deal R n (c ∷ cs) (x ∷ w) = read R n c (take (c .length) (x ∷ w)) ∷ deal R (c .length) cs (drop (c .length) (x ∷ w))
 
-abbrev pub cut : List Component → List ℕ → List Part
-cut cs w = deal plain cs w
+-- exactly
+abbrev pub cut : ℕ → List Component → List ℕ → List Part
+cut n cs w = deal plain n cs w

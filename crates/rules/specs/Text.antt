@@ -163,14 +163,14 @@ digits-of (suc d) n = let higher = digits-of d (n / 10) in if (ltb n 10) [] high
 unfoldable pub decimal : ℕ → List ℕ
 decimal n = digits-of 20 n
 
--- a motif in the template's shape: A[0,1]G
-unfoldable pub shape-rest : List Part → List ℕ
-shape-rest [] = []
-shape-rest (c ∷ cs) = 91 ∷ decimal (c .low) ++ 44 ∷ decimal (c .high) ++ 93 ∷ map letter (c .word) ++ shape-rest cs
+-- a motif in the template's shape: A[0,1]G. A part after one of n letters has its distances less n for its range
+unfoldable pub shape-rest : ℕ → List Part → List ℕ
+shape-rest n [] = []
+shape-rest n (c ∷ cs) = 91 ∷ decimal (c .near - n) ++ 44 ∷ decimal (c .far - n) ++ 93 ∷ map letter (c .word) ++ shape-rest (length (c .word)) cs
 
 unfoldable pub shape : List Part → List ℕ
 shape [] = []
-shape (c ∷ cs) = map letter (c .word) ++ shape-rest cs
+shape (c ∷ cs) = map letter (c .word) ++ shape-rest (length (c .word)) cs
 
 -- a row: the motif, its support and its weighted support
 unfoldable pub print-row : List (List ℕ) → List Part → List ℕ
