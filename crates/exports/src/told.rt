@@ -2,7 +2,7 @@
 // have is 0.
 ghost use mathlib.Core.Path.{_≡_};
 ghost use Rattle.exports.specs.Numbers.{count, count-told, page-told, stopped, leg-told, search-told};
-ghost use Rattle.rules.specs.Told.{number, place, toldSaved, toldJoined, toldRecovered, toldLeg, toldBegun};
+ghost use Rattle.rules.specs.Told.{refusal-number, refusal-place, toldSaved, toldJoined, toldRecovered, toldLeg, toldBegun};
 use rules::Begun;
 use rules::Joined;
 use rules::Leg;
@@ -32,7 +32,7 @@ impl Count {
 
     // A call that was.
     fn refused(why: Refusal) -> Count
-        ensures { λ r. ⌜ r ≡ count (number why) (place why) 0 ⌝ }
+        ensures { λ r. ⌜ r ≡ count (refusal-number why) (refusal-place why) 0 ⌝ }
     {
         Count {
             number: why.number(),
@@ -117,7 +117,7 @@ impl Stopped {
 
     // A leg that was refused before it was run.
     pub fn refused(why: Refusal) -> Stopped
-        ensures { λ r. ⌜ r ≡ stopped (number why) (place why) 0 0 0 ⌝ }
+        ensures { λ r. ⌜ r ≡ stopped (refusal-number why) (refusal-place why) 0 0 0 ⌝ }
     {
         Stopped {
             number: why.number(),

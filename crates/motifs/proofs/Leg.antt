@@ -20,7 +20,7 @@ use Rattle.rules.specs.declared.Search.{Search}
 use Rattle.rules.specs.declared.Template.{Template}
 use Rattle.rules.proofs.Legs.{Passed, leg-law, Why, leg-why}
 use Rattle.rules.proofs.Places.{walk-of, place-deep}
-use Rattle.rules.proofs.Profiles.{walk-pos}
+use Rattle.rules.proofs.Searches.{walk-pos}
 use Rattle.rules.proofs.Lists.{keep-few}
 use Rattle.rules.proofs.Tables.{put-front}
 use Rattle.rules.proofs.Sound.{search-sound}

@@ -16,7 +16,7 @@ use Rattle.rules.specs.declared.Place.{Place}
 use Rattle.rules.specs.declared.Search.{Search}
 use Rattle.rules.proofs.Legs.{Passed}
 use Rattle.rules.proofs.Places.{walk-of, sound-passing, moved-sound}
-use Rattle.rules.proofs.Profiles.{walk-pos}
+use Rattle.rules.proofs.Searches.{walk-pos}
 use Rattle.rules.proofs.Relayed.{leg-passing}
 use Rattle.rules.proofs.Sound.{search-sound, search-fine}
 use Rattle.rules.proofs.Step.{at-end}

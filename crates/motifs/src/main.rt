@@ -22,8 +22,7 @@ ghost use Rattle.rules.specs.Calls.{leg-rule};
 ghost use Rattle.rules.specs.Limits.{Text-BYTES};
 ghost use Rattle.rules.specs.Refusals.{first, search-checks};
 ghost use Rattle.rules.specs.Text.{print-end, print-refused, print-rule};
-ghost use Rattle.rules.specs.Told as told;
-ghost use Rattle.rules.specs.Told.{fine, toldAnswer, toldLeg};
+ghost use Rattle.rules.specs.Told.{fine, refusal-number, refusal-place, toldAnswer, toldLeg};
 ghost use Rattle.text.specs.Printed.{Line-ROOM};
 ghost use Rattle.motifs.specs.Pages.{room-of, ended-told?};
 ghost use Rattle.motifs.specs.Way.{Steps-MOST, Page-BYTES, budget-of, Fits, Onward, last-line, Ends};
@@ -176,7 +175,7 @@ fn print_search(letters: &[u8], lengths: &[u32], search: Search, out: &mut [u8])
 // Leaves the line of a refusal at the front of `out`.
 fn print_refused(why: Refusal, out: &mut [u8]) -> usize
     requires { ⌜ Line-ROOM ≤ length (now out) ⌝ }
-    ensures { λ r. ⌜ (take r (now (out .exit)) ≡ print-refused (told.number why) (told.place why)) × (r ≤ Line-ROOM) ⌝ }
+    ensures { λ r. ⌜ (take r (now (out .exit)) ≡ print-refused (refusal-number why) (refusal-place why)) × (r ≤ Line-ROOM) ⌝ }
 {
     text::print::print_refused(why.number(), why.place(), out)
 }

@@ -10,22 +10,22 @@ use Rattle.rules.specs.Refusals.{first, new-checks}
 use Rattle.rules.specs.Sequences.{sequences}
 use Rattle.rules.specs.Sound.{SoundTemplate}
 use Rattle.rules.specs.Profile.{profile-of}
-use Rattle.rules.specs.Template.{size, trimmed}
+use Rattle.rules.specs.Template.{trimmed}
 use Rattle.rules.specs.Told.{gives}
 use Rattle.rules.specs.Walk.{walk-in, walk-over, walk-of, first-place}
 use Rattle.rules.specs.declared.Search.{Search}
 use Rattle.rules.specs.declared.Template.{Template}
 use Rattle.rules.proofs.Candidates.{first-candidate}
 use Rattle.rules.proofs.Places.{passing-rule, passing-passes}
-use Rattle.rules.proofs.Profiles.{walk-lawful}
+use Rattle.rules.proofs.Searches.{walk-lawful}
 use Rattle.rules.proofs.Saves.{unless-gives}
 use Rattle.rules.proofs.Sound.{SoundNew, SoundSearch, new-sound}
-use Rattle.rules.proofs.Trimmed.{trimmed-twice, trimmed-sound, trimmed-components, trimmed-profile, trimmed-measure}
+use Rattle.rules.proofs.Trimmed.{trimmed-twice, trimmed-sound, trimmed-size, trimmed-profile, trimmed-allowed, trimmed-measure}
 
 -- the walk of a trimmed template is the walk of the template
 pub walk-trimmed : (t : Template) (quorum : ℕ) (ss : List (List ℕ)) → walk-over (trimmed t) quorum ss ≡ walk-over t quorum ss
-unfolding walk-in size
-walk-trimmed t quorum ss = rw (trimmed-profile t, trimmed-measure (profile-of t) t ss, trimmed-components t)
+unfolding walk-in
+walk-trimmed t quorum ss = rw (trimmed-profile t, trimmed-allowed (profile-of t) t, trimmed-measure (profile-of t) t ss, trimmed-size t)
 
 -- what begins
 pub record Beginning (letters lengths : List ℕ) (t : Template) (quorum : ℕ) (s : Search) : Type 0 where

@@ -1,5 +1,5 @@
 -- A new search run in legs, with a save and a restore between them, lists exactly the motifs of its walk: the walk's
--- laws, read of the search that begins. And what these are in the exact search.
+-- laws, read of the search that begins.
 use mathlib.Core.Path.{_≡_, refl, sym, ap, _∙_, fun-ext}
 use mathlib.Core.List.{List, [], _∷_, map}
 use Prim.Native.Nat.{ℕ, zero, suc, _^_, _≤_}
@@ -10,13 +10,13 @@ use Rattle.rules.specs.Calls.{begun, motif-parts, supports-of, weights-o
 use Rattle.rules.specs.Legs.{Stop, ended, Stretch, legs}
 use Rattle.rules.specs.Limits.{Letter-BASES}
 use Rattle.rules.specs.Profile.{exactly}
-use Rattle.rules.specs.Relay.{frequent-motifs, whole-steps, Complete, Lent, Roomy, Ample, relay}
+use Rattle.rules.specs.Relay.{frequent-motifs, their-supports, their-weights, whole-steps, Complete, Lent, Roomy, Ample, relay}
 use Rattle.rules.specs.Sequences.{sequences}
 use Rattle.rules.specs.Sound.{SoundTemplate}
 use Rattle.rules.specs.Support.{support, weight, parts, parts-in, measure, reaches}
 use Rattle.rules.specs.Template.{Part, size}
 use Rattle.rules.specs.Told.{gives}
-use Rattle.rules.specs.Walk.{Walk, Lawful, exact, walk-in, walk-over, start, motifs, tries}
+use Rattle.rules.specs.Walk.{Walk, Lawful, walk-in, walk-over, start, motifs, tries}
 use Rattle.rules.specs.declared.Search.{Search}
 use Rattle.rules.specs.declared.Template.{Template}
 use Rattle.rules.proofs.Begins.{Beginning, begins}
@@ -25,16 +25,10 @@ use Rattle.rules.proofs.Legs as walked
 use Rattle.rules.proofs.Lists.{keep-same}
 use Rattle.rules.proofs.Plain.{motifs-plain, tries-plain}
 use Rattle.rules.proofs.Prefix.{size-some}
-use Rattle.rules.proofs.Profiles.{exact-plain, walk-lawful}
+use Rattle.rules.proofs.Searches.{walk-lawful}
 use Rattle.rules.proofs.Relay.{all-listed, all-tried, legs-enough}
 use Rattle.rules.proofs.Relayed.{granted, rows-of, relay-legs}
 use Rattle.rules.proofs.Trimmed.{trimmed-size, trimmed-parts}
-
--- a prefix with a letter is frequent by its support
-pub frequent-some : (t : Template) (quorum : ℕ) (ss : List (List ℕ)) (j m : ℕ) → 1 ≤ j → reaches (measure exactly t ss) quorum j m ≡ leb quorum (support (parts-in exactly t j m) ss)
-unfolding reaches measure exactly
-frequent-some t quorum ss zero m h = absurd (omega arith)
-frequent-some t quorum ss (suc j) m h = refl
 
 gives-same : {A : Type 0} (a b : A) → gives a ≡ gives b → a ≡ b
 gives-same a b e = cc
@@ -42,16 +36,6 @@ gives-same a b e = cc
 ample-granted : (gs : List Lent) → Ample gs → walked.Ample (map granted gs)
 ample-granted [] a = tt
 ample-granted (g ∷ gs) a = (a .0, omega arith, ample-granted gs (a .4))
-
-module _ (t : Template) (quorum : ℕ) (ss : List (List ℕ)) where
-  -- THE EXACT WALK: its motifs are those whose support reaches the quorum, and its tries the paper's count
-  pub exact-motifs : SoundTemplate t → motifs (exact t quorum ss) ≡ frequent-motifs t quorum ss
-  unfolding frequent-motifs walk-in exactly
-  exact-motifs o = motifs-plain (exact t quorum ss) (exact-plain t quorum ss) ∙ keep-same _ _ 0 (Letter-BASES ^ size t) (λ m h l. frequent-some t quorum ss (size t) m (size-some t o))
-
-  pub exact-tries : tries (exact t quorum ss) (size t) ≡ whole-steps t quorum ss
-  unfolding whole-steps walk-in exactly
-  exact-tries = tries-plain (exact t quorum ss) (exact-plain t quorum ss) (size t)
 
 module _ (letters lengths : List ℕ) (t : Template) (quorum : ℕ) (s : Search) (e : begin-rule letters lengths t quorum ≡ gives s) where
   b : Beginning letters lengths t quorum s
@@ -82,8 +66,8 @@ module _ (letters lengths : List ℕ) (t : Template) (quorum : ℕ) (s : Search)
 
   -- what ended is complete
   complete : (l : Stretch) → l .motifs ≡ motifs W → l .steps ≡ tries W (W .depth)
-      → Complete W (parts t (size t)) ss (l .steps) (l .motifs) (supports-of letters lengths s (l .motifs)) (weights-of letters lengths s (l .motifs))
-  unfolding ss supports-of weights-of
+      → Complete t quorum ss (l .steps) (l .motifs) (supports-of letters lengths s (l .motifs)) (weights-of letters lengths s (l .motifs))
+  unfolding ss W supports-of weights-of frequent-motifs their-supports their-weights whole-steps walk-in
   complete l e f =
       record {
         motifs-are = e;
@@ -94,7 +78,7 @@ module _ (letters lengths : List ℕ) (t : Template) (quorum : ℕ) (s : Search)
 
   -- legs that end have listed exactly the walk's motifs, in as many steps as it has candidates
   pub relay-complete : (gs : List Lent) → Roomy gs → (relay letters lengths gs s) .answer ≡ gives ended
-      → let r = relay letters lengths gs s in Complete (walk-over t quorum (sequences letters lengths)) (parts t (size t)) (sequences letters lengths) (r .steps) (r .motifs) (r .supports) (r .weights)
+      → let r = relay letters lengths gs s in Complete t quorum (sequences letters lengths) (r .steps) (r .motifs) (r .supports) (r .weights)
   unfolding W ss
   relay-complete gs h a =
       let l = legs W (map granted gs) (start W) in
@@ -102,8 +86,8 @@ module _ (letters lengths : List ℕ) (t : Template) (quorum : ℕ) (s : Search)
       rw (from-start gs h) (complete l (all-listed W L (map granted gs) q) (all-tried W L (map granted gs) q))
 
   -- legs with budget and room end, if there are as many as the whole search has steps
-  pub relay-ends : (gs : List Lent) → Roomy gs → Ample gs → (let W = walk-over t quorum (sequences letters lengths) in tries W (W .depth) ≤ length gs) → (relay letters lengths gs s) .answer ≡ gives ended
-  unfolding W ss
+  pub relay-ends : (gs : List Lent) → Roomy gs → Ample gs → whole-steps t quorum (sequences letters lengths) ≤ length gs → (relay letters lengths gs s) .answer ≡ gives ended
+  unfolding W ss whole-steps walk-in
   relay-ends gs h a k =
       ap (λ r. r .answer) (from-start gs h) ∙ ap gives (legs-enough W L (map granted gs) (ample-granted gs a) (omega (arith, k, length-map gs granted)))
 

@@ -5,46 +5,43 @@ use mathlib.Core.Logic.{_⊎_, _↔_}
 use mathlib.Core.Bool.{true}
 use mathlib.Core.List.{List, [], _∷_, _++_, List·Memᴰ}
 use Prim.Native.Nat.{ℕ, suc, _+_, _*_, _≤_, _<_, _^_, min}
-use lib.Dec.{eqb}
 use lib.ListN.{length, take, getD, replicate}
 use native.Mathlib.Omega.{arith}
-use borrow.Author.Tests.{leb-true, le-leb}
 use Rattle.rules.specs.Calls.{unless, on-refusal, begin-rule, LegRule, stretch, leg-rule, written-unless, save-rule, restore-rule, recover-rule, join-rule}
 use Rattle.rules.specs.Legs.{Stop, ended, leg}
 use Rattle.rules.specs.Limits.{Letter-BASES, Record-BYTES, Record-EXTRA, Template-COMPONENTS}
 use Rattle.rules.specs.Lists.{joined, keep, put, some?}
-use Rattle.rules.specs.Occurrence.{occurrences, StandsBy, Stands, Occurs}
+use Rattle.rules.specs.Occurrence.{occurrences, nth, Follows, Occurs, Gap, OccursExactly}
+use Rattle.rules.specs.Motif.{spell}
 use Rattle.rules.specs.Order.{InOrder, Rising}
-use Rattle.rules.specs.Profile.{exactly}
+use Rattle.rules.specs.Profile.{exactly, profile-of, base-of}
 use Rattle.rules.specs.Recovery.{whole-list, page}
 use Rattle.rules.specs.Refusals.{first, new-checks, restore-checks, search-checks, save-checks, recover-checks, join-checks}
 use Rattle.rules.specs.Relay.{frequent-motifs, whole-steps, Complete, Lent, Roomy, Ample, after, alone, relay, Relayed}
 use Rattle.rules.specs.Saved.{bytes, sized?, laid-out?, read-search}
 use Rattle.rules.specs.Sequences.{sequences}
 use Rattle.rules.specs.Sound.{SoundSet, SoundTemplate}
-use Rattle.rules.specs.Support.{support, parts, parts-in}
-use Rattle.rules.specs.Template.{size, trimmed}
+use Rattle.rules.specs.Support.{support, counted, permitted, parts, parts-in}
+use Rattle.rules.specs.Template.{none, components, size, trimmed}
 use Rattle.rules.specs.Told.{Told, gives, refuses, Verdict, fine, refused, Counts}
-use Rattle.rules.specs.Walk as walk
-use Rattle.rules.specs.Walk.{Walk, Lawful, ended-place, exact, walk-over, walk-of, from, start, listed, spelled, tries}
+use Rattle.rules.specs.Walk.{Walk, ended-place, walk-over, walk-of, from, start, listed, goods}
 use Rattle.rules.specs.declared.Place.{Place}
 use Rattle.rules.specs.declared.Search.{Search}
 use Rattle.rules.specs.declared.Template.{Template}
 use Rattle.rules.proofs.Bound.{list-bound}
-use Rattle.rules.proofs.Completes.{exact-motifs, exact-tries, relay-complete, relay-ends, relay-answers}
-use Rattle.rules.proofs.Demanded.{motifs-are, motifs-rise}
+use Rattle.rules.proofs.Completes.{relay-complete, relay-ends, relay-answers}
+use Rattle.rules.proofs.Exact.{exact-search, exact-occurs, exact-motifs, exact-steps}
+use Rattle.rules.proofs.Exactly.{follows-gap}
 use Rattle.rules.proofs.Legs.{Passed, leg-law}
 use Rattle.rules.proofs.LowFirst.{Bytes}
-use Rattle.rules.proofs.Members.{keep-run-in, keep-run-out}
-use Rattle.rules.proofs.OccurrenceOrder.{keep-run-rising, rows-in-order}
+use Rattle.rules.proofs.OccurrenceOrder.{rows-in-order}
 use Rattle.rules.proofs.Occurs.{parts-worded, parts-some, rows-are}
 use Rattle.rules.proofs.Passing.{passing-from, from-passing}
 use Rattle.rules.proofs.Places.{sound-passing, passing-rule, passing-passes, place-deep}
 use Rattle.rules.proofs.Prefix.{size-some}
-use Rattle.rules.proofs.Profiles.{walk-lawful}
+use Rattle.rules.proofs.Searches.{walk-lawful, list-rises, list-holds}
 use Rattle.rules.proofs.Saves.{restore-exactly, restore-saved, save-restored, cut-refused}
 use Rattle.rules.proofs.Sound.{SoundSearch, SoundBytes, search-sound}
-use Rattle.rules.proofs.Stands.{stands-exactly}
 use Rattle.rules.proofs.Tables.{put-front}
 use Rattle.rules.proofs.Ways.{support-counts, support-sequences}
 
@@ -78,27 +75,35 @@ pub record Demand1 : Type 0 where
 -- ---- DEMAND 2: the list
 
 pub record Demand2 : Type 0 where
-  -- the list of a walk holds exactly its good motifs, each once, in letter order
-  pub motifs-of : (W : Walk) (m : ℕ) → List·Memᴰ m (walk.motifs W) ↔ ((m < W .base ^ W .depth) × (spelled W (W .depth) m ≡ true) × (W .good (W .depth) m ≡ true))
-  pub rising : (W : Walk) → Rising (walk.motifs W)
-  -- that of the exact walk those whose support reaches the quorum; and its steps are 4 times the frequent prefixes
-  pub exact-list : (t : Template) (quorum : ℕ) (ss : List (List ℕ)) → SoundTemplate t → walk.motifs (exact t quorum ss) ≡ frequent-motifs t quorum ss
-  pub steps : (t : Template) (quorum : ℕ) (ss : List (List ℕ)) → tries (exact t quorum ss) (size t) ≡ whole-steps t quorum ss
-  pub motifs : (t : Template) (quorum : ℕ) (ss : List (List ℕ)) (m : ℕ)
-      → List·Memᴰ m (frequent-motifs t quorum ss) ↔ ((m < Letter-BASES ^ size t) × (quorum ≤ support (parts-in exactly t (size t) m) ss))
+  -- the list holds exactly the motifs that the kind of search allows and of which as much is counted as the quorum asks, each
+  -- once, in letter order
+  pub motifs : (t : Template) → SoundTemplate t → (quorum : ℕ) (ss : List (List ℕ)) (m : ℕ)
+      → List·Memᴰ m (frequent-motifs t quorum ss) ↔ ((m < base-of t ^ size t) × (permitted t (size t) m ≡ true) × (quorum ≤ counted (profile-of t .tally) (parts t (size t) m) ss))
   pub in-letter-order : (t : Template) (quorum : ℕ) (ss : List (List ℕ)) → Rising (frequent-motifs t quorum ss)
   -- the support is the number of sequences in which the motif occurs
   pub supports : (t : Template) (j m : ℕ) (ss : List (List ℕ)) → support (parts t j m) ss ≡ length (keep (λ s. some? (occurrences (parts t j m) s)) ss)
   pub occurring : (t : Template) → SoundTemplate t → (j m : ℕ) → 1 ≤ j → (s : List ℕ)
       → (some? (occurrences (parts t j m) s) ≡ true) ↔ ((ps : List ℕ) × Occurs (parts t j m) s ps)
-  -- where, read exactly, a part's letters stand if each is the one there
-  pub standing : (w s : List ℕ) (p : ℕ) → StandsBy eqb 0 w s p ↔ Stands w s p
+  -- in which each next start minus the previous start minus the previous length lies in its range
+  pub gaps : (t : Template) (j m i p q : ℕ) → suc i < length (parts t j m)
+      → let c = getD (components t) i none in let d = getD (components t) (suc i) none in
+      Follows (nth (parts t j m) (suc i) .near) (nth (parts t j m) (suc i) .far) p q ↔ Gap (c .length) (d .low) (d .high) p q
+  -- every template asks for an exact search, of which this is, in the paper's words: the list holds exactly the motifs whose
+  -- support reaches the quorum; an occurrence has each letter where it stands; the steps are 4 times the number of frequent
+  -- prefixes of 0 to K - 1 letters
+  pub exact : (t : Template) → profile-of t ≡ exactly
+  pub exact-list : (t : Template) → profile-of t ≡ exactly → SoundTemplate t → (quorum : ℕ) (ss : List (List ℕ)) (m : ℕ)
+      → List·Memᴰ m (frequent-motifs t quorum ss) ↔ ((m < Letter-BASES ^ size t) × (quorum ≤ support (parts t (size t) m) ss))
+  pub exact-occurrence : (t : Template) → profile-of t ≡ exactly → (j m : ℕ) (s ps : List ℕ)
+      → Occurs (parts t j m) s ps ↔ OccursExactly (components t) (spell Letter-BASES j m) s ps
+  pub exact-count : (t : Template) → profile-of t ≡ exactly → (quorum : ℕ) (ss : List (List ℕ))
+      → whole-steps t quorum ss ≡ Letter-BASES * goods (walk-over t quorum ss) (size t)
   -- a leg of a new search that answers ended has listed it whole
   pub one-leg : (letters lengths : List ℕ) (t : Template) (quorum : ℕ) (s : Search) (budget : ℕ) (motifs supports weights : List ℕ)
       → begin-rule letters lengths t quorum ≡ gives s
       → (leg-rule letters lengths s budget motifs supports weights) .told .answer ≡ gives ended
       → let l = leg-rule letters lengths s budget motifs supports weights in let n = l .told .rows in
-      Complete (walk-over t quorum (sequences letters lengths)) (parts t (size t)) (sequences letters lengths) (l .told .steps) (take n (l .motifs)) (take n (l .supports)) (take n (l .weights))
+      Complete t quorum (sequences letters lengths) (l .told .steps) (take n (l .motifs)) (take n (l .supports)) (take n (l .weights))
   -- recovery's list holds every occurrence that respects the gaps, once, in order, and nothing else
   pub recovered : (t : Template) → SoundTemplate t → (ss : List (List ℕ)) (m : ℕ) (row : List ℕ)
       → List·Memᴰ row (whole-list t ss m)
@@ -133,10 +138,10 @@ pub record Demand3 : Type 0 where
   -- the lists of a new search's legs, laid end to end, are demand 2's list once one answers ended, and the steps add up
   pub end-to-end : (letters lengths : List ℕ) (t : Template) (quorum : ℕ) (s : Search) (gs : List Lent) → begin-rule letters lengths t quorum ≡ gives s → Roomy gs
       → (relay letters lengths gs s) .answer ≡ gives ended
-      → let r = relay letters lengths gs s in Complete (walk-over t quorum (sequences letters lengths)) (parts t (size t)) (sequences letters lengths) (r .steps) (r .motifs) (r .supports) (r .weights)
+      → let r = relay letters lengths gs s in Complete t quorum (sequences letters lengths) (r .steps) (r .motifs) (r .supports) (r .weights)
   -- it ends within that many legs, if each has a budget and room of at least one
   pub ends : (letters lengths : List ℕ) (t : Template) (quorum : ℕ) (s : Search) (gs : List Lent) → begin-rule letters lengths t quorum ≡ gives s → Roomy gs → Ample gs
-      → (let W = walk-over t quorum (sequences letters lengths) in tries W (W .depth) ≤ length gs) → (relay letters lengths gs s) .answer ≡ gives ended
+      → whole-steps t quorum (sequences letters lengths) ≤ length gs → (relay letters lengths gs s) .answer ≡ gives ended
   -- nothing on the way is refused
   pub answers : (letters lengths : List ℕ) (t : Template) (quorum : ℕ) (s : Search) (gs : List Lent) → begin-rule letters lengths t quorum ≡ gives s → Roomy gs
       → (a : Stop) × ((relay letters lengths gs s) .answer ≡ gives a)
@@ -198,7 +203,7 @@ one-leg-complete : (letters lengths : List ℕ) (t : Template) (quorum : ℕ) (s
     → begin-rule letters lengths t quorum ≡ gives s
     → (leg-rule letters lengths s budget motifs supports weights) .told .answer ≡ gives ended
     → let l = leg-rule letters lengths s budget motifs supports weights in let n = l .told .rows in
-    Complete (walk-over t quorum (sequences letters lengths)) (parts t (size t)) (sequences letters lengths) (l .told .steps) (take n (l .motifs)) (take n (l .supports)) (take n (l .weights))
+    Complete t quorum (sequences letters lengths) (l .told .steps) (take n (l .motifs)) (take n (l .supports)) (take n (l .weights))
 unfolding relay lent
 one-leg-complete letters lengths t quorum s budget motifs supports weights b e =
     let g : Lent = lent budget motifs supports weights in
@@ -211,21 +216,18 @@ recovered-page fine a c xs out e = (cc, refl)
 recovered-page (refused n p) a c xs out e = (cc, cc)
 
 pub demand2 : Demand2
-unfolding frequent-motifs whole-list recover-rule
+unfolding parts-in whole-list recover-rule
 demand2 =
     record {
-      motifs-of = motifs-are;
-      rising = motifs-rise;
-      exact-list = exact-motifs;
-      steps = exact-tries;
-      motifs = λ t quorum ss m. (
-        λ h. let o = keep-run-out _ 0 (Letter-BASES ^ size t) m h in (omega (arith, o .1), leb-true _ _ (o .2)),
-        λ h. keep-run-in _ 0 (Letter-BASES ^ size t) m (omega arith) (omega (arith, h .0)) (le-leb _ _ (h .1)),
-      );
-      in-letter-order = λ t quorum ss. keep-run-rising _ 0 (Letter-BASES ^ size t);
+      motifs = λ t o quorum ss. list-holds t quorum ss o;
+      in-letter-order = list-rises;
       supports = λ t j m ss. support-sequences (parts t j m) ss;
       occurring = λ t o j m h s. support-counts (parts t j m) s (parts-worded t o j m) (parts-some t o j m h);
-      standing = stands-exactly;
+      gaps = λ t j m i p q. follows-gap (profile-of t .reading) 0 (components t) (spell (base-of t) j m) i p q;
+      exact = exact-search;
+      exact-list = λ t e o quorum ss. exact-motifs t e quorum ss o;
+      exact-occurrence = exact-occurs;
+      exact-count = exact-steps;
       one-leg = one-leg-complete;
       recovered = λ t o ss m row. rows-are (parts t (size t) m) ss (parts-worded t o (size t) m) (parts-some t o (size t) m (size-some t o)) row;
       recovered-in-order = λ t ss m. rows-in-order (parts t (size t) m) ss;

@@ -18,7 +18,7 @@ use Rattle.rules.specs.Recovery.{whole-list}
 use Rattle.rules.specs.Refusals.{refuse-if, bad-byte, bad-length, bad-range, bad-gap, check1, check2, check3, check4, check5, check6, check7, check8, check9, check10, check11, check11-place, check12, passes?, check13, check14, check15, check6-head, check8-range, check16, check17}
 use Rattle.rules.specs.Saved.{sized?, laid-out?, place-rule?}
 use Rattle.rules.specs.Sequences.{sequences}
-use Rattle.rules.specs.Support.{spelt-in}
+use Rattle.rules.specs.Support.{permitted}
 use Rattle.rules.specs.Template.{slots, none, components, size}
 use Rattle.rules.specs.Told.{fine}
 use Rattle.rules.specs.declared.Component.{Component}
@@ -138,11 +138,11 @@ unfolding check13
 check13-fine letters lengths s = wants _ 13 Iff·rfl
 
 -- 14: the number is a motif's
-pub check14-fine : (t : Template) (m : ℕ) → (check14 t m ≡ fine) ↔ ((m < base-of t ^ size t) × (spelt-in t (size t) m ≡ true))
+pub check14-fine : (t : Template) (m : ℕ) → (check14 t m ≡ fine) ↔ ((m < base-of t ^ size t) × (permitted t (size t) m ≡ true))
 unfolding check14
 check14-fine t m =
     says _ 14 (
-      λ e. let h = neither (leb (base-of t ^ size t) m) _ .0 e in (leb-false _ m (h .0), not-false (spelt-in t (size t) m) .0 (h .1)),
+      λ e. let h = neither (leb (base-of t ^ size t) m) _ .0 e in (leb-false _ m (h .0), not-false (permitted t (size t) m) .0 (h .1)),
       λ h. neither _ _ .1 (lt-leb _ m (h .0), not-false _ .1 (h .1)),
     )
 

@@ -1,4 +1,4 @@
--- A whole search takes fewer than 2 ^ 63 steps, so that a 64-bit count of steps never runs over. A frequent prefix is read off
+-- A whole exact search takes fewer than 2 ^ 63 steps, so that a 64-bit count of steps never runs over. A frequent prefix is read off
 -- a sequence at the starts of an occurrence. From one first start on, parts of the same lengths and ranges can be placed in at
 -- most 256 ways for each of at most five later parts, and there are no more first starts than letters, of which there are at
 -- most 65,536: so at most 2 ^ 56 prefixes of each length are frequent. With the empty one, at most 1 + 31 * 2 ^ 56 are shorter
@@ -16,16 +16,17 @@ use Rattle.rules.specs.Limits.{Letter-BASES, SequenceSet-LETTERS}
 use Rattle.rules.specs.Lists.{run, if, each, keep, joined, sum}
 use Rattle.rules.specs.Motif.{number, spell}
 use Rattle.rules.specs.Occurrence.{front, front-by, stands, stands-by, found, reach, starts, occurrences}
-use Rattle.rules.specs.Profile.{exactly}
+use Rattle.rules.specs.Profile.{exactly, profile-of}
 use Rattle.rules.specs.Relay.{whole-steps}
 use Rattle.rules.specs.Sequences.{sequences}
 use Rattle.rules.specs.Sound.{SoundSet, SoundTemplate}
 use Rattle.rules.specs.Support.{support, parts-in, measure, reaches}
 use Rattle.rules.specs.Template.{Part, components, size, deal, cut}
-use Rattle.rules.specs.Walk.{exact, walk-in, goods}
+use Rattle.rules.specs.Walk.{walk-in, goods}
 use Rattle.rules.specs.declared.Component.{Component}
 use Rattle.rules.specs.declared.Template.{Template}
 use Rattle.rules.proofs.Bound.{Near, parts-in-few, parts-in-near, sequences-letters}
+use Rattle.rules.proofs.Exact.{exact-steps}
 use Rattle.rules.proofs.Lengths.{rising-within, each-run, each-times, keep-some}
 use Rattle.rules.proofs.Members.{each-in, each-out, keep-run-out}
 use Rattle.rules.proofs.OccurrenceOrder.{keep-run-rising}
@@ -192,21 +193,21 @@ module _ (t : Template) (quorum : ℕ) (ss : List (List ℕ)) (sound : SoundTemp
           Memᴰ·cast (sym is) (Memᴰ·map (number Letter-BASES) (support-read t (suc j) m deep ss (omega (arith, leb-true quorum _ (r .2)))))
 
   -- the empty prefix, and those of 1 to k letters
-  goods-few : (k : ℕ) → k ≤ size t → goods (exact t quorum ss) (suc k) ≤ 1 + k * 2 ^ 56
+  goods-few : (k : ℕ) → k ≤ size t → goods (walk-in exactly t quorum ss) (suc k) ≤ 1 + k * 2 ^ 56
   unfolding goods walk-in reaches measure exactly keep run
   goods-few zero h = omega arith
   goods-few (suc k) h = omega (arith, goods-few k (omega arith), level-few k h)
 
-  steps-few : whole-steps t quorum ss < 2 ^ 63
-  unfolding whole-steps
+  steps-few : Letter-BASES * goods (walk-in exactly t quorum ss) (size t) < 2 ^ 63
   steps-few = go (size t) refl
     where
-      go : (k : ℕ) → size t ≡ k → Letter-BASES * goods (exact t quorum ss) (size t) < 2 ^ 63
+      go : (k : ℕ) → size t ≡ k → Letter-BASES * goods (walk-in exactly t quorum ss) (size t) < 2 ^ 63
       go zero e = absurd (omega (arith, size-some t sound))
       go (suc k) e = rw e (omega (arith, goods-few k (omega arith), sound .deep))
 
 -- a whole search takes fewer than 2 ^ 63 steps
-pub whole-steps-few : (t : Template) (quorum : ℕ) (letters lengths : List ℕ) → SoundTemplate t → SoundSet letters lengths → 1 ≤ quorum
+pub whole-steps-few : (t : Template) → profile-of t ≡ exactly → (quorum : ℕ) (letters lengths : List ℕ) → SoundTemplate t → SoundSet letters lengths → 1 ≤ quorum
     → whole-steps t quorum (sequences letters lengths) < 2 ^ 63
-whole-steps-few t quorum letters lengths sound set some =
-    steps-few t quorum (sequences letters lengths) sound some (omega (arith, sequences-letters letters lengths set, set .short))
+whole-steps-few t e quorum letters lengths sound set some =
+    rw (exact-steps t e quorum (sequences letters lengths), e)
+    (steps-few t quorum (sequences letters lengths) sound some (omega (arith, sequences-letters letters lengths set, set .short)))

@@ -16,7 +16,6 @@ pub mod Prefix
 pub mod Repeats
 pub mod Lengths
 pub mod Bound
-pub mod Few
 pub mod Step
 pub mod Whole
 pub mod Legs
@@ -25,13 +24,13 @@ pub mod Plain
 pub mod Relay
 pub mod Passing
 pub mod Profiles
-pub mod Demanded
+pub mod WalkDemands
+pub mod Searches
 pub mod Lower
 pub mod Verdicts
 pub mod EachCheck
 pub mod LaidOut
 pub mod Sound
-pub mod Wide
 pub mod Trimmed
 pub mod LowFirst
 pub mod Records
@@ -43,6 +42,9 @@ pub mod Places
 pub mod Begins
 pub mod Relayed
 pub mod Completes
+pub mod Exact
+pub mod Few
 pub mod StepsSoFar
+pub mod Wide
 pub mod OneAnswer
 pub mod Demands

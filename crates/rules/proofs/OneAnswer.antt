@@ -6,7 +6,7 @@ use Prim.Native.Nat.{ℕ, _-_}
 use lib.ListN.{getD}
 use Rattle.rules.specs.Calls.{begin-rule, LegRule, leg-rule, Written, save-rule, restore-rule, recover-rule, join-rule}
 use Rattle.rules.specs.Legs.{Stop, ended, spent, full}
-use Rattle.rules.specs.Told.{number, place, Told, gives, refuses, Counts, toldBegun, toldAnswer, toldLeg, toldSaved, toldRecovered, toldJoined}
+use Rattle.rules.specs.Told.{refusal-number, refusal-place, Told, gives, refuses, Counts, toldBegun, toldAnswer, toldLeg, toldSaved, toldRecovered, toldJoined}
 use Rattle.rules.specs.declared.Begun.{Begun}
 use Rattle.rules.specs.declared.Begun.the-variants as begun
 use Rattle.rules.specs.declared.Joined.{Joined}
@@ -51,7 +51,7 @@ named n p =
     (n - 1)
     Room
 
-named-told : (r : Refusal) → named (number r) (place r) ≡ r
+named-told : (r : Refusal) → named (refusal-number r) (refusal-place r) ≡ r
 unfolding named
 named-told SequenceCount = refl
 named-told LetterCount = refl
@@ -82,7 +82,7 @@ one : {A B : Type 0} (tell : A → B) (back : B → A) → ((a : A) → back (te
 one tell back h a b e = sym (h a) ∙ ap back e ∙ h b
 
 -- refusals with the same number and place are the same, and so is each answer of which the same is told
-pub same-refusal : (q r : Refusal) → number q ≡ number r → place q ≡ place r → q ≡ r
+pub same-refusal : (q r : Refusal) → refusal-number q ≡ refusal-number r → refusal-place q ≡ refusal-place r → q ≡ r
 same-refusal q r e f = sym (named-told q) ∙ rw (e, f) (named-told r)
 
 pub same-begun : (a b : Begun) → toldBegun a ≡ toldBegun b → a ≡ b

@@ -15,6 +15,7 @@ use Rattle.rules.specs.Saved.{place-rule?}
 use Rattle.rules.specs.Motif.{spell}
 use Rattle.rules.specs.Sequences.{sequences}
 use Rattle.rules.specs.Sound.{SoundTemplate}
+use Rattle.rules.specs.Support.{allowed-in}
 use Rattle.rules.specs.Template.{size}
 use Rattle.rules.specs.Walk.{place, ended-place, walk-in, walk-over, candidate}
 pub use Rattle.rules.specs.Walk.{walk-of}
@@ -23,7 +24,8 @@ use Rattle.rules.specs.declared.Search.{Search}
 use Rattle.rules.specs.declared.Template.{Template}
 use Rattle.rules.proofs.Candidates.{candidate-may}
 use Rattle.rules.proofs.Passing.{Passing}
-use Rattle.rules.proofs.Profiles.{allowed-nil, walk-lawful}
+use Rattle.rules.proofs.Profiles.{allowed-nil}
+use Rattle.rules.proofs.Searches.{walk-lawful}
 use Rattle.rules.proofs.Sound.{SoundSearch}
 use Rattle.rules.proofs.Tests.{both, or-cases, or-true}
 
@@ -32,7 +34,7 @@ same-place p q a b = λ i. record { letters = a i; number = b i }
 
 -- the place rule holds wherever the search passes
 pub passing-rule : (t : Template) (quorum : ℕ) (ss : List (List ℕ)) → SoundTemplate t → (p : Place) → Passing (walk-over t quorum ss) p → place-rule? t p ≡ true
-unfolding place-rule? walk-in spell
+unfolding place-rule? walk-in allowed-in spell
 passing-rule t quorum ss o p (inl e) = rw (e, le-leb 0 (size t) (omega arith), pow-zero, allowed-nil)
 passing-rule t quorum ss o p (inr c) = both _ _ .1 (le-leb (p .letters) (size t) (c .most), both _ _ .1 (lt-ltb (p .number) _ (c .below), candidate-may (walk-over t quorum ss) (walk-lawful t quorum ss o) p c))
 

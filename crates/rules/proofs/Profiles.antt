@@ -14,9 +14,9 @@ use Rattle.rules.specs.Lists.{if, keep, all?, sum}
 use Rattle.rules.specs.Motif.{spell}
 use Rattle.rules.specs.Profile.{Tally, by-sequence, by-occurrence, Profile, Proper, allowed, to-come, exactly, profile-of, repeated, substituted, within, mixed}
 use Rattle.rules.specs.Sound.{SoundTemplate}
-use Rattle.rules.specs.Support.{tallied, reaches, parts-in, measure, support, occurrence-rows}
+use Rattle.rules.specs.Support.{counted, tallied, allowed-in, reaches, parts-in, measure}
 use Rattle.rules.specs.Template.{Part, Reading, components, size, deal}
-use Rattle.rules.specs.Walk.{walk-in, Lawful, exact, walk-over, spelled}
+use Rattle.rules.specs.Walk.{walk-in, Lawful, walk-over, spelled}
 use Rattle.rules.specs.declared.Component.{Component}
 use Rattle.rules.specs.declared.Template.{Template}
 use Rattle.rules.proofs.Components.{components-some}
@@ -84,8 +84,8 @@ module _ (P : Profile) (proper : Proper P) where
       good-anti o zero m e = refl
       good-anti o (suc j) m e = le-leb quorum _ (omega (arith, leb-true quorum _ e, measure-antitone o ss (suc j) m (omega arith)))
 
-      first-may : allowed (P .allows) (components t) (spell (P .base) 1 0) ≡ true
-      unfolding spell
+      first-may : allowed-in P t 1 0 ≡ true
+      unfolding allowed-in spell
       first-may = rw (pow-zero, div-one, mod-eq-of-lt (proper .pos)) (allowed-first (components t))
 
       -- EVERY PROFILE walks lawfully
@@ -94,8 +94,8 @@ module _ (P : Profile) (proper : Proper P) where
       lawful-in o = record { pos = proper .pos; deep = size-some t o; first = first-may; root = refl; anti = good-anti o }
 
       -- and a prefix whose last letter may follow is one whose letters all may
-      pub spelled-in : (j m : ℕ) → spelled (walk-in P t quorum ss) (suc j) m ≡ allowed (P .allows) (components t) (spell (P .base) (suc j) m)
-      unfolding walk-in spelled
+      pub spelled-in : (j m : ℕ) → spelled (walk-in P t quorum ss) (suc j) m ≡ allowed-in P t (suc j) m
+      unfolding walk-in spelled allowed-in
       spelled-in zero m = go (allowed (P .allows) (components t) (spell (P .base) 1 m))
         where
           go : (b : Bool) → b && true ≡ b
@@ -106,6 +106,25 @@ module _ (P : Profile) (proper : Proper P) where
           go : (a b : Bool) → (a ≡ true → b ≡ true) → a && b ≡ a
           go true b h = h refl
           go false b h = refl
+
+-- ---- whole motifs
+
+tallied-one : (a : Tally) (cs : List Part) (ss : List (List ℕ)) → tallied a cs 1 ss ≡ counted a cs ss
+tallied-one by-sequence cs ss = refl
+tallied-one by-occurrence cs ss = omega arith
+
+-- a motif has no gap to come: it is good exactly if what is counted of it reaches the quorum
+pub good-whole : (P : Profile) (t : Template) → SoundTemplate t → (quorum : ℕ) (ss : List (List ℕ)) (m : ℕ)
+    → reaches (measure P t ss) quorum (size t) m ≡ leb quorum (counted (P .tally) (parts-in P t (size t) m) ss)
+unfolding size
+good-whole P t o quorum ss m = go (size t) refl (size-some t o)
+  where
+    go : (k : ℕ) → size t ≡ k → 1 ≤ k → reaches (measure P t ss) quorum k m ≡ leb quorum (counted (P .tally) (parts-in P t k m) ss)
+    go zero e h = absurd (omega arith)
+    go (suc k) e h = good-at k (none-to-come (components t) (spell (P .base) (suc k) m) (components-some o) (e ∙ sym (length-spell (P .base) (suc k) m)))
+      where
+        good-at : (k : ℕ) → to-come (components t) (spell (P .base) (suc k) m) ≡ 1 → reaches (measure P t ss) quorum (suc k) m ≡ leb quorum (counted (P .tally) (parts-in P t (suc k) m) ss)
+        good-at k z = unfold reaches measure in rw z (ap (leb quorum) (tallied-one (P .tally) _ ss))
 
 -- ---- THE PROFILES
 
@@ -139,60 +158,3 @@ mixed-proper several = record {
     let l : length (keep (leb Letter-BASES) w) ≤ several c = omega (arith, leb-true _ (several c) (h .1), ap length (keep-append (leb Letter-BASES) w (y ∷ [])), length-append (keep (leb Letter-BASES) w) (keep (leb Letter-BASES) (y ∷ []))) in
     both _ _ .1 (all-less _ w (y ∷ []) (h .0), le-leb _ (several c) l);
 }
-
-whole-size : (t : Template) → sum (map (λ c. c .length) (components t)) ≡ size t
-unfolding size
-whole-size t = refl
-
-reaches-one : (f : ℕ → ℕ → ℕ) (quorum k m n : ℕ) → f (suc k) m ≡ n → reaches f quorum (suc k) m ≡ leb quorum n
-unfolding reaches
-reaches-one f quorum k m n e = ap (leb quorum) e
-
-measure-one : (t : Template) (ss : List (List ℕ)) (k m : ℕ) → to-come (components t) (spell Letter-BASES k m) ≡ 1
-    → measure repeated t ss k m ≡ length (occurrence-rows (parts-in repeated t k m) ss)
-unfolding measure repeated
-measure-one t ss k m z = rw z (omega arith)
-
--- ---- the exact search as one of them
-
-pub allowed-all : (cs : List Component) (w : List ℕ) → allowed (λ c w. true) cs w ≡ true
-unfolding allowed
-allowed-all [] w = refl
-allowed-all (c ∷ cs) [] = refl
-allowed-all (c ∷ cs) (x ∷ w) = allowed-all cs (drop (c .length) (x ∷ w))
-
--- each letter may follow any
-pub exact-plain : (t : Template) (quorum : ℕ) (ss : List (List ℕ)) (j m : ℕ) → (exact t quorum ss) .may j m ≡ true
-unfolding walk-in exactly
-exact-plain t quorum ss j m = allowed-all (components t) (spell Letter-BASES j m)
-
--- there are letters
-pub exact-pos : (t : Template) (quorum : ℕ) (ss : List (List ℕ)) → 1 ≤ (exact t quorum ss) .base
-unfolding walk-in exactly
-exact-pos t quorum ss = omega arith
-
--- and the repeated search: a motif is listed exactly if its occurrences reach the quorum
-pub repeated-good : (t : Template) → SoundTemplate t → (quorum : ℕ) (ss : List (List ℕ)) (m : ℕ)
-    → (walk-in repeated t quorum ss) .good (size t) m ≡ leb quorum (length (occurrence-rows (parts-in repeated t (size t) m) ss))
-unfolding walk-in measure repeated
-repeated-good t o quorum ss m = go (size t) refl (size-some t o)
-  where
-    go : (k : ℕ) → size t ≡ k → 1 ≤ k → reaches (measure repeated t ss) quorum k m ≡ leb quorum (length (occurrence-rows (parts-in repeated t k m) ss))
-    go zero e h = absurd (omega arith)
-    go (suc k) e h = last k (none-to-come (components t) (spell Letter-BASES (suc k) m) (components-some o) (whole-size t ∙ e ∙ sym (length-spell Letter-BASES (suc k) m)))
-      where
-        last : (k : ℕ) → to-come (components t) (spell Letter-BASES (suc k) m) ≡ 1
-            → reaches (measure repeated t ss) quorum (suc k) m ≡ leb quorum (length (occurrence-rows (parts-in repeated t (suc k) m) ss))
-        last k z = reaches-one (measure repeated t ss) quorum k m _ (measure-one t ss (suc k) m z)
-
--- THE PROFILE of every template is proper, so the walk of every search is lawful
-pub profile-proper : (t : Template) → Proper (profile-of t)
-unfolding profile-of
-profile-proper t = exactly-proper
-
-pub walk-pos : (t : Template) (quorum : ℕ) (ss : List (List ℕ)) → 1 ≤ (walk-over t quorum ss) .base
-unfolding walk-in
-walk-pos t quorum ss = profile-proper t .pos
-
-pub walk-lawful : (t : Template) (quorum : ℕ) (ss : List (List ℕ)) → SoundTemplate t → Lawful (walk-over t quorum ss)
-walk-lawful t quorum ss o = lawful-in (profile-of t) (profile-proper t) t quorum ss o

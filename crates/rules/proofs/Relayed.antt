@@ -21,7 +21,7 @@ use Rattle.rules.specs.declared.Place.{Place}
 use Rattle.rules.specs.declared.Search.{Search}
 use Rattle.rules.proofs.Passing.{Passing, passing-leg}
 use Rattle.rules.proofs.Places.{sound-passing, moved-sound}
-use Rattle.rules.proofs.Profiles.{walk-lawful}
+use Rattle.rules.proofs.Searches.{walk-lawful}
 use Rattle.rules.proofs.Records.{bytes-counted}
 use Rattle.rules.proofs.Saves.{restore-saved}
 use Rattle.rules.proofs.Sound.{SoundSearch, search-fine, save-fine}

@@ -19,7 +19,7 @@ use Rattle.rules.specs.declared.Component.{Component}
 use Rattle.rules.specs.declared.Place.{Place}
 use Rattle.rules.specs.declared.Search.{Search}
 use Rattle.rules.proofs.LowFirst.{Bytes, read-written}
-use Rattle.rules.proofs.Profiles.{profile-proper}
+use Rattle.rules.proofs.Searches.{profile-proper}
 use Rattle.rules.proofs.Tests.{both}
 use Rattle.rules.proofs.Components.{components-length, components-at}
 use Rattle.rules.proofs.Records.{All, all-at, all-joined, records-are, bytes-counted, size-at, component-at, place-at}

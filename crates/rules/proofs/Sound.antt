@@ -14,12 +14,12 @@ use Rattle.rules.specs.Refusals.{first, check5, check6, check7, check8, 
 use Rattle.rules.specs.Saved.{bytes, sized?, laid-out?, place-rule?, read-search}
 use Rattle.rules.specs.Sequences.{sequences}
 use Rattle.rules.specs.Sound.{SoundSet, SoundTemplate}
-use Rattle.rules.specs.Support.{spelt-in}
+use Rattle.rules.specs.Support.{permitted}
 use Rattle.rules.specs.Template.{size}
 use Rattle.rules.specs.Told.{Verdict, fine}
 use Rattle.rules.specs.declared.Search.{Search}
 use Rattle.rules.specs.declared.Template.{Template}
-use Rattle.rules.proofs.Profiles.{profile-proper}
+use Rattle.rules.proofs.Searches.{profile-proper}
 use Rattle.rules.proofs.EachCheck.{check1-fine, check2-fine, check3-fine, check4-fine, check5-fine, check6-fine, check7-fine, check8-fine, check9-fine, check10-fine, check11-fine, check11-place-fine, check12-fine, check13-fine, check14-fine, check15-fine, check6-head-fine, check8-range-fine, check16-fine, check17-fine}
 use Rattle.rules.proofs.LaidOut.{laid-out-says}
 use Rattle.rules.proofs.Verdicts.{first-both, none-of, Fine, all-fine}
@@ -114,7 +114,7 @@ pub record SoundRecovery (letters lengths : List ℕ) (t : Template) (m f : ℕ)
   pub set : SoundSet letters lengths
   pub template : SoundTemplate t
   pub motif : m < base-of t ^ size t
-  pub spelt : spelt-in t (size t) m ≡ true
+  pub spelt : permitted t (size t) m ≡ true
   pub row : f ≤ length (whole-list t (sequences letters lengths) m)
 
 -- what a join passes

@@ -10,7 +10,7 @@ use borrow.Author.Tests.{le-leb}
 use Rattle.rules.specs.Lists.{if}
 use Rattle.rules.specs.Sound.{SoundTemplate}
 use Rattle.rules.specs.Profile.{Profile, profile-of}
-use Rattle.rules.specs.Support.{parts, parts-in, measure}
+use Rattle.rules.specs.Support.{allowed-in, parts, parts-in, measure}
 use Rattle.rules.specs.Template.{none, slots, components, size, kept, trimmed}
 use Rattle.rules.specs.declared.Component.{Component}
 use Rattle.rules.specs.declared.Template.{Template}
@@ -66,6 +66,10 @@ trimmed-profile t = refl
 pub trimmed-parts : (t : Template) (j m : ℕ) → parts (trimmed t) j m ≡ parts t j m
 unfolding parts-in
 trimmed-parts t j m = rw (trimmed-profile t, trimmed-components t)
+
+pub trimmed-allowed : (P : Profile) (t : Template) → allowed-in P (trimmed t) ≡ allowed-in P t
+unfolding allowed-in
+trimmed-allowed P t = fun-ext (λ j. fun-ext (λ m. rw (trimmed-components t)))
 
 pub trimmed-measure : (P : Profile) (t : Template) (ss : List (List ℕ)) → measure P (trimmed t) ss ≡ measure P t ss
 unfolding measure parts-in

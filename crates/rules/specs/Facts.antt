@@ -15,11 +15,11 @@ use Rattle.rules.specs.Recovery.{whole-list, page}
 use Rattle.rules.specs.Refusals.{_else_, first, first-bad, check1, check2, check3, check4, check5, check6, check7, check8, check9, check10, check11, check11-place, check12, passes?, check13, check14, check15, check6-head, check8-range, check16, check17, new-checks, restore-checks, search-checks, save-checks, recover-checks, join-checks}
 use Rattle.rules.specs.Saved.{low-first, read-low, size-record, component-record, place-record, component-records, records, bytes, record-at, field, record-count, component-count, read-component, read-place, read-template, read-search, sized?, blank?, size-record?, component-record?, place-record?, component-records?, place-rule?, laid-out?}
 use Rattle.rules.specs.Sequences.{split, sequences}
-use Rattle.rules.specs.Support.{marks, support, firsts, weight, rows-from, occurrence-rows, parts-in, measure, reaches}
+use Rattle.rules.specs.Support.{marks, support, firsts, weight, rows-from, occurrence-rows, allowed-in, parts-in, measure, reaches}
 use Rattle.rules.specs.Template.{component, none, components, size, trimmed, deal, cut}
 use Rattle.rules.specs.Text as text
 use Rattle.rules.specs.Told.{Told, gives, refuses, Counts}
-use Rattle.rules.specs.Walk.{place, first-place, ended-place, exact, walk-in, children, later, under, onward, from, up, next, start, motif, listed, spelled, candidate}
+use Rattle.rules.specs.Walk.{place, first-place, ended-place, walk-in, walk-over, children, later, under, onward, from, up, next, start, motif, listed, spelled, candidate}
 use Rattle.rules.specs.declared.Place.{Place}
 use Rattle.rules.specs.declared.Search.{Search}
 use Rattle.rules.specs.declared.Template.{Template}
@@ -33,14 +33,14 @@ abbrev pub is : List ℕ → List ℕ → Fact
 is a b = record { computed = a; paper = b }
 
 -- E: ACGTA, CAGGT, AT
-letters : List ℕ
+unfoldable pub letters : List ℕ
 letters = 65 ∷ 67 ∷ 71 ∷ 84 ∷ 65 ∷ 67 ∷ 65 ∷ 71 ∷ 71 ∷ 84 ∷ 65 ∷ 84 ∷ []
 
-lengths : List ℕ
+unfoldable pub lengths : List ℕ
 lengths = 5 ∷ 5 ∷ 2 ∷ []
 
 -- N[0,1]N
-pair : Template
+unfoldable pub pair : Template
 pair = record { count = 2; c1 = component 1 0 0; c2 = component 1 0 1; c3 = none; c4 = none; c5 = none; c6 = none }
 
 -- the motifs AA, AG and AT under it, in E or in AAA
@@ -128,8 +128,8 @@ facts =
     ∷ is ((join-rule (1 ∷ 4 ∷ []) (3 ∷ 5 ∷ []) 1 0 1 (9 ∷ 9 ∷ [])) .out) (1 ∷ 4 ∷ [])
     ∷ is ((join-rule (1 ∷ 4 ∷ []) (3 ∷ 5 ∷ []) 1 0 0 (9 ∷ 9 ∷ [])) .out) (4 ∷ 9 ∷ [])
     -- p8: after infrequent AT comes C; after TT the search has ended
-    ∷ is (let p = next (exact pair 2 (sequences letters lengths)) (place 2 3) in p .letters ∷ p .number ∷ []) (1 ∷ 1 ∷ [])
-    ∷ is (let p = next (exact pair 2 (sequences letters lengths)) (place 2 15) in p .letters ∷ p .number ∷ []) (0 ∷ 0 ∷ [])
+    ∷ is (let p = next (walk-over pair 2 (sequences letters lengths)) (place 2 3) in p .letters ∷ p .number ∷ []) (1 ∷ 1 ∷ [])
+    ∷ is (let p = next (walk-over pair 2 (sequences letters lengths)) (place 2 15) in p .letters ∷ p .number ∷ []) (0 ∷ 0 ∷ [])
     -- p9: E, quorum 2, after 4 steps: the save is 64 bytes; its size record; its place record
     ∷ is (length saved ∷ []) (64 ∷ [])
     ∷ is (take 16 saved) (0x01 ∷ 0x04 ∷ 0x02 ∷ 0x00 ∷ 0x03 ∷ 0x00 ∷ 0x02 ∷ 0x00 ∷ 0x0C ∷ 0x00 ∷ 0x00 ∷ 0x00 ∷ 0x00 ∷ 0x00 ∷ 0x00 ∷ 0x00 ∷ [])
@@ -146,5 +146,5 @@ facts =
     ∷ []
 
 the-facts : map (λ f. f .computed) facts ≡ map (λ f. f .paper) facts
-unfolding facts letters lengths pair AA AG CG GT AT in-E search-told counts-told number-told at run-leg whole saved moved-to-CA input printout run keep each joined some? all? member? sum put value letter? letter split sequences components size trimmed deal number spell front-by stands-by reach starts occurrences marks support firsts weight rows-from occurrence-rows allowed to-come exactly profile-of parts-in measure reaches walk-in children later under onward from up next start motif listed spelled candidate leg low-first read-low size-record component-record place-record component-records records bytes record-at field record-count component-count read-component read-place read-template read-search sized? blank? size-record? component-record? place-record? component-records? place-rule? laid-out? partners partnered rising? whole-list page _else_ first first-bad check1 check2 check3 check4 check5 check6 check7 check8 check9 check10 check11 check11-place check12 passes? check13 check14 check15 check6-head check8-range check16 check17 new-checks restore-checks search-checks save-checks recover-checks join-checks begun begin-rule stretch supports-of weights-of leg-rule save-rule restore-rule recover-rule join-rule text.pieces text.parse-number text.run? text.parse-component text.parse-first text.parse-rest text.parse-components text.template-of text.but-last text.last text.lines text.unended text.text-checks text.parse-template text.parse-quorum text.parse-letters text.parse-lengths text.digits-of text.decimal text.shape-rest text.shape text.print-row text.print-end text.print-refused text.print-search text.print-rule
+unfolding facts letters lengths pair AA AG CG GT AT in-E search-told counts-told number-told at run-leg whole saved moved-to-CA input printout run keep each joined some? all? member? sum put value letter? letter split sequences components size trimmed deal number spell front-by stands-by reach starts occurrences marks support firsts weight rows-from occurrence-rows allowed to-come exactly profile-of allowed-in parts-in measure reaches walk-in children later under onward from up next start motif listed spelled candidate leg low-first read-low size-record component-record place-record component-records records bytes record-at field record-count component-count read-component read-place read-template read-search sized? blank? size-record? component-record? place-record? component-records? place-rule? laid-out? partners partnered rising? whole-list page _else_ first first-bad check1 check2 check3 check4 check5 check6 check7 check8 check9 check10 check11 check11-place check12 passes? check13 check14 check15 check6-head check8-range check16 check17 new-checks restore-checks search-checks save-checks recover-checks join-checks begun begin-rule stretch supports-of weights-of leg-rule save-rule restore-rule recover-rule join-rule text.pieces text.parse-number text.run? text.parse-component text.parse-first text.parse-rest text.parse-components text.template-of text.but-last text.last text.lines text.unended text.text-checks text.parse-template text.parse-quorum text.parse-letters text.parse-lengths text.digits-of text.decimal text.shape-rest text.shape text.print-row text.print-end text.print-refused text.print-search text.print-rule
 the-facts = refl

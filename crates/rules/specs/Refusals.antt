@@ -12,7 +12,7 @@ use Rattle.rules.specs.Profile.{profile-of, base-of}
 use Rattle.rules.specs.Recovery.{whole-list}
 use Rattle.rules.specs.Saved.{bytes, sized?, laid-out?, place-rule?, read-search}
 use Rattle.rules.specs.Sequences.{sequences}
-use Rattle.rules.specs.Support.{spelt-in}
+use Rattle.rules.specs.Support.{permitted}
 use Rattle.rules.specs.Template.{components, size}
 use Rattle.rules.specs.Told.{Verdict, fine, refused}
 use Rattle.rules.specs.Walk.{walk-of, candidate}
@@ -112,7 +112,7 @@ check13 letters lengths s = refuse-if (not (passes? letters lengths s)) 13
 
 -- a recovery:
 unfoldable pub check14 : Template → ℕ → Verdict
-check14 t m = refuse-if (leb (base-of t ^ size t) m || not (spelt-in t (size t) m)) 14
+check14 t m = refuse-if (leb (base-of t ^ size t) m || not (permitted t (size t) m)) 14
 
 unfoldable pub check15 : List ℕ → List ℕ → Template → ℕ → ℕ → Verdict
 check15 letters lengths t m f = refuse-if (ltb (length (whole-list t (sequences letters lengths) m)) f) 15

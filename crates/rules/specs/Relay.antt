@@ -2,37 +2,41 @@
 -- and what the user asks that it comes to.
 use mathlib.Core.List.{List, [], _∷_, _++_, map}
 use mathlib.Core.Path.{_≡_}
-use Prim.Native.Nat.{ℕ, _+_, _*_, _^_, _≤_}
-use lib.Dec.{eqb, leb}
+use Prim.Native.Nat.{ℕ, _+_, _*_, _≤_}
+use lib.Dec.{eqb}
 use lib.ListN.{length, take}
 use Rattle.rules.specs.Calls.{LegRule, leg-rule, save-rule, restore-rule}
 use Rattle.rules.specs.Legs.{Stop, ended, spent, full}
-use Rattle.rules.specs.Limits.{Letter-BASES, Record-BYTES, Record-EXTRA, Template-COMPONENTS}
-use Rattle.rules.specs.Lists.{run, if, keep}
-use Rattle.rules.specs.Profile.{exactly}
-use Rattle.rules.specs.Support.{support, weight, parts-in}
-use Rattle.rules.specs.Template.{Part, size}
+use Rattle.rules.specs.Limits.{Record-BYTES, Record-EXTRA, Template-COMPONENTS}
+use Rattle.rules.specs.Lists.{if}
+use Rattle.rules.specs.Support.{support, weight, parts}
+use Rattle.rules.specs.Template.{size}
 use Rattle.rules.specs.Told.{Told, gives, refuses}
 use Rattle.rules.specs.Walk as walk
-use Rattle.rules.specs.Walk.{Walk, exact, goods}
+use Rattle.rules.specs.Walk.{walk-over}
 use Rattle.rules.specs.declared.Search.{Search}
 use Rattle.rules.specs.declared.Template.{Template}
 
--- THE LIST: the motifs of a walk, in letter order, with the supports and weighted supports of their parts cs; and THE COUNT of its
--- candidates. Rows and steps that are those:
-pub record Complete (W : Walk) (cs : ℕ → List Part) (ss : List (List ℕ)) (steps : ℕ) (motifs supports weights : List ℕ) : Type 0 where
-  pub motifs-are : motifs ≡ walk.motifs W
-  pub supports-are : supports ≡ map (λ m. support (cs m) ss) (walk.motifs W)
-  pub weights-are : weights ≡ map (λ m. weight (cs m) ss) (walk.motifs W)
-  pub steps-are : steps ≡ walk.tries W (W .depth)
-
--- what these come to in the exact search: the motifs whose support reaches the quorum, and 4 times the number of frequent
--- prefixes of 0 to K - 1 letters
+-- THE LIST: the motifs of the search's walk, in letter order, with their supports and weighted supports
 unfoldable pub frequent-motifs : Template → ℕ → List (List ℕ) → List ℕ
-frequent-motifs t quorum ss = keep (λ m. leb quorum (support (parts-in exactly t (size t) m) ss)) (run 0 (Letter-BASES ^ size t))
+frequent-motifs t quorum ss = walk.motifs (walk-over t quorum ss)
 
+unfoldable pub their-supports : Template → ℕ → List (List ℕ) → List ℕ
+their-supports t quorum ss = map (λ m. support (parts t (size t) m) ss) (frequent-motifs t quorum ss)
+
+unfoldable pub their-weights : Template → ℕ → List (List ℕ) → List ℕ
+their-weights t quorum ss = map (λ m. weight (parts t (size t) m) ss) (frequent-motifs t quorum ss)
+
+-- THE COUNT: the candidates of the walk, which have 1 to K letters
 unfoldable pub whole-steps : Template → ℕ → List (List ℕ) → ℕ
-whole-steps t quorum ss = Letter-BASES * goods (exact t quorum ss) (size t)
+whole-steps t quorum ss = walk.tries (walk-over t quorum ss) (size t)
+
+-- rows and steps that are those
+pub record Complete (t : Template) (quorum : ℕ) (ss : List (List ℕ)) (steps : ℕ) (motifs supports weights : List ℕ) : Type 0 where
+  pub motifs-are : motifs ≡ frequent-motifs t quorum ss
+  pub supports-are : supports ≡ their-supports t quorum ss
+  pub weights-are : weights ≡ their-weights t quorum ss
+  pub steps-are : steps ≡ whole-steps t quorum ss
 
 -- what a leg is lent: its budget, its three tables, and a buffer for the save after it
 pub record Lent : Type 0 where

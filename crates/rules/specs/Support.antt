@@ -7,7 +7,7 @@ use lib.ListN.{length}
 use Rattle.rules.specs.Lists.{run, keep, some?, sum}
 use Rattle.rules.specs.Motif.{spell}
 use Rattle.rules.specs.Occurrence.{starts, occurrences}
-use Rattle.rules.specs.Profile.{Tally, by-sequence, by-occurrence, Profile, profile-of, base-of, allowed, to-come}
+use Rattle.rules.specs.Profile.{Tally, by-sequence, by-occurrence, Profile, profile-of, allowed, to-come}
 use Rattle.rules.specs.Template.{Part, components, deal}
 use Rattle.rules.specs.declared.Template.{Template}
 
@@ -36,28 +36,38 @@ rows-from i cs (s ∷ ss) = map (λ t. i ∷ t) (occurrences cs s) ++ rows-from 
 unfoldable pub occurrence-rows : List Part → List (List ℕ) → List (List ℕ)
 occurrence-rows cs ss = rows-from 1 cs ss
 
--- what some letters come to: the sequences in which they occur; or their occurrences times the spans still to come
-abbrev pub tallied : Tally → List Part → ℕ → List (List ℕ) → ℕ
-tallied by-sequence cs n ss = support cs ss
-tallied by-occurrence cs n ss = length (occurrence-rows cs ss) * n
+-- what is counted of a motif: the sequences in which it occurs, or its occurrences
+abbrev pub counted : Tally → List Part → List (List ℕ) → ℕ
+counted by-sequence cs ss = support cs ss
+counted by-occurrence cs ss = length (occurrence-rows cs ss)
 
+-- what a prefix may come to if the gaps still to come have n spans: a sequence is one still, an occurrence may go on in n ways
+abbrev pub tallied : Tally → List Part → ℕ → List (List ℕ) → ℕ
+tallied by-sequence cs n ss = counted by-sequence cs ss
+tallied by-occurrence cs n ss = counted by-occurrence cs ss * n
+
+-- A SEARCH of a profile, over a template
 module _ (P : Profile) (t : Template) where
-  -- the parts of a motif, or of a prefix of j letters, with the number m
+  -- the letters of a motif, or of a prefix of j letters, with the number m are allowed
+  unfoldable pub allowed-in : ℕ → ℕ → Bool
+  allowed-in j m = allowed (P .allows) (components t) (spell (P .base) j m)
+
+  -- its parts
   unfoldable pub parts-in : ℕ → ℕ → List Part
   parts-in j m = deal (P .reading) 0 (components t) (spell (P .base) j m)
 
-  -- what it comes to
+  -- what it may come to
   unfoldable pub measure : List (List ℕ) → ℕ → ℕ → ℕ
   measure ss j m = tallied (P .tally) (parts-in j m) (to-come (components t) (spell (P .base) j m)) ss
 
--- a prefix is good if what it comes to reaches the quorum; the empty one always is
+-- a prefix is good if what it may come to reaches the quorum; the empty one always is
 unfoldable pub reaches : (ℕ → ℕ → ℕ) → ℕ → ℕ → ℕ → Bool
 reaches f quorum zero m = true
 reaches f quorum (suc j) m = leb quorum (f (suc j) m)
 
--- the same of a template, by its own profile; and whether the letters of a prefix are allowed
-abbrev pub spelt-in : Template → ℕ → ℕ → Bool
-spelt-in t j m = allowed (profile-of t .allows) (components t) (spell (base-of t) j m)
+-- the same of a template, by the profile that it asks for
+abbrev pub permitted : Template → ℕ → ℕ → Bool
+permitted t j m = allowed-in (profile-of t) t j m
 
 abbrev pub parts : Template → ℕ → ℕ → List Part
 parts t j m = parts-in (profile-of t) t j m

@@ -19,46 +19,46 @@ use Rattle.rules.specs.declared.Saved.the-variants as saved
 use Rattle.rules.specs.declared.Search.{Search}
 
 -- the number of a refusal
-abbrev pub number : Refusal → ℕ
-number SequenceCount = 1
-number LetterCount = 2
-number LengthSum = 3
-number (NotALetter o) = 4
-number ComponentCount = 5
-number (ComponentLength i) = 6
-number MotifLength = 7
-number (GapRange i) = 8
-number Quorum = 9
-number SavedSize = 10
-number SavedLayout = 11
-number OtherSet = 12
-number NotACandidate = 13
-number MotifNumber = 14
-number FirstRow = 15
-number JoinList = 16
-number Room = 17
-number (TextLine n) = 18
+abbrev pub refusal-number : Refusal → ℕ
+refusal-number SequenceCount = 1
+refusal-number LetterCount = 2
+refusal-number LengthSum = 3
+refusal-number (NotALetter o) = 4
+refusal-number ComponentCount = 5
+refusal-number (ComponentLength i) = 6
+refusal-number MotifLength = 7
+refusal-number (GapRange i) = 8
+refusal-number Quorum = 9
+refusal-number SavedSize = 10
+refusal-number SavedLayout = 11
+refusal-number OtherSet = 12
+refusal-number NotACandidate = 13
+refusal-number MotifNumber = 14
+refusal-number FirstRow = 15
+refusal-number JoinList = 16
+refusal-number Room = 17
+refusal-number (TextLine n) = 18
 
 -- the place that it tells: the offset of the byte, the number of the component, the number of the line, and else 0
-abbrev pub place : Refusal → ℕ
-place SequenceCount = 0
-place LetterCount = 0
-place LengthSum = 0
-place (NotALetter o) = o .0
-place ComponentCount = 0
-place (ComponentLength i) = i
-place MotifLength = 0
-place (GapRange i) = i
-place Quorum = 0
-place SavedSize = 0
-place SavedLayout = 0
-place OtherSet = 0
-place NotACandidate = 0
-place MotifNumber = 0
-place FirstRow = 0
-place JoinList = 0
-place Room = 0
-place (TextLine n) = n
+abbrev pub refusal-place : Refusal → ℕ
+refusal-place SequenceCount = 0
+refusal-place LetterCount = 0
+refusal-place LengthSum = 0
+refusal-place (NotALetter o) = o .0
+refusal-place ComponentCount = 0
+refusal-place (ComponentLength i) = i
+refusal-place MotifLength = 0
+refusal-place (GapRange i) = i
+refusal-place Quorum = 0
+refusal-place SavedSize = 0
+refusal-place SavedLayout = 0
+refusal-place OtherSet = 0
+refusal-place NotACandidate = 0
+refusal-place MotifNumber = 0
+refusal-place FirstRow = 0
+refusal-place JoinList = 0
+refusal-place Room = 0
+refusal-place (TextLine n) = n
 
 -- what a check finds: nothing, or a refusal's number and place
 pub data Verdict : Type 0 where
@@ -84,29 +84,29 @@ pub record LegTold : Type 0 where
 
 abbrev pub toldChecked : Checked → Verdict
 toldChecked checked.Fine = fine
-toldChecked (checked.Refused r) = refused (number r) (place r)
+toldChecked (checked.Refused r) = refused (refusal-number r) (refusal-place r)
 
 abbrev pub toldBegun : Begun → Told Search
 toldBegun (begun.Search s) = gives s
-toldBegun (begun.Refused r) = refuses (number r) (place r)
+toldBegun (begun.Refused r) = refuses (refusal-number r) (refusal-place r)
 
 abbrev pub toldAnswer : LegAnswer → Told Stop
 toldAnswer answer.Ended = gives ended
 toldAnswer answer.Spent = gives spent
 toldAnswer answer.Full = gives full
-toldAnswer (answer.Refused r) = refuses (number r) (place r)
+toldAnswer (answer.Refused r) = refuses (refusal-number r) (refusal-place r)
 
 abbrev pub toldLeg : Leg → LegTold
 toldLeg l = record { answer = toldAnswer (l .answer); steps = l .steps; rows = l .rows; search = l .search }
 
 abbrev pub toldSaved : Saved → Told ℕ
 toldSaved (saved.Bytes n) = gives n
-toldSaved (saved.Refused r) = refuses (number r) (place r)
+toldSaved (saved.Refused r) = refuses (refusal-number r) (refusal-place r)
 
 abbrev pub toldRecovered : Recovered → Told Counts
 toldRecovered (recovered.Rows n l) = gives (record { rows = n; length = l })
-toldRecovered (recovered.Refused r) = refuses (number r) (place r)
+toldRecovered (recovered.Refused r) = refuses (refusal-number r) (refusal-place r)
 
 abbrev pub toldJoined : Joined → Told ℕ
 toldJoined (joined.Kept n) = gives n
-toldJoined (joined.Refused r) = refuses (number r) (place r)
+toldJoined (joined.Refused r) = refuses (refusal-number r) (refusal-place r)

@@ -7,11 +7,10 @@ use Prim.Native.Nat.{ℕ, zero, suc, _+_, _-_, _*_, _/_, _%_, _^_, _≤_}
 use lib.Dec.{ltb, eqb}
 use lib.ListN.{length}
 use Rattle.rules.specs.Lists.{run, if, keep, each}
-use Rattle.rules.specs.Motif.{spell}
-use Rattle.rules.specs.Profile.{Profile, allowed, exactly, profile-of}
+use Rattle.rules.specs.Profile.{Profile, profile-of}
 use Rattle.rules.specs.Sequences.{sequences}
-use Rattle.rules.specs.Support.{measure, reaches}
-use Rattle.rules.specs.Template.{components, size}
+use Rattle.rules.specs.Support.{allowed-in, measure, reaches}
+use Rattle.rules.specs.Template.{size}
 use Rattle.rules.specs.declared.Place.{Place}
 use Rattle.rules.specs.declared.Search.{Search}
 use Rattle.rules.specs.declared.Template.{Template}
@@ -40,18 +39,9 @@ pub record Walk : Type 0 where
 
 -- the walk of a profile over a template
 unfoldable pub walk-in : Profile → Template → ℕ → List (List ℕ) → Walk
-walk-in P t quorum ss =
-    record {
-      base = P .base;
-      may = λ j m. allowed (P .allows) (components t) (spell (P .base) j m);
-      good = reaches (measure P t ss) quorum;
-      depth = size t;
-    }
+walk-in P t quorum ss = record { base = P .base; may = allowed-in P t; good = reaches (measure P t ss) quorum; depth = size t }
 
-abbrev pub exact : Template → ℕ → List (List ℕ) → Walk
-exact t quorum ss = walk-in exactly t quorum ss
-
--- THE WALK of what a template and a quorum ask of some sequences, and of a search over a lent set
+-- THE WALK of what a template and a quorum ask of some sequences; and that of a search over a lent set
 abbrev pub walk-over : Template → ℕ → List (List ℕ) → Walk
 walk-over t quorum ss = walk-in (profile-of t) t quorum ss
 

@@ -2,15 +2,14 @@
 ghost use mathlib.Core.Path.{_≡_};
 ghost use Rattle.rules.specs.Lists.{if};
 ghost use Rattle.rules.specs.Refusals.{_else_};
-ghost use Rattle.rules.specs.Told as told;
-ghost use Rattle.rules.specs.Told.{fine, refused, number, toldChecked};
+ghost use Rattle.rules.specs.Told.{fine, refused, refusal-number, refusal-place, toldChecked};
 use crate::Checked;
 use crate::Refusal;
 
 impl Refusal {
     // Its number in the paper.
     pub fn number(self) -> u64
-        ensures { λ r. ⌜ r ≡ number self ⌝ }
+        ensures { λ r. ⌜ r ≡ refusal-number self ⌝ }
     {
         match self {
             Refusal::SequenceCount => 1,
@@ -36,7 +35,7 @@ impl Refusal {
 
     // The place that it tells, and 0 where it tells none.
     pub fn place(self) -> u64
-        ensures { λ r. ⌜ r ≡ told.place self ⌝ }
+        ensures { λ r. ⌜ r ≡ refusal-place self ⌝ }
     {
         match self {
             Refusal::SequenceCount => 0,
@@ -64,7 +63,7 @@ impl Refusal {
 impl Checked {
     // A refusal where a test says so.
     pub fn refuse_if(bad: bool, why: Refusal) -> Checked
-        ensures { λ r. ⌜ toldChecked r ≡ if bad (refused (number why) (told.place why)) fine ⌝ }
+        ensures { λ r. ⌜ toldChecked r ≡ if bad (refused (refusal-number why) (refusal-place why)) fine ⌝ }
     {
         if bad {
             Checked::Refused(why)

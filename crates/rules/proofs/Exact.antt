@@ -1,0 +1,95 @@
+-- What is so of an exact search, in document 01's words: four letters, each of which stands for itself and may follow any; the
+-- list is that of the motifs whose support reaches the quorum, and the steps are four for each frequent prefix.
+use mathlib.Core.Path.{_≡_, refl, ap, _∙_}
+use mathlib.Core.Logic.{_↔_}
+use mathlib.Core.Bool.{Bool, true, _&&_}
+use mathlib.Core.List.{List, [], _∷_, List·Memᴰ}
+use Prim.Native.Nat.{ℕ, suc, _*_, _^_, _≤_, _<_}
+use native.Mathlib.Omega.{arith}
+use lib.Dec.{leb, ltb}
+use lib.ListN.{drop}
+use borrow.Author.Tests.{leb-true, le-leb}
+use Rattle.rules.specs.Limits.{Letter-BASES, Template-LETTERS}
+use Rattle.rules.specs.Motif.{spell}
+use Rattle.rules.specs.Occurrence.{Occurs, OccursExactly}
+use Rattle.rules.specs.Profile.{allowed, exactly, profile-of, base-of}
+use Rattle.rules.specs.Relay.{frequent-motifs, whole-steps}
+use Rattle.rules.specs.Saved.{place-rule?}
+use Rattle.rules.specs.Sound.{SoundTemplate}
+use Rattle.rules.specs.Support.{support, counted, parts, parts-in, allowed-in, permitted, measure, reaches, frequent}
+use Rattle.rules.specs.Template.{Part, components, size, cut}
+use Rattle.rules.specs.Walk.{Walk, walk-in, walk-over, goods}
+use Rattle.rules.specs.declared.Component.{Component}
+use Rattle.rules.specs.declared.Place.{Place}
+use Rattle.rules.specs.declared.Template.{Template}
+use Rattle.rules.proofs.Exactly.{occurs-exactly}
+use Rattle.rules.proofs.Plain.{tries-plain}
+use Rattle.rules.proofs.Searches.{list-holds}
+use Rattle.rules.proofs.Tests.{and-true}
+
+-- EVERY TEMPLATE asks for an exact search, today
+pub exact-search : (t : Template) → profile-of t ≡ exactly
+unfolding profile-of
+exact-search t = refl
+
+allowed-all : (cs : List Component) (w : List ℕ) → allowed (λ c w. true) cs w ≡ true
+unfolding allowed
+allowed-all [] w = refl
+allowed-all (c ∷ cs) [] = refl
+allowed-all (c ∷ cs) (x ∷ w) = allowed-all cs (drop (c .length) (x ∷ w))
+
+module _ (t : Template) (e : profile-of t ≡ exactly) where
+  pub exact-base : base-of t ≡ Letter-BASES
+  unfolding exactly
+  exact-base = ap (λ P. P .base) e
+
+  pub exact-most : profile-of t .most ≡ Template-LETTERS
+  unfolding exactly
+  exact-most = ap (λ P. P .most) e
+
+  pub exact-parts : (j m : ℕ) → parts t j m ≡ cut 0 (components t) (spell Letter-BASES j m)
+  unfolding parts-in exactly
+  exact-parts j m = rw e
+
+  -- every letter is allowed
+  pub exact-permitted : (j m : ℕ) → permitted t j m ≡ true
+  unfolding allowed-in exactly
+  exact-permitted j m = rw e (allowed-all (components t) (spell Letter-BASES j m))
+
+  -- so the place rule is one of numbers
+  pub exact-place : (p : Place) → place-rule? t p ≡ leb (p .letters) (size t) && ltb (p .number) (Letter-BASES ^ p .letters)
+  unfolding place-rule?
+  exact-place p = rw (exact-permitted (p .letters) (p .number), exact-base) (ap (λ b. leb (p .letters) (size t) && b) (and-true _))
+
+  -- sequences are counted
+  pub exact-counted : (cs : List Part) (ss : List (List ℕ)) → counted (profile-of t .tally) cs ss ≡ support cs ss
+  unfolding exactly
+  exact-counted cs ss = ap (λ P. counted (P .tally) cs ss) e
+
+  -- an occurrence is the paper's
+  pub exact-occurs : (j m : ℕ) (s ps : List ℕ) → Occurs (parts t j m) s ps ↔ OccursExactly (components t) (spell Letter-BASES j m) s ps
+  exact-occurs j m s ps = rw (exact-parts j m) (occurs-exactly (components t) (spell Letter-BASES j m) s ps)
+
+  module _ (quorum : ℕ) (ss : List (List ℕ)) where
+    pub exact-may : (j m : ℕ) → (walk-over t quorum ss) .may j m ≡ true
+    unfolding walk-in
+    exact-may j m = exact-permitted j m
+
+    -- a prefix with a letter is frequent by its support
+    pub exact-frequent : (j m : ℕ) → frequent t quorum ss (suc j) m ≡ leb quorum (support (parts t (suc j) m) ss)
+    unfolding reaches measure exactly
+    exact-frequent j m = rw e
+
+    -- the list: the motifs whose support reaches the quorum
+    pub exact-motifs : SoundTemplate t → (m : ℕ) → List·Memᴰ m (frequent-motifs t quorum ss) ↔ ((m < Letter-BASES ^ size t) × (quorum ≤ support (parts t (size t) m) ss))
+    exact-motifs o m =
+        let h = list-holds t quorum ss o m in
+        let c = exact-counted (parts t (size t) m) ss in (
+          λ k. let r = h .0 k in (rw exact-base at (r .0), omega (arith, r .2)),
+          λ k. h .1 (rw exact-base (k .0), exact-permitted (size t) m, omega (arith, k .1)),
+        )
+
+    -- the count: four for each frequent prefix shorter than a motif
+    pub exact-steps : whole-steps t quorum ss ≡ Letter-BASES * goods (walk-over t quorum ss) (size t)
+    unfolding whole-steps walk-in
+    exact-steps = tries-plain (walk-over t quorum ss) exact-may (size t) ∙ ap (λ b. b * goods (walk-over t quorum ss) (size t)) exact-base

@@ -1,0 +1,90 @@
+-- DEMANDS 2 AND 3 OF EVERY WALK that is lawful, proved once; and so of every kind of search, by its profile.
+use mathlib.Core.Path.{_≡_}
+use mathlib.Core.Logic.{_⊎_, _↔_}
+use mathlib.Core.Bool.{true}
+use mathlib.Core.List.{List, List·Memᴰ}
+use Prim.Native.Nat.{ℕ, zero, suc, _≤_, _<_, _^_}
+use native.Mathlib.Omega.{arith}
+use lib.ListN.{length}
+use borrow.Author.Tests.{leb-true, le-leb}
+use Rattle.rules.specs.Legs.{ended, Grant, leg, legs}
+use Rattle.rules.specs.Order.{Rising}
+use Rattle.rules.specs.Profile.{Profile, Proper}
+use Rattle.rules.specs.Sound.{SoundTemplate}
+use Rattle.rules.specs.Support.{counted, allowed-in, parts-in}
+use Rattle.rules.specs.Template.{size}
+use Rattle.rules.specs.Walk.{walk-in, Walk, Lawful, ended-place, from, start, listed, spelled, motifs, tries}
+use Rattle.rules.specs.declared.Place.{Place}
+use Rattle.rules.specs.declared.Template.{Template}
+use Rattle.rules.proofs.Legs.{Ample, Passed, leg-law}
+use Rattle.rules.proofs.Members.{keep-run-in, keep-run-out}
+use Rattle.rules.proofs.OccurrenceOrder.{keep-run-rising}
+use Rattle.rules.proofs.Passing.{Passing, passing-leg, passing-from, from-passing}
+use Rattle.rules.proofs.Prefix.{size-some}
+use Rattle.rules.proofs.Profiles.{lawful-in, spelled-in, good-whole}
+use Rattle.rules.proofs.Relay.{all-listed, all-tried, legs-enough}
+use Rattle.rules.proofs.Tests.{both}
+use Rattle.rules.proofs.Whole.{lists, tried}
+
+pub record WalkDemands (W : Walk) : Type 0 where
+  -- 2: the list holds exactly the good motifs, each once, in letter order; the search lists it in as many steps as there are
+  -- candidates
+  pub holds : (m : ℕ) → List·Memᴰ m (motifs W) ↔ ((m < W .base ^ W .depth) × (spelled W (W .depth) m ≡ true) × (W .good (W .depth) m ≡ true))
+  pub rises : Rising (motifs W)
+  pub lists-it : listed W (from W (start W)) ≡ motifs W
+  pub steps : length (from W (start W)) ≡ tries W (W .depth)
+  -- 3: legs laid end to end are that list once one answers ended; they end; and each passes what lies between its places
+  pub end-to-end : (gs : List Grant) → (legs W gs (start W)) .stop ≡ ended → ((legs W gs (start W)) .motifs ≡ motifs W) × ((legs W gs (start W)) .steps ≡ tries W (W .depth))
+  pub ends : (gs : List Grant) → Ample gs → tries W (W .depth) ≤ length gs → (legs W gs (start W)) .stop ≡ ended
+  pub between : (b r : ℕ) (p : Place) → p .letters ≤ W .depth → Passed W p (leg W b r p)
+  -- a place that the search passes through is a candidate or the ended place, and a leg leads from one to another
+  pub through : (p : Place) → Passing W p ↔ ((p ≡ ended-place) ⊎ List·Memᴰ p (from W (start W)))
+  pub leads : (b r : ℕ) (p : Place) → Passing W p → Passing W ((leg W b r p) .at)
+
+-- the list of any walk
+motifs-are : (W : Walk) (m : ℕ) → List·Memᴰ m (motifs W) ↔ ((m < W .base ^ W .depth) × (spelled W (W .depth) m ≡ true) × (W .good (W .depth) m ≡ true))
+unfolding motifs
+motifs-are W m = (
+  λ h. let o = keep-run-out _ 0 (W .base ^ W .depth) m h in (omega (arith, o .1), both (spelled W (W .depth) m) _ .0 (o .2) .0, both (spelled W (W .depth) m) _ .0 (o .2) .1),
+  λ h. keep-run-in _ 0 (W .base ^ W .depth) m (omega arith) (omega (arith, h .0)) (both _ _ .1 (h .1, h .2)),
+)
+
+pub motifs-rise : (W : Walk) → Rising (motifs W)
+unfolding motifs
+motifs-rise W = keep-run-rising _ 0 (W .base ^ W .depth)
+
+pub walk-demands : (W : Walk) → Lawful W → WalkDemands W
+walk-demands W L =
+    record {
+      holds = motifs-are W;
+      rises = motifs-rise W;
+      lists-it = lists W L;
+      steps = tried W L;
+      end-to-end = λ gs e. (all-listed W L gs e, all-tried W L gs e);
+      ends = legs-enough W L;
+      between = leg-law W (L .pos);
+      through = λ p. (passing-from W L p, from-passing W L p);
+      leads = passing-leg W L;
+    }
+
+-- ---- every kind of search
+
+module _ (P : Profile) (proper : Proper P) (t : Template) (sound : SoundTemplate t) (quorum : ℕ) (ss : List (List ℕ)) where
+  pub profile-demands : WalkDemands (walk-in P t quorum ss)
+  profile-demands = walk-demands (walk-in P t quorum ss) (lawful-in P proper t quorum ss sound)
+
+  spelled-whole : (k m : ℕ) → 1 ≤ k → spelled (walk-in P t quorum ss) k m ≡ allowed-in P t k m
+  spelled-whole zero m h = absurd (omega arith)
+  spelled-whole (suc k) m h = spelled-in P proper t quorum ss k m
+
+  -- its list: the motifs whose letters are allowed and of which enough is counted
+  pub profile-list : (m : ℕ) → List·Memᴰ m (motifs (walk-in P t quorum ss))
+      ↔ ((m < P .base ^ size t) × (allowed-in P t (size t) m ≡ true) × (quorum ≤ counted (P .tally) (parts-in P t (size t) m) ss))
+  unfolding walk-in
+  profile-list m =
+      let is = motifs-are (walk-in P t quorum ss) m in
+      let s = spelled-whole (size t) m (size-some t sound) in
+      let g = good-whole P t sound quorum ss m in (
+        λ h. let o = is .0 h in (o .0, rw s at (o .1), leb-true quorum _ (rw g at (o .2))),
+        λ h. is .1 (h .0, rw s (h .1), rw g (le-leb quorum _ (h .2))),
+      )
