@@ -47,14 +47,14 @@ unfolding keep some?
 some-none f [] h = refl
 some-none f (x ∷ xs) h = rw (h zero (omega arith)) (some-none f xs (λ i l. h (suc i) (omega arith)))
 
--- the reach of a position: after a head and a gap of the range, and no other
-reach-in : (n low high p q : ℕ) → p + n + low ≤ q → q ≤ p + n + high → member? q (reach n low high p) ≡ true
+-- the reach of a position: near to far positions on, and no other
+reach-in : (near far p q : ℕ) → p + near ≤ q → q ≤ p + far → member? q (reach near far p) ≡ true
 unfolding reach
-reach-in n low high p q l h = run-in q (p + n + low) (high + 1 - low) l (omega arith)
+reach-in near far p q l h = run-in q (p + near) (far + 1 - near) l (omega arith)
 
-reach-out : (n low high p q : ℕ) → (p + n + low ≤ q → q ≤ p + n + high → ⊥) → member? q (reach n low high p) ≡ false
+reach-out : (near far p q : ℕ) → (p + near ≤ q → q ≤ p + far → ⊥) → member? q (reach near far p) ≡ false
 unfolding reach
-reach-out n low high p q h = run-out q (p + n + low) (high + 1 - low) (λ l k. h l (omega arith))
+reach-out near far p q h = run-out q (p + near) (far + 1 - near) (λ l k. h l (omega arith))
 
 module _ (ys : List ℕ) (head low high p j : ℕ) where
   -- the first that is not before the reach of a position tells whether that has a partner
@@ -62,17 +62,17 @@ module _ (ys : List ℕ) (head low high p j : ℕ) where
   unfolding partners within?
   first-decides r t = go (ltb j (length ys)) (leb (getD ys j 0) (p + head + high)) refl refl
     where
-      none : ((k : ℕ) → k < length ys → p + head + low ≤ getD ys k 0 → getD ys k 0 ≤ p + head + high → ⊥) → some? (keep (λ q. member? q (reach head low high p)) ys) ≡ false
-      none h = some-none _ ys (λ k l. reach-out head low high p (getD ys k 0) (h k l))
+      none : ((k : ℕ) → k < length ys → p + head + low ≤ getD ys k 0 → getD ys k 0 ≤ p + head + high → ⊥) → some? (keep (λ q. member? q (reach (head + low) (head + high) p)) ys) ≡ false
+      none h = some-none _ ys (λ k l. reach-out (head + low) (head + high) p (getD ys k 0) (λ a b. h k l (omega arith) (omega arith)))
 
       past : (b : Bool) → (k : ℕ) → ltb k j ≡ b → p + head + high < getD ys j 0 → k < length ys → p + head + low ≤ getD ys k 0 → getD ys k 0 ≤ p + head + high → ⊥
       past true k e h l a b = omega (arith, t .before k (ltb-true k j e))
       past false k e h l a b = omega (arith, rising-order 0 ys r j k (ltb-false k j e) l)
 
-      go : (b c : Bool) → ltb j (length ys) ≡ b → leb (getD ys j 0) (p + head + high) ≡ c → some? (keep (λ q. member? q (reach head low high p)) ys) ≡ (b && c)
+      go : (b c : Bool) → ltb j (length ys) ≡ b → leb (getD ys j 0) (p + head + high) ≡ c → some? (keep (λ q. member? q (reach (head + low) (head + high) p)) ys) ≡ (b && c)
       go true true u v =
           let l = ltb-true j (length ys) u in
-          some-at _ ys j l (reach-in head low high p (getD ys j 0) (t .next l) (leb-true _ _ v))
+          some-at _ ys j l (reach-in (head + low) (head + high) p (getD ys j 0) (omega (arith, t .next l)) (omega (arith, leb-true (getD ys j 0) (p + head + high) v)))
       go true false u v = none (λ k l. past (ltb k j) k refl (leb-false _ _ v) l)
       go false c u v = none (λ k l a b. omega (arith, t .before k (omega (arith, ltb-false j (length ys) u))))
 
@@ -94,4 +94,4 @@ pub no-later-partner : (xs : List ℕ) (i : ℕ) (ys : List ℕ) (j head low hig
     → (m : ℕ) → i ≤ m → m < length xs → partner? (take j ys) head low high (getD xs m 0) ≡ false
 unfolding partners
 no-later-partner xs i ys j head low high p h m l k =
-    some-none _ (take j ys) (λ n z. let b : n < j = rw (length-take-le j ys h) at z in rw (getD-take j ys n 0 b) (reach-out head low high (getD xs m 0) (getD ys n 0) (λ a e. omega (arith, p .before m l k n b))))
+    some-none _ (take j ys) (λ n z. let b : n < j = rw (length-take-le j ys h) at z in rw (getD-take j ys n 0 b) (reach-out (head + low) (head + high) (getD xs m 0) (getD ys n 0) (λ a e. omega (arith, p .before m l k n b))))

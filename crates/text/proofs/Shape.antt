@@ -5,16 +5,17 @@ use Prim.Native.Nat.{ℕ, zero, suc, _+_, _-_, _*_, _≤_, _<_}
 use native.Mathlib.Numerals.{add-one}
 use native.Mathlib.Omega.{arith}
 use lib.ListN.{length, take, drop, getD, length-append}
-use Rattle.rules.specs.Profile.{profile-of, exactly}
+use lib.Seq.{length-take-le}
 use Rattle.rules.specs.Lists.{sum}
 use Rattle.rules.specs.Motif.{spell}
 use Rattle.rules.specs.Sound.{SoundTemplate, SoundComponent}
-use Rattle.rules.specs.Support.{parts-in, parts}
+use Rattle.rules.specs.Support.{parts}
 use Rattle.rules.specs.Template.{deal, part, slots, none, components, size, cut}
 use Rattle.rules.specs.Text.{decimal, shape, shape-rest}
 use Rattle.rules.specs.declared.Component.{Component}
 use Rattle.rules.specs.declared.Template.{Template}
 use Rattle.rules.proofs.Components.{components-more, components-none, cut-some}
+use Rattle.rules.proofs.Exact.{exact-search, exact-parts}
 use Rattle.rules.proofs.Spelling.{length-spell, spell-drop}
 use Rattle.text.specs.Printed.{Wrote, pair, letters, ranged-word, size-from, shape-from}
 use Rattle.text.proofs.Decimal.{decimal-short}
@@ -23,9 +24,23 @@ use Rattle.text.proofs.Letters.{length-letters}
 
 -- a component takes its letters off the front
 cut-more : (c : Component) (cs : List Component) (j m : ℕ) → 1 ≤ c .length
-    → cut (c ∷ cs) (spell 4 (c .length + j) m) ≡ part (c .low) (c .high) (take (c .length) (spell 4 (c .length + j) m)) ∷ cut cs (spell 4 j m)
+    → cut 0 (c ∷ cs) (spell 4 (c .length + j) m) ≡ part (0 + c .low) (0 + c .high) (take (c .length) (spell 4 (c .length + j) m)) ∷ cut (c .length) cs (spell 4 j m)
 cut-more c cs j m h =
-    cut-some c cs (spell 4 (c .length + j) m) (rw length-spell (omega arith)) ∙ rw (spell-drop 4 (c .length) j m)
+    cut-some 0 c cs (spell 4 (c .length + j) m) (rw length-spell (omega arith)) ∙ rw (spell-drop 4 (c .length) j m)
+
+-- and has so many
+first-letters : (c : Component) (j m : ℕ) → length (take (c .length) (spell 4 (c .length + j) m)) ≡ c .length
+first-letters c j m = length-take-le (c .length) _ (rw length-spell (omega arith))
+
+-- a range is printed as it is, however many letters stand before it
+as-it-is : (n x : ℕ) → n + x - n ≡ x
+as-it-is n x = omega arith
+
+shape-after : (n : ℕ) (cs : List Component) (w : List ℕ) → shape-rest n (cut n cs w) ≡ shape-rest 0 (cut 0 cs w)
+unfolding shape-rest deal
+shape-after n [] w = refl
+shape-after n (c ∷ cs) [] = refl
+shape-after n (c ∷ cs) (x ∷ w) = rw (as-it-is n (c .low), as-it-is n (c .high), as-it-is 0 (c .low), as-it-is 0 (c .high))
 
 ranged-is : (c : Component) (w rest : List ℕ)
     → 91 ∷ decimal (c .low) ++ 44 ∷ decimal (c .high) ++ 93 ∷ w ++ rest ≡ (pair 91 (c .low) 44 (c .high) 93 ++ w) ++ rest
@@ -38,9 +53,9 @@ unfolding ranged-word
 length-ranged c j m h = rw (length-append, length-letters (c .length) j m h)
 
 shape-first : (c : Component) {cs rest : List Component} (j m : ℕ) → cs ≡ c ∷ rest → 1 ≤ c .length
-    → shape (cut cs (spell 4 (c .length + j) m)) ≡ letters (c .length) (c .length + j) m ++ shape-rest (cut rest (spell 4 j m))
+    → shape (cut 0 cs (spell 4 (c .length + j) m)) ≡ letters (c .length) (c .length + j) m ++ shape-rest 0 (cut 0 rest (spell 4 j m))
 unfolding shape letters
-shape-first c {cs} {rest} j m e h = rw (e, cut-more c rest j m h)
+shape-first c {cs} {rest} j m e h = rw (e, cut-more c rest j m h, first-letters c j m, shape-after (c .length) rest (spell 4 j m))
 
 module _ (t : Template) (S : SoundTemplate t) where
   from-more : (i : ℕ) {c : Component} → i < t .count → c ≡ getD (slots t) i none → drop i (components t) ≡ c ∷ drop (i + 1) (components t)
@@ -68,7 +83,8 @@ module _ (t : Template) (S : SoundTemplate t) where
       → shape-from t i m ≡ ranged-word c (size-from t i) m ++ shape-from t (i + 1) m
   unfolding shape-from shape-rest ranged-word letters
   shape-from-more i m {c} h e =
-      rw (from-more i h e, size-from-more i h e, cut-more c (drop (i + 1) (components t)) (size-from t (i + 1)) m (sound i h e .some))
+      let j = size-from t (i + 1) in let rest = drop (i + 1) (components t) in
+      rw (from-more i h e, size-from-more i h e, cut-more c rest j m (sound i h e .some), first-letters c j m, shape-after (c .length) rest (spell 4 j m), as-it-is 0 (c .low), as-it-is 0 (c .high))
       (ranged-is c _ _)
 
   -- past the last component nothing is printed
@@ -82,9 +98,9 @@ module _ (t : Template) (S : SoundTemplate t) where
 
   -- a motif's shape is the first component's letters and the shape of the others
   pub shape-is : (m : ℕ) → shape (parts t (size t) m) ≡ letters (t .c1 .length) (size t) m ++ shape-from t 1 m
-  unfolding parts-in profile-of exactly shape-from
+  unfolding shape-from
   shape-is m =
-      rw size-is (shape-first (t .c1) (size-from t 1) m (from-more 0 (S .some) refl) (S .each 0 (S .some) .some))
+      rw (exact-parts t (exact-search t) (size t) m, size-is) (shape-first (t .c1) (size-from t 1) m (from-more 0 (S .some) refl) (S .each 0 (S .some) .some))
 
   -- no more than nine bytes for each gap range
   ranged-short : (i j m : ℕ) {c : Component} → i < t .count → c ≡ getD (slots t) i none → c .length ≤ j → length (ranged-word c j m) ≤ 9 + c .length
