@@ -1,19 +1,15 @@
 -- A new search run in legs, with a save and a restore between them, lists exactly the motifs of its walk: the walk's
 -- laws, read of the search that begins.
-use mathlib.Core.Path.{_≡_, refl, sym, ap, _∙_, fun-ext}
+use mathlib.Core.Path.{_≡_, sym, ap, _∙_, fun-ext}
 use mathlib.Core.List.{List, [], _∷_, map}
-use Prim.Native.Nat.{ℕ, zero, suc, _^_, _≤_}
+use Prim.Native.Nat.{ℕ, _≤_}
 use native.Mathlib.Omega.{arith}
 use lib.ListN.{length, length-map}
-use lib.Dec.{leb}
 use Rattle.rules.specs.Calls.{begun, motif-parts, supports-of, weights-of, begin-rule}
 use Rattle.rules.specs.Legs.{Stop, ended, Stretch, legs}
-use Rattle.rules.specs.Limits.{Letter-BASES}
-use Rattle.rules.specs.Profile.{exactly}
 use Rattle.rules.specs.Relay.{frequent-motifs, their-supports, their-weights, whole-steps, Complete, Lent, Roomy, Ample, relay}
 use Rattle.rules.specs.Sequences.{sequences}
-use Rattle.rules.specs.Sound.{SoundTemplate}
-use Rattle.rules.specs.Support.{support, weight, parts, parts-in, measure, reaches}
+use Rattle.rules.specs.Support.{support, weight, parts}
 use Rattle.rules.specs.Template.{Part, size}
 use Rattle.rules.specs.Told.{gives}
 use Rattle.rules.specs.Walk.{Walk, Lawful, walk-in, walk-over, start, motifs, tries}
@@ -22,9 +18,6 @@ use Rattle.rules.specs.declared.Template.{Template}
 use Rattle.rules.proofs.Begins.{Beginning, begins}
 use Rattle.rules.proofs.Candidates.{start-first}
 use Rattle.rules.proofs.Legs as walked
-use Rattle.rules.proofs.Lists.{keep-same}
-use Rattle.rules.proofs.Plain.{motifs-plain, tries-plain}
-use Rattle.rules.proofs.Prefix.{size-some}
 use Rattle.rules.proofs.Searches.{walk-lawful}
 use Rattle.rules.proofs.Relay.{all-listed, all-tried, legs-enough}
 use Rattle.rules.proofs.Relayed.{granted, rows-of, relay-legs}

@@ -2,13 +2,12 @@
 -- list is that of the motifs whose support reaches the quorum, and the steps are four for each frequent prefix.
 use mathlib.Core.Path.{_≡_, refl, ap, _∙_}
 use mathlib.Core.Logic.{_↔_}
-use mathlib.Core.Bool.{Bool, true, _&&_}
+use mathlib.Core.Bool.{true, _&&_}
 use mathlib.Core.List.{List, [], _∷_, List·Memᴰ}
 use Prim.Native.Nat.{ℕ, suc, _*_, _^_, _≤_, _<_}
 use native.Mathlib.Omega.{arith}
 use lib.Dec.{leb, ltb}
 use lib.ListN.{drop}
-use borrow.Author.Tests.{leb-true, le-leb}
 use Rattle.rules.specs.Limits.{Letter-BASES, Template-LETTERS}
 use Rattle.rules.specs.Motif.{spell}
 use Rattle.rules.specs.Occurrence.{Occurs, OccursExactly}
@@ -18,7 +17,7 @@ use Rattle.rules.specs.Saved.{place-rule?}
 use Rattle.rules.specs.Sound.{SoundTemplate}
 use Rattle.rules.specs.Support.{support, counted, parts, parts-in, allowed-in, permitted, measure, reaches, frequent}
 use Rattle.rules.specs.Template.{Part, components, size, cut}
-use Rattle.rules.specs.Walk.{Walk, walk-in, walk-over, goods}
+use Rattle.rules.specs.Walk.{walk-in, walk-over, goods}
 use Rattle.rules.specs.declared.Component.{Component}
 use Rattle.rules.specs.declared.Place.{Place}
 use Rattle.rules.specs.declared.Template.{Template}

@@ -3,7 +3,7 @@
 use mathlib.Core.Path.{_≡_, refl}
 use mathlib.Core.Logic.{_↔_}
 use mathlib.Core.List.{List, [], _∷_}
-use Prim.Native.Nat.{ℕ, zero, suc, _+_, _≤_, _<_}
+use Prim.Native.Nat.{ℕ, zero, suc, _+_, _<_}
 use native.Mathlib.Omega.{arith}
 use lib.ListN.{length, drop, getD}
 use Rattle.rules.specs.Occurrence.{nth, Found, Follows, Occurs, Stands, Gap, OccursExactly}
@@ -11,21 +11,21 @@ use Rattle.rules.specs.Template.{Reading, none, deal, cut}
 use Rattle.rules.specs.declared.Component.{Component}
 use Rattle.rules.proofs.Stands.{stands-exactly}
 
--- the distances of part i, if the one before has n letters
-pub record Distances (R : Reading) (n : ℕ) (c : Component) (near far : ℕ) : Type 0 where
-  pub least : near ≡ n + c .low
-  pub most : far ≡ n + c .high
+-- the distances of a component's part, if the one before has n letters
+record Distances (n : ℕ) (c : Component) (near far : ℕ) : Type 0 where
+  least : near ≡ n + c .low
+  most : far ≡ n + c .high
 
 first-distances : (R : Reading) (n : ℕ) (cs : List Component) (w : List ℕ) → 0 < length (deal R n cs w)
-    → Distances R n (getD cs 0 none) (nth (deal R n cs w) 0 .near) (nth (deal R n cs w) 0 .far)
+    → Distances n (getD cs 0 none) (nth (deal R n cs w) 0 .near) (nth (deal R n cs w) 0 .far)
 unfolding deal
 first-distances R n [] w l = absurd (omega arith)
 first-distances R n (c ∷ cs) [] l = absurd (omega arith)
 first-distances R n (c ∷ cs) (x ∷ w) l = record { least = refl; most = refl }
 
 -- in every reading
-pub distances : (R : Reading) (n : ℕ) (cs : List Component) (w : List ℕ) (i : ℕ) → suc i < length (deal R n cs w)
-    → Distances R (getD cs i none .length) (getD cs (suc i) none) (nth (deal R n cs w) (suc i) .near) (nth (deal R n cs w) (suc i) .far)
+distances : (R : Reading) (n : ℕ) (cs : List Component) (w : List ℕ) (i : ℕ) → suc i < length (deal R n cs w)
+    → Distances (getD cs i none .length) (getD cs (suc i) none) (nth (deal R n cs w) (suc i) .near) (nth (deal R n cs w) (suc i) .far)
 unfolding deal
 distances R n [] w i l = absurd (omega arith)
 distances R n (c ∷ cs) [] i l = absurd (omega arith)

@@ -26,11 +26,14 @@ pub mod Passing
 pub mod Profiles
 pub mod WalkDemands
 pub mod Searches
+pub mod Exact
+pub mod Few
 pub mod Lower
 pub mod Verdicts
 pub mod EachCheck
 pub mod LaidOut
 pub mod Sound
+pub mod Wide
 pub mod Trimmed
 pub mod LowFirst
 pub mod Records
@@ -42,9 +45,6 @@ pub mod Places
 pub mod Begins
 pub mod Relayed
 pub mod Completes
-pub mod Exact
-pub mod Few
 pub mod StepsSoFar
-pub mod Wide
 pub mod OneAnswer
 pub mod Demands

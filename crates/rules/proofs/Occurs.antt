@@ -16,7 +16,7 @@ use Rattle.rules.specs.Occurrence.{stands, found, reach, starts, occurre
 use Rattle.rules.specs.Profile.{profile-of, base-of}
 use Rattle.rules.specs.Sound.{SoundTemplate}
 use Rattle.rules.specs.Support.{rows-from, occurrence-rows, parts, parts-in}
-use Rattle.rules.specs.Template.{Part, part, Reading, none, slots, components, deal, cut}
+use Rattle.rules.specs.Template.{Part, Reading, none, slots, components, deal, cut}
 use Rattle.rules.specs.declared.Component.{Component}
 use Rattle.rules.specs.declared.Template.{Template}
 use Rattle.rules.proofs.Members.{each-in, each-out}

@@ -9,7 +9,7 @@ use lib.ListN.{length, length-append}
 use lib.Dec.{ltb}
 use borrow.Author.Tests.{ltb-true, ltb-false}
 use Rattle.rules.specs.Lists.{run, if, keep, each}
-use Rattle.rules.specs.Walk.{Walk, place, choose, children, later, up, start, spelled, candidate, motifs, tries, goods}
+use Rattle.rules.specs.Walk.{Walk, place, choose, children, later, up, spelled, candidate, tries, goods}
 use Rattle.rules.proofs.Lists.{keep-same, length-run}
 use Rattle.rules.proofs.Whole.{level-keep}
 
@@ -37,18 +37,6 @@ module _ (W : Walk) (all : (j m : ℕ) → W .may j m ≡ true) where
   pub candidate-plain : (j m : ℕ) → candidate W (suc j) m ≡ good j (m / base)
   unfolding candidate
   candidate-plain j m = rw (all (suc j) m, spelled-plain j (m / base))
-
-  pub motifs-plain : motifs W ≡ keep (good depth) (run 0 (base ^ depth))
-  unfolding motifs
-  motifs-plain = keep-same _ _ 0 (base ^ depth) (λ m h l. rw (spelled-plain depth m))
-
-  pub start-plain : 1 ≤ base → start W ≡ place 1 0
-  unfolding start run
-  start-plain h = rw (children-plain 0 0) (go base h)
-    where
-      go : (n : ℕ) → 1 ≤ n → choose (place 0 0) 1 (run (0 * base) n) ≡ place 1 0
-      go zero h = absurd (omega arith)
-      go (suc n) h = let q : 0 * base ≡ 0 = omega arith in rw q
 
   -- the way up, by the last digit
   pub up-plain : 1 ≤ base → (j m : ℕ) → up W (suc j) m ≡ if (ltb (suc (m % base)) base) (place (suc j) (suc m)) (up W j (m / base))

@@ -1,8 +1,8 @@
 -- Every kind of search walks lawfully: one proof for all profiles, and what each profile has to show for it.
-use mathlib.Core.Path.{_≡_, refl, sym, ap, _∙_, fun-ext, subst}
-use mathlib.Core.Bool.{Bool, true, false, _&&_, false≢true}
-use mathlib.Core.List.{List, [], _∷_, _++_, map}
-use Prim.Native.Nat.{ℕ, zero, suc, _+_, _*_, _/_, _%_, _^_, _≤_, _<_}
+use mathlib.Core.Path.{_≡_, refl, sym, ap, _∙_}
+use mathlib.Core.Bool.{Bool, true, false, _&&_}
+use mathlib.Core.List.{List, [], _∷_, _++_}
+use Prim.Native.Nat.{ℕ, zero, suc, _/_, _%_, _≤_}
 use native.Mathlib.Nat.{pow-zero, div-one, mod-eq-of-lt}
 use native.Mathlib.Omega.{arith}
 use lib.Dec.{leb, ltb}
@@ -10,13 +10,13 @@ use lib.ListN.{length, take, drop, length-append, drop-of-length-le}
 use lib.Seq.{take-all, take-append-le, drop-append-le}
 use borrow.Author.Tests.{leb-true, leb-false, le-leb}
 use Rattle.rules.specs.Limits.{Letter-BASES, Letter-KINDS}
-use Rattle.rules.specs.Lists.{if, keep, all?, sum}
+use Rattle.rules.specs.Lists.{keep, all?}
 use Rattle.rules.specs.Motif.{spell}
-use Rattle.rules.specs.Profile.{Tally, by-sequence, by-occurrence, Profile, Proper, allowed, to-come, exactly, profile-of, repeated, substituted, within, mixed}
+use Rattle.rules.specs.Profile.{Tally, by-sequence, by-occurrence, Profile, Proper, allowed, to-come, exactly, repeated, substituted, within, mixed}
 use Rattle.rules.specs.Sound.{SoundTemplate}
 use Rattle.rules.specs.Support.{counted, tallied, allowed-in, reaches, parts-in, measure}
-use Rattle.rules.specs.Template.{Part, Reading, components, size, deal}
-use Rattle.rules.specs.Walk.{walk-in, Lawful, walk-over, spelled}
+use Rattle.rules.specs.Template.{Part, components, size, deal}
+use Rattle.rules.specs.Walk.{walk-in, Lawful, spelled}
 use Rattle.rules.specs.declared.Component.{Component}
 use Rattle.rules.specs.declared.Template.{Template}
 use Rattle.rules.proofs.Components.{components-some}

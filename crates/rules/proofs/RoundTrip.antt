@@ -9,7 +9,7 @@ use native.Mathlib.Omega.{arith}
 use lib.Dec.{leb, ltb}
 use lib.ListN.{length, getD, drop}
 use borrow.Author.Tests.{leb-true, ltb-true, le-leb, eq-eqb}
-use Rattle.rules.specs.Limits.{Letter-BASES, Record-BYTES, Record-EXTRA, Template-COMPONENTS, Template-LETTERS}
+use Rattle.rules.specs.Limits.{Record-BYTES, Record-EXTRA, Template-COMPONENTS, Template-LETTERS}
 use Rattle.rules.specs.Lists.{if, all?, joined}
 use Rattle.rules.specs.Profile.{profile-of, base-of}
 use Rattle.rules.specs.Saved.{low-first, read-low, size-record, component-record, place-record, records, bytes, record-at, field, record-count, component-count, read-component, read-place, read-template, read-search, sized?, blank?, size-record?, component-record?, place-record?, component-records?, place-rule?, laid-out?}

@@ -1,4 +1,4 @@
--- The walk of every search, whatever its template asks for: lawful, and so with all that the demands ask of a walk.
+-- The walk of every search, whatever its template asks for: it is lawful, and its list is what the quorum asks.
 use mathlib.Core.Path.{_≡_}
 use mathlib.Core.Logic.{_↔_}
 use mathlib.Core.Bool.{true}
@@ -13,7 +13,7 @@ use Rattle.rules.specs.Template.{size}
 use Rattle.rules.specs.Walk.{walk-in, Lawful, walk-over}
 use Rattle.rules.specs.declared.Template.{Template}
 use Rattle.rules.proofs.Profiles.{exactly-proper, lawful-in}
-use Rattle.rules.proofs.WalkDemands.{WalkDemands, motifs-rise, profile-demands, profile-list}
+use Rattle.rules.proofs.WalkDemands.{motifs-rise, profile-list}
 
 -- THE PROFILE of every template is proper
 pub profile-proper : (t : Template) → Proper (profile-of t)
@@ -25,7 +25,7 @@ module _ (t : Template) (quorum : ℕ) (ss : List (List ℕ)) where
   unfolding walk-in
   walk-pos = profile-proper t .pos
 
-  -- its list is in letter order
+  -- the list is in letter order
   pub list-rises : Rising (frequent-motifs t quorum ss)
   unfolding frequent-motifs
   list-rises = motifs-rise (walk-over t quorum ss)
@@ -33,9 +33,6 @@ module _ (t : Template) (quorum : ℕ) (ss : List (List ℕ)) where
   module _ (sound : SoundTemplate t) where
     pub walk-lawful : Lawful (walk-over t quorum ss)
     walk-lawful = lawful-in (profile-of t) (profile-proper t) t quorum ss sound
-
-    pub search-demands : WalkDemands (walk-over t quorum ss)
-    search-demands = profile-demands (profile-of t) (profile-proper t) t sound quorum ss
 
     -- and holds the motifs whose letters are allowed and of which enough is counted
     pub list-holds : (m : ℕ) → List·Memᴰ m (frequent-motifs t quorum ss)

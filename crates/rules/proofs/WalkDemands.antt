@@ -9,11 +9,12 @@ use lib.ListN.{length}
 use borrow.Author.Tests.{leb-true, le-leb}
 use Rattle.rules.specs.Legs.{ended, Grant, leg, legs}
 use Rattle.rules.specs.Order.{Rising}
-use Rattle.rules.specs.Profile.{Profile, Proper}
+use Rattle.rules.specs.Profile.{Profile, Proper, exactly, mixed, repeated, substituted}
 use Rattle.rules.specs.Sound.{SoundTemplate}
 use Rattle.rules.specs.Support.{counted, allowed-in, parts-in}
 use Rattle.rules.specs.Template.{size}
 use Rattle.rules.specs.Walk.{walk-in, Walk, Lawful, ended-place, from, start, listed, spelled, motifs, tries}
+use Rattle.rules.specs.declared.Component.{Component}
 use Rattle.rules.specs.declared.Place.{Place}
 use Rattle.rules.specs.declared.Template.{Template}
 use Rattle.rules.proofs.Legs.{Ample, Passed, leg-law}
@@ -21,7 +22,7 @@ use Rattle.rules.proofs.Members.{keep-run-in, keep-run-out}
 use Rattle.rules.proofs.OccurrenceOrder.{keep-run-rising}
 use Rattle.rules.proofs.Passing.{Passing, passing-leg, passing-from, from-passing}
 use Rattle.rules.proofs.Prefix.{size-some}
-use Rattle.rules.proofs.Profiles.{lawful-in, spelled-in, good-whole}
+use Rattle.rules.proofs.Profiles.{lawful-in, spelled-in, good-whole, exactly-proper, mixed-proper, repeated-proper, substituted-proper}
 use Rattle.rules.proofs.Relay.{all-listed, all-tried, legs-enough}
 use Rattle.rules.proofs.Tests.{both}
 use Rattle.rules.proofs.Whole.{lists, tried}
@@ -73,6 +74,7 @@ module _ (P : Profile) (proper : Proper P) (t : Template) (sound : SoundTemplate
   pub profile-demands : WalkDemands (walk-in P t quorum ss)
   profile-demands = walk-demands (walk-in P t quorum ss) (lawful-in P proper t quorum ss sound)
 
+  -- a whole motif is spelled if its letters are allowed
   spelled-whole : (k m : ℕ) → 1 ≤ k → spelled (walk-in P t quorum ss) k m ≡ allowed-in P t k m
   spelled-whole zero m h = absurd (omega arith)
   spelled-whole (suc k) m h = spelled-in P proper t quorum ss k m
@@ -88,3 +90,13 @@ module _ (P : Profile) (proper : Proper P) (t : Template) (sound : SoundTemplate
         λ h. let o = is .0 h in (o .0, rw s at (o .1), leb-true quorum _ (rw g at (o .2))),
         λ h. is .1 (h .0, rw s (h .1), rw g (le-leb quorum _ (h .2))),
       )
+
+-- exact, mixed letters, repeats, substitutions
+pub each-kind : (f : Component → ℕ) (t : Template) → SoundTemplate t → (quorum : ℕ) (ss : List (List ℕ))
+    → WalkDemands (walk-in exactly t quorum ss) × WalkDemands (walk-in (mixed f) t quorum ss) × WalkDemands (walk-in repeated t quorum ss) × WalkDemands (walk-in (substituted f) t quorum ss)
+each-kind f t o quorum ss = (
+  profile-demands exactly exactly-proper t o quorum ss,
+  profile-demands (mixed f) (mixed-proper f) t o quorum ss,
+  profile-demands repeated repeated-proper t o quorum ss,
+  profile-demands (substituted f) (substituted-proper f) t o quorum ss,
+)
