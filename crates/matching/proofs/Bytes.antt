@@ -5,20 +5,20 @@ use mathlib.Core.Path.{_≡_, refl, ap, _∙_}
 use Prim.Native.Nat.{ℕ, zero, suc, _≤_}
 use native.Mathlib.Omega.{arith}
 use lib.ListN.{length, take, drop, length-map}
-use Rattle.rules.specs.Profile.{profile-of, exactly}
 use Rattle.rules.proofs.Bytes.{lettered, Spelled, stands-bytes, cut-spelled, cut-bytes}
+use Rattle.rules.proofs.Exact.{exact-search, exact-parts}
 use Rattle.rules.proofs.Lists.{each-same}
 use Rattle.rules.proofs.Occurs.{Worded, Plain, parts-worded, parts-some}
 use Rattle.rules.proofs.Spelling.{spell-below}
 use Rattle.rules.proofs.Tables.{map-take, map-drop}
 use Rattle.rules.specs.Letters.{value, letter}
 use Rattle.rules.specs.Limits.{Letter-BASES}
-use Rattle.rules.specs.Lists.{if, run, keep, each, some?}
+use Rattle.rules.specs.Lists.{if, run, keep, some?}
 use Rattle.rules.specs.Motif.{spell}
 use Rattle.rules.specs.Occurrence.{stands, reach, starts, occurrences}
 use Rattle.rules.specs.Sequences.{split, sequences}
 use Rattle.rules.specs.Sound.{SoundTemplate}
-use Rattle.rules.specs.Support.{parts-in, marks, support, parts}
+use Rattle.rules.specs.Support.{marks, support, parts}
 use Rattle.rules.specs.Template.{Part, cut, components}
 use Rattle.rules.specs.declared.Template.{Template}
 use Rattle.matching.specs.Flags.{last-starts, left?}
@@ -32,11 +32,8 @@ module _ (s : List ℕ) where
   starts-bytes [] h p = refl
   starts-bytes (c ∷ []) h p = rw (h .1 (map value s) p, stands-bytes (c .word) s (h .0) p)
   starts-bytes (c ∷ d ∷ ds) h p =
-      let e : each (starts (map lettered (d ∷ ds)) s) (reach (length (map letter (c .word))) (d .low) (d .high) p)
-      ≡ each (starts (d ∷ ds) (map value s)) (reach (length (c .word)) (d .low) (d .high) p) =
-      ap (λ (n : ℕ). each (starts (map lettered (d ∷ ds)) s) (reach n (d .low) (d .high) p)) (length-map (c .word) letter)
-      ∙ each-same _ _ (reach (length (c .word)) (d .low) (d .high) p) (starts-bytes (d ∷ ds) (h .2)) in
-      rw (h .1 (map value s) p, stands-bytes (c .word) s (h .0) p) (ap (λ l. if (stands (c .word) (map value s) p) (map (λ t. p ∷ t) l) []) e)
+      rw (h .1 (map value s) p, stands-bytes (c .word) s (h .0) p)
+      (ap (λ l. if (stands (c .word) (map value s) p) (map (λ t. p ∷ t) l) []) (each-same _ _ (reach (d .near) (d .far) p) (starts-bytes (d ∷ ds) (h .2))))
 
   occurrences-bytes : (cs : List Part) → Spelled cs → occurrences (map lettered cs) s ≡ occurrences cs (map value s)
   unfolding occurrences
@@ -64,13 +61,14 @@ marks-bytes cs low f h (n ∷ ns) l =
 
 -- THE SUPPORT: the marks of the flags of a prefix in bytes are as many as its support
 pub support-bytes : (t : Template) (j m : ℕ) (letters lengths : List ℕ) → SoundTemplate t → 1 ≤ j → {w : List ℕ} → w ≡ bytes j m
-    → {n r : ℕ} → r ≡ n → n ≡ left-count (cut (components t) w) (split lengths letters)
+    → {n r : ℕ} → r ≡ n → n ≡ left-count (cut 0 (components t) w) (split lengths letters)
     → r ≡ support (parts t j m) (sequences letters lengths)
-unfolding support bytes parts-in profile-of exactly sequences left-count
+unfolding support bytes sequences left-count
 support-bytes t j m letters lengths sound h e p q =
     let v = spell Letter-BASES j m in
-    let low : Spelled (cut (components t) v) = cut-spelled (components t) v (spell-below Letter-BASES j m (omega arith)) in
+    let x : parts t j m ≡ cut 0 (components t) v = exact-parts t (exact-search t) j m in
+    let low : Spelled (parts t j m) = rw x (cut-spelled 0 (components t) v (spell-below Letter-BASES j m (omega arith))) in
     p
     ∙ q
-    ∙ ap (λ cs. length (keep (λ b. b) (left-marks cs (split lengths letters)))) (ap (cut (components t)) e ∙ cut-bytes (components t) v)
-    ∙ ap (λ bs. length (keep (λ b. b) bs)) (marks-bytes (cut (components t) v) low (parts-worded t sound j m) (parts-some t sound j m h) lengths letters)
+    ∙ ap (λ cs. length (keep (λ b. b) (left-marks cs (split lengths letters)))) (ap (cut 0 (components t)) e ∙ cut-bytes 0 (components t) v ∙ rw x)
+    ∙ ap (λ bs. length (keep (λ b. b) bs)) (marks-bytes (parts t j m) low (parts-worded t sound j m) (parts-some t sound j m h) lengths letters)

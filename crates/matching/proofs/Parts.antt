@@ -3,46 +3,47 @@
 use mathlib.Core.List.{List, [], _∷_}
 use mathlib.Core.Path.{_≡_, refl, sym, ap, _∙_}
 use Prim.Native.Nat.{ℕ, suc, _+_, _-_, _≤_, _<_, min}
+use native.Mathlib.Decide.{decLt}
 use native.Mathlib.Numerals.{add-one}
 use native.Mathlib.Omega.{arith}
-use lib.ListN.{length, take, drop, getD, replicate, length-take, length-drop, drop-of-length-le}
+use lib.ListN.{length, take, drop, getD, replicate, length-drop, drop-of-length-le}
 use lib.Seq.{drop-cons, drop-drop, length-take-le, getD-take}
 use Rattle.rules.proofs.Components.{cut-some}
-use Rattle.rules.proofs.Tables.{take-min, drop-min}
+use Rattle.rules.proofs.Tables.{take-min}
 use Rattle.rules.specs.Template.{deal, none, cut}
 use Rattle.rules.specs.declared.Component.{Component}
 use Rattle.matching.specs.Flags.{matched, opened, following, last-starts}
 
 -- no letter left
-cut-none : (cs : List Component) (w : List ℕ) → length w ≤ 0 → cut cs w ≡ []
+cut-none : (n : ℕ) (cs : List Component) (w : List ℕ) → length w ≤ 0 → cut n cs w ≡ []
 unfolding deal
-cut-none [] w h = refl
-cut-none (c ∷ cs) [] h = refl
-cut-none (c ∷ cs) (x ∷ w) h = absurd (omega arith)
+cut-none n [] w h = refl
+cut-none n (c ∷ cs) [] h = refl
+cut-none n (c ∷ cs) (x ∷ w) h = absurd (omega arith)
 
--- what a component takes of the letters v, and what it leaves
+-- what a component takes of the letters v, and what it leaves: only a full one is followed by another
 module _ (room : ℕ) (v : List ℕ) (n : ℕ) (e : n ≡ min room (length v)) where
   taken : take n v ≡ take room v
   taken = rw e (take-min room v)
 
-  left : drop n v ≡ drop room v
-  left = rw e (drop-min room v)
+  left : (cs : List Component) → cut n cs (drop n v) ≡ cut room cs (drop room v)
+  left cs = elim (decLt room (length v)) [ yes l ↦ full (omega arith) | no l ↦ empty n (omega arith) ∙ sym (empty room (omega arith)) ]
+    where
+      full : n ≡ room → cut n cs (drop n v) ≡ cut room cs (drop room v)
+      full q = rw q
 
-  as-long : n ≡ length (take room v)
-  as-long = e ∙ sym (length-take room v)
+      empty : (i : ℕ) → length v ≤ i → cut i cs (drop i v) ≡ []
+      empty i h = cut-none i cs (drop i v) (simp length-drop (omega arith))
 
 -- the flags of a part, whose letters are those from one place up to another
 pub part-flags : (from n : ℕ) (w s : List ℕ) {xs ys ks : List ℕ} → ks ≡ matched (take (from + n - from) (drop from w)) 0 s xs → xs ≡ ys → ks ≡ matched (take n (drop from w)) 0 s ys
 part-flags from n w s e q = let i : from + n - from ≡ n = omega arith in e ∙ rw (i, q)
 
 first-cut : (cs : List Component) (w s : List ℕ) (n : ℕ) {ks : List ℕ} → 0 < length cs → 0 < length w → n ≡ min ((getD cs 0 none) .length) (length w)
-    → ks ≡ matched (take n w) 0 s (replicate (length s) 1) → following n (cut (drop 1 cs) (drop n w)) s ks ≡ last-starts (cut cs w) s
+    → ks ≡ matched (take n w) 0 s (replicate (length s) 1) → following (cut n (drop 1 cs) (drop n w)) s ks ≡ last-starts (cut 0 cs w) s
 unfolding last-starts
 first-cut [] w s n h l e q = absurd (omega arith)
-first-cut (c ∷ cs) w s n h l e q =
-    let v = take (c .length) w in
-    rw (cut-some c cs w l, q, taken (c .length) w n e, left (c .length) w n e)
-    (ap (λ (i : ℕ). following i (cut cs (drop (c .length) w)) s (matched v 0 s (replicate (length s) 1))) (as-long (c .length) w n e))
+first-cut (c ∷ cs) w s n h l e q = rw (cut-some 0 c cs w l, q, taken (c .length) w n e, left (c .length) w n e cs)
 
 -- the steps of a prefix w in a sequence s, for the first `count` of the components
 module _ (all : List Component) (count : ℕ) (fits : count ≤ length all) (w s : List ℕ) where
@@ -52,7 +53,7 @@ module _ (all : List Component) (count : ℕ) (fits : count ≤ length all) (w s
   -- the first part
   pub first-step : (n : ℕ) {ks : List ℕ} → 0 < count → 0 < length w → n ≡ min ((getD all 0 none) .length) (length w)
       → ks ≡ matched (take n w) 0 s (replicate (length s) 1)
-      → following n (cut (drop 1 (take count all)) (drop n w)) s ks ≡ last-starts (cut (take count all) w) s
+      → following (cut n (drop 1 (take count all)) (drop n w)) s ks ≡ last-starts (cut 0 (take count all) w) s
   first-step n {ks} h l e q =
       let e' : n ≡ min ((getD (take count all) 0 none) .length) (length w) = rw (getD-take count all 0 none h) e in
       first-cut (take count all) w s n (rw counted h) l e' q
@@ -62,7 +63,7 @@ module _ (all : List Component) (count : ℕ) (fits : count ≤ length all) (w s
     -- the parts that are left come to the same, with that part done
     pub next-step : (m : ℕ) {ls : List ℕ} → k < count → from < length w → m ≡ min ((getD all k none) .length) (length w - from)
         → ls ≡ matched (take m (drop from w)) 0 s (opened n ((getD all k none) .low) ((getD all k none) .high) ks)
-        → following m (cut (drop (k + 1) (take count all)) (drop (from + m) w)) s ls ≡ following n (cut (drop k (take count all)) (drop from w)) s ks
+        → following (cut m (drop (k + 1) (take count all)) (drop (from + m) w)) s ls ≡ following (cut n (drop k (take count all)) (drop from w)) s ks
     unfolding following
     next-step m {ls} h l e q =
         let c = getD all k none in
@@ -71,15 +72,14 @@ module _ (all : List Component) (count : ℕ) (fits : count ≤ length all) (w s
         let e' : m ≡ min (c .length) (length v) = e ∙ ap (min (c .length)) (sym (length-drop from w)) in
         let p : 0 < length v = simp length-drop (omega arith) in
         let d : drop k (take count all) ≡ c ∷ rest = drop-cons (take count all) k none (rw counted h) ∙ rw (getD-take count all k none h) in
-        rw (q, ← (drop-drop m from w), add-one k, d, cut-some c rest v p, taken (c .length) v m e', left (c .length) v m e')
-        (ap (λ (i : ℕ). following i (cut rest (drop (c .length) v)) s (matched (take (c .length) v) 0 s (opened n (c .low) (c .high) ks))) (as-long (c .length) v m e'))
+        rw (q, ← (drop-drop m from w), add-one k, d, cut-some n c rest v p, taken (c .length) v m e', left (c .length) v m e' rest)
 
     -- after the last letter no part follows
-    pub letters-end : length w ≤ from → following n (cut (drop k (take count all)) (drop from w)) s ks ≡ ks
+    pub letters-end : length w ≤ from → following (cut n (drop k (take count all)) (drop from w)) s ks ≡ ks
     unfolding following
-    letters-end h = rw (cut-none (drop k (take count all)) (drop from w) (simp length-drop (omega arith)))
+    letters-end h = rw (cut-none n (drop k (take count all)) (drop from w) (simp length-drop (omega arith)))
 
     -- nor after the last component
-    pub components-end : count ≤ k → following n (cut (drop k (take count all)) (drop from w)) s ks ≡ ks
+    pub components-end : count ≤ k → following (cut n (drop k (take count all)) (drop from w)) s ks ≡ ks
     unfolding following deal
     components-end h = let z : length (take count all) ≤ k = rw counted h in rw (drop-of-length-le (take count all) {i = k} z)

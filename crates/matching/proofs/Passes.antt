@@ -12,7 +12,7 @@ use lib.Seq.{drop-drop}
 use borrow.Author.Tests.{ne-eqb}
 use Rattle.rules.specs.Lists.{if, run, sum}
 use Rattle.rules.specs.Occurrence.{stands-by, front-by, front, stands}
-use Rattle.matching.specs.Flags.{bit, kept-at, kept, matched, ago, recent, near, opened, left?}
+use Rattle.matching.specs.Flags.{bit, kept-at, kept, matched, ago, recent, near, after, left?}
 use Rattle.matching.proofs.Any.{any}
 use Rattle.rules.proofs.Over.{map-agree, map-one, getD-map-run, length-map-run}
 
@@ -99,11 +99,11 @@ module _ (A : ℕ → Bool) (n : ℕ) where
   near-flagged o h d (suc m) = rw (ago-flagged o h d) (sum-step (before A d o) _ _ (near-flagged o h (suc d) m))
 
   -- so a gap sets those that a set one reaches
-  pub opened-flagged : (l low high : ℕ) → opened l low high (flagged A n) ≡ flagged (λ o. any (λ g. before A g o) (l + low) (high + 1 - low)) n
-  unfolding opened flagged
-  opened-flagged l low high =
-      ap (λ (k : ℕ). map (near (flagged A n) (l + low) (high + 1 - low)) (run 0 k)) (length-flagged A n)
-      ∙ map-agree _ _ 0 n (λ o _ k. near-flagged o (omega arith) (l + low) (high + 1 - low))
+  pub after-flagged : (least most : ℕ) → after least most (flagged A n) ≡ flagged (λ o. any (λ g. before A g o) least (most + 1 - least)) n
+  unfolding after flagged
+  after-flagged least most =
+      ap (λ (k : ℕ). map (near (flagged A n) least (most + 1 - least)) (run 0 k)) (length-flagged A n)
+      ∙ map-agree _ _ 0 n (λ o _ k. near-flagged o (omega arith) least (most + 1 - least))
 
 -- A FLAG LEFT
 left-run : (A : ℕ → Bool) (a n : ℕ) → left? (map (λ o. bit (A o)) (run a n)) ≡ any A a n

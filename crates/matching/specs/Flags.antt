@@ -37,19 +37,23 @@ recent ks o d n = sum (map (ago ks o) (run d n))
 unfoldable pub near : List ℕ → ℕ → ℕ → ℕ → ℕ
 near ks d n o = if (eqb (recent ks o d n) 0) 0 1
 
--- the flags of the places that a part of n letters reaches over a gap of low to high
-unfoldable pub opened : ℕ → ℕ → ℕ → List ℕ → List ℕ
-opened n low high ks = map (near ks (n + low) (high + 1 - low)) (run 0 (length ks))
+-- the flags of the places that lie least to most places after a set one
+unfoldable pub after : ℕ → ℕ → List ℕ → List ℕ
+after least most ks = map (near ks least (most + 1 - least)) (run 0 (length ks))
 
--- A PREFIX. From the flags ks of a part of n letters, those of the last of the parts that follow it
-unfoldable pub following : ℕ → List Part → List ℕ → List ℕ → List ℕ
-following n [] s ks = ks
-following n (c ∷ cs) s ks = following (length (c .word)) cs s (matched (c .word) 0 s (opened n (c .low) (c .high) ks))
+-- those that a part of n letters reaches over a gap of low to high
+abbrev pub opened : ℕ → ℕ → ℕ → List ℕ → List ℕ
+opened n low high ks = after (n + low) (n + high) ks
+
+-- A PREFIX. From the flags ks of a part, those of the last of the parts that follow it
+unfoldable pub following : List Part → List ℕ → List ℕ → List ℕ
+following [] s ks = ks
+following (c ∷ cs) s ks = following cs s (matched (c .word) 0 s (after (c .near) (c .far) ks))
 
 -- the flags of the last of all parts
 unfoldable pub last-starts : List Part → List ℕ → List ℕ
 last-starts [] s = replicate (length s) 1
-last-starts (c ∷ cs) s = following (length (c .word)) cs s (matched (c .word) 0 s (replicate (length s) 1))
+last-starts (c ∷ cs) s = following cs s (matched (c .word) 0 s (replicate (length s) 1))
 
 -- a flag is left
 unfoldable pub left? : List ℕ → Bool

@@ -22,7 +22,7 @@ Inv-loop word sequence flags₀ spare₀ count components behind₀ from₀ k₀
     × (from ≤ length word)
     × (behind ≤ Template-LENGTH)
     × (length components ≡ Template-COMPONENTS)
-    × (following behind (cut (drop k (take count components)) (drop from word)) sequence flags ≡ last-starts (cut (take count components) word) sequence)
+    × (following (cut behind (drop k (take count components)) (drop from word)) sequence flags ≡ last-starts (cut 0 (take count components) word) sequence)
 
 abbrev μ-loop : tie.MeasureT-loop
 μ-loop word sequence flags₀ spare₀ count components behind₀ from₀ k₀ flags spare behind from k = count - k
