@@ -15,7 +15,7 @@ use Rattle.rules.specs.declared.Component.{Component}
 use Rattle.rules.specs.declared.Template.{Template}
 use Rattle.rules.proofs.Components.{cut-some}
 use Rattle.ways.specs.Counts.{counts, most-ways, entry, ending, leading, letters-of, aligned}
-use Rattle.ways.proofs.Counting.{ending-counts, ending-most, leading-counts, leading-most}
+use Rattle.ways.proofs.Counting.{counts-after, ending-counts, ending-most, leading-counts, leading-most}
 
 -- ---- dealing out the letters
 
@@ -84,41 +84,43 @@ module _ {t : Template} {cs : List Component} {w : List ℕ} (held : Held t cs w
     pub own-short : length own ≤ Template-LENGTH
     own-short = rw own-length (component-sound c within .short)
 
-    first-part : Part
-    first-part = part ((getD cs c none) .low) ((getD cs c none) .high) own
+    -- its part after a component of n letters, and the parts from it on
+    own-part : ℕ → Part
+    own-part n = part (n + (getD cs c none) .low) (n + (getD cs c none) .high) own
 
-    aligned-step : aligned (onward cs (t .count) c) w ≡ first-part ∷ aligned (onward cs (t .count) (suc c)) w
-    unfolding aligned first-part
-    aligned-step =
+    own-cut : (n : ℕ) → cut n (onward cs (t .count) c) (drop b w) ≡ own-part n ∷ cut ((getD cs c none) .length) (onward cs (t .count) (suc c)) (drop (b + (getD cs c none) .length) w)
+    unfolding own-part
+    own-cut n =
         let x = getD cs c none in
-        let l = letters-step c within in
-        let n = component-sound c within .some in
-        let here : length w - letters-of (onward cs (t .count) c) ≡ b = omega arith in
-        let next : b + x .length ≡ length w - letters-of (onward cs (t .count) (suc c)) = omega arith in
-        let left : 0 < length (drop b w) = simp length-drop (omega arith) in
+        let left : 0 < length (drop b w) = simp length-drop (omega (arith, letters-step c within, component-sound c within .some)) in
         let whole : b + x .length - b ≡ x .length = omega arith in
-        ap (λ n. cut (onward cs (t .count) c) (drop n w)) here
-        ∙ ap (λ l. cut l (drop b w)) (onward-step c within)
-        ∙ cut-some x (onward cs (t .count) (suc c)) (drop b w) left
-        ∙ rw whole (ap (λ v. part (x .low) (x .high) (take (x .length) (drop b w)) ∷ cut (onward cs (t .count) (suc c)) v) (drop-drop (x .length) b w ∙ ap (λ n. drop n w) next))
+        rw (onward-step c within, cut-some n x (onward cs (t .count) (suc c)) (drop b w) left, drop-drop (x .length) b w, whole)
+
+    -- with none before them
+    aligned-cut : aligned (onward cs (t .count) c) w ≡ cut 0 (onward cs (t .count) c) (drop b w)
+    unfolding aligned
+    aligned-cut = let here : length w - letters-of (onward cs (t .count) c) ≡ b = omega arith in rw here
 
     -- the pass of the last component
     pub last-made : (s : List ℕ) → suc c ≡ t .count → {y : List ℕ} → y ≡ map (ending own s) (run 1 (length s)) → y ≡ counts (aligned (onward cs (t .count) c) w) s
-    unfolding aligned deal first-part
-    last-made s h e = e ∙ rw (aligned-step, onward-end (suc c) (omega arith)) (ending-counts first-part (λ s p. refl) s)
+    unfolding deal own-part
+    last-made s h e = e ∙ rw (aligned-cut, own-cut 0, onward-end (suc c) (omega arith)) (ending-counts (own-part 0) (λ s p. refl) s)
 
   -- the pass of a component c before others, d the next
   pub next-made : (s : List ℕ) (c d b : ℕ) (after : d ≡ suc c) (h : d < t .count) (k : c < t .count) (e : b + letters-of (onward cs (t .count) c) ≡ length w) → {x y : List ℕ}
       → x ≡ counts (aligned (onward cs (t .count) d) w) s
       → y ≡ map (leading (own c b k e) ((getD cs d none) .low) ((getD cs d none) .high) s x) (run 1 (length s))
       → y ≡ counts (aligned (onward cs (t .count) c) w) s
-  unfolding first-part
+  unfolding own-part
   next-made s c d b after h k e {x} {y} ex ey =
-      let b′ = b + (getD cs c none) .length in
+      let n = (getD cs c none) .length in
       let l : onward cs (t .count) (suc c) ≡ onward cs (t .count) d = rw after in
-      let e′ : b′ + letters-of (onward cs (t .count) d) ≡ length w = rw after (omega (arith, letters-step c k)) in
-      let some : 0 < length (own d b′ h e′) = rw (own-length d b′ h e′) (component-sound d h .some) in
-      ey ∙ rw (ex, aligned-step c b k e, l, aligned-step d b′ h e′) (leading-counts (first-part c b k e) (first-part d b′ h e′) _ (λ s p. refl) s some)
+      let e′ : b + n + letters-of (onward cs (t .count) d) ≡ length w = rw after (omega (arith, letters-step c k)) in
+      let some : 0 < length (own d (b + n) h e′) = rw (own-length d (b + n) h e′) (component-sound d h .some) in
+      let later : x ≡ counts (cut n (onward cs (t .count) d) (drop (b + n) w)) s = ex ∙ rw (aligned-cut d (b + n) h e′) (counts-after 0 n (onward cs (t .count) d) (drop (b + n) w) s) in
+      let near = ap (λ n. n + (getD cs d none) .low) (sym (own-length c b k e)) in
+      let far = ap (λ n. n + (getD cs d none) .high) (sym (own-length c b k e)) in
+      ey ∙ rw (later, aligned-cut c b k e, own-cut c b k e 0, l, own-cut d (b + n) h e′ n) (leading-counts (own-part c b k e 0) (own-part d (b + n) h e′ n) _ _ _ (λ s p. refl) near far s some)
 
   -- no count is too large: k components follow, each at one of so many distances
   counts-most : (s : List ℕ) (k c : ℕ) → suc (c + k) ≡ t .count → (p : ℕ) → entry (counts (aligned (onward cs (t .count) c) w) s) p ≤ (Template-GAP + 1) ^ k

@@ -3,7 +3,7 @@ use mathlib.Core.Path.{_≡_, refl}
 use mathlib.Core.List.{List, [], _∷_, map}
 use Prim.Native.Nat.{ℕ}
 use lib.ListN.{length, take, drop, length-map}
-use Rattle.rules.specs.Letters.{letter, value}
+use Rattle.rules.specs.Letters.{value}
 use Rattle.rules.specs.Lists.{run, each}
 use Rattle.rules.specs.Occurrence.{reach, ways}
 use Rattle.rules.specs.Sequences.{split}
@@ -17,15 +17,15 @@ unfolding ways Spelled
 ways-bytes [] s h p = refl
 ways-bytes (c ∷ []) s h p = rw (h .1 (map value s) p, stands-bytes (c .word) s (h .0) p)
 ways-bytes (c ∷ d ∷ ds) s h p =
-    rw (h .1 (map value s) p, stands-bytes (c .word) s (h .0) p, length-map (c .word) letter, map-same _ _ (ways-bytes (d ∷ ds) s (h .2)) (reach (length (c .word)) (d .low) (d .high) p))
+    rw (h .1 (map value s) p, stands-bytes (c .word) s (h .0) p, map-same _ _ (ways-bytes (d ∷ ds) s (h .2)) (reach (d .near) (d .far) p))
 
 -- so the counts in the bytes of a sequence are those in its values
 pub counts-bytes : (cs : List Part) (s : List ℕ) → Spelled cs → counts (map lettered cs) s ≡ counts cs (map value s)
 unfolding counts
 counts-bytes cs s h = rw (length-map s value) (map-same _ _ (ways-bytes cs s h) (run 1 (length s)))
 
--- the same of all sequences, laid end to end
-pub all-bytes : (cs : List Part) → Spelled cs → (ns l : List ℕ) → each (counts (map lettered cs)) (split ns l) ≡ each (counts cs) (split ns (map value l))
+-- what is the same of the bytes of one sequence and of its values is so of all sequences, laid end to end
+pub all-bytes : (f g : List ℕ → List ℕ) → ((s : List ℕ) → f s ≡ g (map value s)) → (ns l : List ℕ) → each f (split ns l) ≡ each g (split ns (map value l))
 unfolding each split
-all-bytes cs h [] l = refl
-all-bytes cs h (n ∷ ns) l = rw (counts-bytes cs (take n l) h, map-take value n l, map-drop value n l, all-bytes cs h ns (drop n l))
+all-bytes f g h [] l = refl
+all-bytes f g h (n ∷ ns) l = rw (h (take n l), map-take value n l, map-drop value n l, all-bytes f g h ns (drop n l))

@@ -4,7 +4,7 @@ use mathlib.Core.Path.{_≡_, refl, sym, ap, _∙_}
 use mathlib.Core.Bool.{true, false}
 use mathlib.Core.List.{List, [], _∷_, map}
 use Prim.Native.Nat.{ℕ, zero, suc, _+_, _-_, _*_, _≤_, _<_}
-use native.Mathlib.Nat.{le-trans, mul-le-mul-right}
+use native.Mathlib.Nat.{le-trans, mul-le-mul-right, suc-add}
 use native.Mathlib.Numerals.{one-add}
 use native.Mathlib.Decide.{decLt}
 use native.Mathlib.Omega.{arith}
@@ -12,7 +12,8 @@ use lib.ListN.{length, getD, List·getD-eq-default}
 use Rattle.rules.specs.Limits.{Template-GAP}
 use Rattle.rules.specs.Lists.{run, if, sum}
 use Rattle.rules.specs.Occurrence.{stands-by, stands, reach, ways}
-use Rattle.rules.specs.Template.{Part}
+use Rattle.rules.specs.Template.{Part, part, deal, cut}
+use Rattle.rules.specs.declared.Component.{Component}
 use Rattle.ways.specs.Counts.{counts, entry, cell, ending, leading}
 use Rattle.ways.proofs.Standing.{stands-by-short}
 use Rattle.rules.proofs.Occurs.{Exact}
@@ -53,18 +54,32 @@ counts-at c cs s some (suc o) =
           List·getD-eq-default (counts (c ∷ cs) s) 0 (rw length-counts h) ∙ sym (ways-past c cs s o some h)
     ]
 
+-- how far the first part lies from one before it makes no difference
+ways-after : (near far near′ far′ : ℕ) (w : List ℕ) (cs : List Part) (s : List ℕ) (p : ℕ) → ways (part near far w ∷ cs) s p ≡ ways (part near′ far′ w ∷ cs) s p
+unfolding ways
+ways-after near far near′ far′ w [] s p = refl
+ways-after near far near′ far′ w (d ∷ ds) s p = refl
+
+-- so the counts are the same however many letters the component before has
+pub counts-after : (k n : ℕ) (cs : List Component) (w s : List ℕ) → counts (cut k cs w) s ≡ counts (cut n cs w) s
+unfolding counts deal
+counts-after k n [] w s = refl
+counts-after k n (c ∷ cs) [] s = refl
+counts-after k n (c ∷ cs) (x ∷ w) s = map-same _ _ (ways-after (k + c .low) (k + c .high) (n + c .low) (n + c .high) _ _ s) (run 1 (length s))
+
 -- the pass of the last part
 pub ending-counts : (c : Part) → Exact c → (s : List ℕ) → map (ending (c .word) s) (run 1 (length s)) ≡ counts (c ∷ []) s
 unfolding counts ending cell ways
 ending-counts c x s = map-same (ending (c .word) s) (ways (c ∷ []) s) (λ p. rw (x s p)) (run 1 (length s))
 
--- the pass of a part before others
-pub leading-counts : (c d : Part) (ds : List Part) → Exact c → (s : List ℕ) → 0 < length (d .word)
-    → map (leading (c .word) (d .low) (d .high) s (counts (d ∷ ds) s)) (run 1 (length s)) ≡ counts (c ∷ d ∷ ds) s
+-- the pass of a part before others, the next of them after a gap of low to high
+pub leading-counts : (c d : Part) (ds : List Part) (low high : ℕ) → Exact c → d .near ≡ length (c .word) + low → d .far ≡ length (c .word) + high
+    → (s : List ℕ) → 0 < length (d .word)
+    → map (leading (c .word) low high s (counts (d ∷ ds) s)) (run 1 (length s)) ≡ counts (c ∷ d ∷ ds) s
 unfolding counts leading cell ways
-leading-counts c d ds x s some =
-    map-same (leading (c .word) (d .low) (d .high) s (counts (d ∷ ds) s)) (ways (c ∷ d ∷ ds) s)
-    (λ p. rw (x s p, map-same (entry (counts (d ∷ ds) s)) (ways (d ∷ ds) s) (counts-at d ds s some) (reach (length (c .word)) (d .low) (d .high) p)))
+leading-counts c d ds low high x near far s some =
+    map-same (leading (c .word) low high s (counts (d ∷ ds) s)) (ways (c ∷ d ∷ ds) s)
+    (λ p. rw (x s p, ← near, ← far, map-same (entry (counts (d ∷ ds) s)) (ways (d ∷ ds) s) (counts-at d ds s some) (reach (d .near) (d .far) p)))
     (run 1 (length s))
 
 -- what a sliding sum has at an offset goes into the cell there
@@ -72,8 +87,8 @@ pub leading-at : (w : List ℕ) (low high : ℕ) (s later : List ℕ) (o : ℕ) 
     → t ≡ sum (map (entry later) (run (suc (o + (length w + low))) (high + 1 - low))) → v ≡ cell w s (suc o) t → v ≡ leading w low high s later (suc o)
 unfolding leading reach
 leading-at w low high s later o et ev =
-    let e : suc (o + (length w + low)) ≡ suc o + length w + low = omega arith in
-    ev ∙ ap (cell w s (suc o)) (rw e at et)
+    let span : length w + high + 1 - (length w + low) ≡ high + 1 - low = omega arith in
+    ev ∙ ap (cell w s (suc o)) (et ∙ rw (suc-add o (length w + low), span))
 
 -- ---- no count is too large
 
@@ -94,6 +109,6 @@ leading-most w low high s later b n near h e =
     over-most (leading w low high s later) ((Template-GAP + 1) * b)
     (λ p.
     le-trans (cell-most w s p _)
-    (le-trans (window-most (entry later) b h (p + length w + low) (high + 1 - low)) (mul-le-mul-right b (omega arith))))
+    (le-trans (window-most (entry later) b h (p + (length w + low)) (length w + high + 1 - (length w + low))) (mul-le-mul-right b (omega arith))))
     n
     e

@@ -5,7 +5,6 @@ use mathlib.Core.List.{List, [], _∷_, map}
 use Prim.Native.Nat.{ℕ, zero, suc, _+_, _-_, _^_, _≤_, _<_}
 use native.Mathlib.Omega.{arith}
 use lib.ListN.{length, drop, getD, length-map}
-use Rattle.rules.specs.Profile.{profile-of, exactly}
 use Rattle.rules.specs.Letters.{letter, value}
 use Rattle.rules.specs.Limits.{Letter-BASES}
 use Rattle.rules.specs.Lists.{each, sum}
@@ -13,63 +12,66 @@ use Rattle.rules.specs.Motif.{spell}
 use Rattle.rules.specs.Recovery.{whole-list}
 use Rattle.rules.specs.Sequences.{sequences}
 use Rattle.rules.specs.Sound.{SoundSet, SoundTemplate}
-use Rattle.rules.specs.Support.{parts-in, weight, occurrence-rows, parts}
+use Rattle.rules.specs.Support.{weight, occurrence-rows, parts}
 use Rattle.rules.specs.Template.{deal, none, components, size, cut}
 use Rattle.rules.specs.declared.Component.{Component}
 use Rattle.rules.specs.declared.Template.{Template}
 use Rattle.rules.proofs.Bound.{list-bound}
-use Rattle.rules.proofs.Bytes.{lettered, Spelled, cut-spelled, cut-bytes}
+use Rattle.rules.proofs.Bytes.{lettered, cut-spelled, cut-bytes}
 use Rattle.rules.proofs.Components.{cut-some, components-some}
+use Rattle.rules.proofs.Exact.{exact-search, exact-parts}
 use Rattle.rules.proofs.Spelling.{length-spell, spell-below, spell-drop}
 use Rattle.rules.proofs.Tables.{map-drop}
 use Rattle.ways.specs.Counts.{counts, all-counts, positives, Tally, letters-of, aligned}
 use Rattle.ways.proofs.Aligned.{letters-within}
 use Rattle.ways.proofs.Bytes.{counts-bytes, all-bytes}
+use Rattle.ways.proofs.Counting.{counts-after}
 use Rattle.ways.proofs.Totals.{weight-counts, rows-counts}
 
--- the parts from the component c on are those of the later components and letters alone
-drop-cut : (cs : List Component) → ((i : ℕ) → i < length cs → 1 ≤ (getD cs i none) .length) → (c m : ℕ)
-    → drop c (cut cs (spell Letter-BASES (letters-of cs) m)) ≡ cut (drop c cs) (spell Letter-BASES (letters-of (drop c cs)) m)
+-- the parts from the component c on are those of the later components and letters alone, after the k letters of the one before
+drop-cut : (n : ℕ) (cs : List Component) → ((i : ℕ) → i < length cs → 1 ≤ (getD cs i none) .length) → (c m : ℕ)
+    → (k : ℕ) × (drop c (cut n cs (spell Letter-BASES (letters-of cs) m)) ≡ cut k (drop c cs) (spell Letter-BASES (letters-of (drop c cs)) m))
 unfolding letters-of sum deal
-drop-cut cs some zero m = refl
-drop-cut [] some (suc c) m = refl
-drop-cut (x ∷ cs) some (suc c) m =
+drop-cut n cs some zero m = (n, refl)
+drop-cut n [] some (suc c) m = (n, refl)
+drop-cut n (x ∷ cs) some (suc c) m =
     let h : 0 < length (spell Letter-BASES (x .length + letters-of cs) m) = rw length-spell (omega (arith, some 0 (omega arith))) in
-    rw (cut-some x cs _ h, spell-drop Letter-BASES (x .length) (letters-of cs) m) (drop-cut cs (λ i l. some (suc i) (omega arith)) c m)
+    let r = drop-cut (x .length) cs (λ i l. some (suc i) (omega arith)) c m in
+    (r .0, rw (cut-some n x cs _ h, spell-drop Letter-BASES (x .length) (letters-of cs) m) (r .1))
 
 aligned-bytes : (cs : List Component) (n m : ℕ) → letters-of cs ≤ n
-    → aligned cs (map letter (spell Letter-BASES n m)) ≡ map lettered (cut cs (spell Letter-BASES (letters-of cs) m))
+    → aligned cs (map letter (spell Letter-BASES n m)) ≡ map lettered (cut 0 cs (spell Letter-BASES (letters-of cs) m))
 unfolding aligned
 aligned-bytes cs n m h =
     let e : n ≡ (n - letters-of cs) + letters-of cs = omega arith in
     let k : drop (n - letters-of cs) (spell Letter-BASES n m) ≡ spell Letter-BASES (letters-of cs) m =
     ap (λ j. drop (n - letters-of cs) (spell Letter-BASES j m)) e ∙ spell-drop Letter-BASES (n - letters-of cs) (letters-of cs) m in
-    rw (length-map (spell Letter-BASES n m) letter, length-spell, map-drop letter (n - letters-of cs) (spell Letter-BASES n m), k) (cut-bytes cs _)
+    rw (length-map (spell Letter-BASES n m) letter, length-spell, map-drop letter (n - letters-of cs) (spell Letter-BASES n m), k) (cut-bytes 0 cs _)
 
 -- ---- the motif m of a template, spelled in n bytes
 
 module _ {t : Template} (sound : SoundTemplate t) (m n : ℕ) (fits : size t ≤ n) where
-  parts-from : (c : ℕ) → drop c (parts t (size t) m) ≡ cut (drop c (components t)) (spell Letter-BASES (letters-of (drop c (components t))) m)
-  unfolding parts-in profile-of exactly size letters-of
-  parts-from c = drop-cut (components t) (components-some sound) c m
-
-  spelled-from : (c : ℕ) → Spelled (drop c (parts t (size t) m))
-  spelled-from c = rw (parts-from c) (cut-spelled _ _ (spell-below Letter-BASES _ m (omega arith)))
-
-  aligned-from : (c : ℕ) → aligned (drop c (components t)) (map letter (spell Letter-BASES n m)) ≡ map lettered (drop c (parts t (size t) m))
+  parts-from : (c : ℕ) → (k : ℕ) × (drop c (parts t (size t) m) ≡ cut k (drop c (components t)) (spell Letter-BASES (letters-of (drop c (components t))) m))
   unfolding size letters-of
-  aligned-from c = rw (parts-from c) (aligned-bytes (drop c (components t)) n m (omega (arith, letters-within (components t) c)))
+  parts-from c = rw (exact-parts t (exact-search t) (size t) m) (drop-cut 0 (components t) (components-some sound) c m)
 
   -- the counts from the component c on in one sequence
   pub counts-motif : (c : ℕ) (s : List ℕ) {w y : List ℕ} → w ≡ map letter (spell Letter-BASES n m)
       → y ≡ counts (aligned (drop c (components t)) w) s → y ≡ counts (drop c (parts t (size t) m)) (map value s)
-  counts-motif c s ew ey = rw (ey, ew, aligned-from c, counts-bytes _ s (spelled-from c))
+  unfolding size letters-of
+  counts-motif c s ew ey =
+      let cs = drop c (components t) in
+      let v = spell Letter-BASES (letters-of cs) m in
+      let fit : letters-of cs ≤ n = omega (arith, letters-within (components t) c) in
+      let digits = cut-spelled 0 cs v (spell-below Letter-BASES (letters-of cs) m (omega arith)) in
+      let r = parts-from c in
+      rw (ey, ew, aligned-bytes cs n m fit, counts-bytes (cut 0 cs v) s digits, r .1) (counts-after 0 (r .0) cs v (map value s))
 
   -- those of the whole motif in all sequences
   module _ (letters lengths : List ℕ) {w : List ℕ} (spelled : w ≡ map letter (spell Letter-BASES n m)) where
     all-motif : all-counts (aligned (components t) w) lengths letters ≡ each (counts (parts t (size t) m)) (sequences letters lengths)
     unfolding sequences all-counts
-    all-motif = rw (spelled, aligned-from 0) (all-bytes _ (spelled-from 0) lengths letters)
+    all-motif = all-bytes (counts (aligned (components t) w)) (counts (parts t (size t) m)) (λ s. counts-motif 0 s spelled refl) lengths letters
 
     -- add up to a number of 64 bits
     pub all-small : SoundSet letters lengths → sum (all-counts (aligned (components t) w) lengths letters) < 2 ^ 64

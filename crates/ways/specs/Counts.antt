@@ -48,12 +48,12 @@ ending w s p = cell w s p 1
 
 -- the ways of a part and those after it, from the counts of those: the sum over all positions where the next may start
 unfoldable pub leading : List ℕ → ℕ → ℕ → List ℕ → List ℕ → ℕ → ℕ
-leading w low high s later p = cell w s p (sum (map (entry later) (reach (length w) low high p)))
+leading w low high s later p = cell w s p (sum (map (entry later) (reach (length w + low) (length w + high) p)))
 
 -- THE LETTERS. How many letters some components take
 unfoldable pub letters-of : List Component → ℕ
 letters-of cs = sum (map (λ c. c .length) cs)
 
--- the parts that they are if their letters are the last of w
+-- the parts that they are if their letters are the last of w, with none before them
 unfoldable pub aligned : List Component → List ℕ → List Part
-aligned cs w = cut cs (drop (length w - letters-of cs) w)
+aligned cs w = cut 0 cs (drop (length w - letters-of cs) w)
