@@ -67,10 +67,11 @@ module _ (n : ℕ) (flags row : List ℕ) (c : ℕ) where
       under =
           let x = getD (slots t) c none in
           let y = getD (slots t) (c + 1) none in
-          let k : to + 1 - from ≡ y .high + 1 - y .low = omega arith in
+          let k : to + 1 - from ≡ x .length + y .high + 1 - (x .length + y .low) = omega arith in
+          let f : from ≡ q + (x .length + y .low) = omega arith in
           let z : drop c (components t) ≡ x ∷ drop (c + 1) (components t) = rw (add-one c) (components-more t few c (omega arith)) in
           let w : c + length (drop c (components t)) ≡ c + 1 + length (drop (c + 1) (components t)) = rw z (omega arith) in
-          rw (w, k, row-more longer c q h, same, paths-more n flags c q x y (drop (suc (c + 1)) (components t)) z (components-more t few (c + 1) l) flagged, after-more (take (suc c) row) q, add-one c)
+          rw (w, k, f, row-more longer c q h, same, paths-more n flags c q x y (drop (suc (c + 1)) (components t)) z (components-more t few (c + 1) l) flagged, after-more (take (suc c) row) q, add-one c)
 
       pub next-turn : {a e : ℕ} {r : Buffer} → a ≡ from → e ≡ min n to + 1
           → r ≡ handed (drop (c + 1) (components t)) n flags (set longer (c + 1) q) (c + 1) a e s → r ≡ handed (drop c (components t)) n flags row c q (q + 1) s

@@ -7,20 +7,19 @@ use Prim.Native.Nat.{ℕ, suc, _+_, _≤_, _<_}
 use native.Mathlib.Nat.{zero-add, add-zero}
 use native.Mathlib.Omega.{arith}
 use lib.Dec.{ltb}
-use lib.ListN.{length, drop, getD, length-take, length-drop}
+use lib.ListN.{length, drop, getD, length-drop}
 use borrow.Author.Tests.{ltb-true, ltb-false}
 use Rattle.descent.specs.Buffer.{Buffer, emits, after}
 use Rattle.descent.specs.Paths.{flag, paths, listed, Flagged}
-use Rattle.rules.specs.Profile.{profile-of, exactly}
+use Rattle.rules.specs.Profile.{profile-of, base-of}
 use Rattle.rules.proofs.Components.{components-length, components-some}
 use Rattle.descent.proofs.Paths.{flag-zero, flag-past}
-use Rattle.rules.specs.Limits.{Letter-BASES}
 use Rattle.rules.specs.Lists.{run, if, each, some?, sum}
 use Rattle.rules.specs.Motif.{spell}
 use Rattle.rules.specs.Occurrence.{found, reach, starts, occurrences}
 use Rattle.rules.specs.Sound.{SoundTemplate}
 use Rattle.rules.specs.Support.{parts-in, parts}
-use Rattle.rules.specs.Template.{deal, Part, none, components, size, cut}
+use Rattle.rules.specs.Template.{Part, Reading, none, components, size, deal}
 use Rattle.rules.specs.declared.Component.{Component}
 use Rattle.rules.specs.declared.Template.{Template}
 use Rattle.rules.proofs.Lists.{each-same}
@@ -28,26 +27,27 @@ use Rattle.rules.proofs.Occurs.{Worded, parts-worded}
 use Rattle.rules.proofs.Spelling.{length-spell}
 use Rattle.rules.proofs.Stands.{found-is}
 
--- ---- the parts of a motif have the lengths and ranges of the components
+-- ---- the parts of a motif have the distances of the components, the first of which follows one of n letters
 
-abbrev Shaped : List Component → List Part → Type 0
-Shaped [] [] = Unit {0}
-Shaped [] (c ∷ cs) = ⊥
-Shaped (x ∷ xs) [] = ⊥
-Shaped (x ∷ xs) (c ∷ cs) = (length (c .word) ≡ x .length) × (c .low ≡ x .low) × (c .high ≡ x .high) × Shaped xs cs
+abbrev Shaped : ℕ → List Component → List Part → Type 0
+Shaped n [] [] = Unit {0}
+Shaped n [] (c ∷ cs) = ⊥
+Shaped n (x ∷ xs) [] = ⊥
+Shaped n (x ∷ xs) (c ∷ cs) = (c .near ≡ n + x .low) × (c .far ≡ n + x .high) × Shaped (x .length) xs cs
 
-cut-shaped : (xs : List Component) (w : List ℕ) → ((i : ℕ) → i < length xs → 1 ≤ (getD xs i none) .length) → sum (map (λ c. c .length) xs) ≡ length w → Shaped xs (cut xs w)
+deal-shaped : (R : Reading) (n : ℕ) (xs : List Component) (w : List ℕ) → ((i : ℕ) → i < length xs → 1 ≤ (getD xs i none) .length) → sum (map (λ c. c .length) xs) ≡ length w
+    → Shaped n xs (deal R n xs w)
 unfolding deal sum
-cut-shaped [] w some e = tt
-cut-shaped (x ∷ xs) [] some e = absurd (omega (arith, some 0 (omega arith)))
-cut-shaped (x ∷ xs) (y ∷ w) some e =
-    (omega (arith, length-take (x .length) (y ∷ w)), refl, refl, cut-shaped xs (drop (x .length) (y ∷ w)) (λ i h. some (suc i) (omega arith)) (omega (arith, length-drop (x .length) (y ∷ w))))
+deal-shaped R n [] w some e = tt
+deal-shaped R n (x ∷ xs) [] some e = absurd (omega (arith, some 0 (omega arith)))
+deal-shaped R n (x ∷ xs) (y ∷ w) some e =
+    (refl, refl, deal-shaped R (x .length) xs (drop (x .length) (y ∷ w)) (λ i h. some (suc i) (omega arith)) (omega (arith, length-drop (x .length) (y ∷ w))))
 
-shaped-length : (xs : List Component) (cs : List Part) → Shaped xs cs → length cs ≡ length xs
-shaped-length [] [] h = refl
-shaped-length [] (c ∷ cs) h = absurd h
-shaped-length (x ∷ xs) [] h = absurd h
-shaped-length (x ∷ xs) (c ∷ cs) h = ap suc (shaped-length xs cs (h .3))
+shaped-length : (n : ℕ) (xs : List Component) (cs : List Part) → Shaped n xs cs → length cs ≡ length xs
+shaped-length n [] [] h = refl
+shaped-length n [] (c ∷ cs) h = absurd h
+shaped-length n (x ∷ xs) [] h = absurd h
+shaped-length n (x ∷ xs) (c ∷ cs) h = ap suc (shaped-length (x .length) xs cs (h .2))
 
 -- ---- where nothing starts
 
@@ -99,39 +99,36 @@ module _ (s flags : List ℕ) where
   said-later d ds c said i h p l k = let e : suc c + i ≡ c + suc i = omega arith in rw e (said (suc i) (omega arith) p l k)
 
   -- the starts that are read off are those that there are
-  paths-starts : (xs : List Component) (cs : List Part) (c : ℕ) → Shaped xs cs → Worded cs → Said cs c → (p : ℕ) → paths (length s) flags xs c p ≡ starts cs s p
+  paths-starts : (n : ℕ) (xs : List Component) (cs : List Part) (c : ℕ) → Shaped n xs cs → Worded cs → Said cs c → (p : ℕ) → paths (length s) flags xs c p ≡ starts cs s p
   unfolding paths starts
-  paths-starts [] [] c shaped worded said p = refl
-  paths-starts [] (d ∷ ds) c shaped worded said p = absurd shaped
-  paths-starts (x ∷ xs) [] c shaped worded said p = absurd shaped
-  paths-starts (x ∷ []) (d ∷ []) c shaped worded said p = same-if (found d s p) ((p ∷ []) ∷ []) (said-first d [] c p worded said)
-  paths-starts (x ∷ []) (d ∷ e ∷ es) c shaped worded said p = absurd (shaped .3)
-  paths-starts (x ∷ y ∷ ys) (d ∷ []) c shaped worded said p = absurd (shaped .3)
-  paths-starts (x ∷ y ∷ ys) (d ∷ e ∷ es) c shaped worded said p =
-      let h = shaped .3 in
-      let later = paths-starts (y ∷ ys) (e ∷ es) (suc c) h (λ i l. worded (suc i) (omega arith)) (said-later d (e ∷ es) c said) in
-      let near : reach (x .length) (y .low) (y .high) p ≡ reach (length (d .word)) (e .low) (e .high) p = rw (shaped .0, h .1, h .2) in
-      let same : each (paths (length s) flags (y ∷ ys) (suc c)) (reach (x .length) (y .low) (y .high) p) ≡ each (starts (e ∷ es) s) (reach (length (d .word)) (e .low) (e .high) p) =
-      each-same (paths (length s) flags (y ∷ ys) (suc c)) (starts (e ∷ es) s) (reach (x .length) (y .low) (y .high) p) later ∙ ap (each (starts (e ∷ es) s)) near in
-      rw same
-      (same-if (found d s p) (map (λ t. p ∷ t) (each (starts (e ∷ es) s) (reach (length (d .word)) (e .low) (e .high) p))) (said-first d (e ∷ es) c p worded said))
+  paths-starts n [] [] c shaped worded said p = refl
+  paths-starts n [] (d ∷ ds) c shaped worded said p = absurd shaped
+  paths-starts n (x ∷ xs) [] c shaped worded said p = absurd shaped
+  paths-starts n (x ∷ []) (d ∷ []) c shaped worded said p = same-if (found d s p) ((p ∷ []) ∷ []) (said-first d [] c p worded said)
+  paths-starts n (x ∷ []) (d ∷ e ∷ es) c shaped worded said p = absurd (shaped .2)
+  paths-starts n (x ∷ y ∷ ys) (d ∷ []) c shaped worded said p = absurd (shaped .2)
+  paths-starts n (x ∷ y ∷ ys) (d ∷ e ∷ es) c shaped worded said p =
+      let h = shaped .2 in
+      let later = paths-starts (x .length) (y ∷ ys) (e ∷ es) (suc c) h (λ i l. worded (suc i) (omega arith)) (said-later d (e ∷ es) c said) in
+      rw (← (h .0), ← (h .1), each-same (paths (length s) flags (y ∷ ys) (suc c)) (starts (e ∷ es) s) (reach (e .near) (e .far) p) later)
+      (same-if (found d s p) (map (λ t. p ∷ t) (each (starts (e ∷ es) s) (reach (e .near) (e .far) p))) (said-first d (e ∷ es) c p worded said))
 
 -- ---- a motif's parts
 
 module _ {t : Template} (sound : SoundTemplate t) (m : ℕ) where
-  parts-shaped : Shaped (components t) (parts t (size t) m)
-  unfolding parts-in profile-of exactly size
-  parts-shaped = cut-shaped (components t) (spell Letter-BASES (size t) m) (components-some sound) (sym (length-spell Letter-BASES (size t) m))
+  parts-shaped : Shaped 0 (components t) (parts t (size t) m)
+  unfolding parts-in size
+  parts-shaped = deal-shaped (profile-of t .reading) 0 (components t) (spell (base-of t) (size t) m) (components-some sound) (sym (length-spell (base-of t) (size t) m))
 
   -- a part for each component
   pub parts-count : length (parts t (size t) m) ≡ t .count
-  parts-count = shaped-length (components t) (parts t (size t) m) parts-shaped ∙ components-length t (sound .few)
+  parts-count = shaped-length 0 (components t) (parts t (size t) m) parts-shaped ∙ components-length t (sound .few)
 
   module _ (s flags : List ℕ) (flagged : Flagged (parts t (size t) m) s flags 0) where
     -- under each first start stand the occurrences that begin there
     pub paths-are : (p : ℕ) → paths (length s) flags (components t) 0 p ≡ starts (parts t (size t) m) s p
     unfolding Said
-    paths-are = paths-starts s flags (components t) (parts t (size t) m) 0 parts-shaped (parts-worded t sound (size t) m) (λ i h p l k. rw (zero-add i) (flagged i (omega arith) h p l k))
+    paths-are = paths-starts s flags 0 (components t) (parts t (size t) m) 0 parts-shaped (parts-worded t sound (size t) m) (λ i h p l k. rw (zero-add i) (flagged i (omega arith) h p l k))
 
     -- so all that is listed are the occurrences
     pub listed-are : (i n : ℕ) → length s ≡ n → (b : Buffer) {r : Buffer} → r ≡ listed t n flags i b → r ≡ emits (suc (t .count)) (after (i ∷ []) (occurrences (parts t (size t) m) s)) b

@@ -49,7 +49,7 @@ module _ (n : ℕ) (flags : List ℕ) (c p : ℕ) where
   paths-last x q e = rw (q, e)
 
   pub paths-more : {xs ys : List Component} (x y : Component) (zs : List Component) → xs ≡ x ∷ ys → ys ≡ y ∷ zs → flag n flags c p ≡ true
-      → paths n flags xs c p ≡ map (λ t. p ∷ t) (each (paths n flags ys (suc c)) (reach (x .length) (y .low) (y .high) p))
+      → paths n flags xs c p ≡ map (λ t. p ∷ t) (each (paths n flags ys (suc c)) (reach (x .length + y .low) (x .length + y .high) p))
   unfolding paths
   paths-more x y zs q r e = rw (q, r, e)
 

@@ -27,7 +27,7 @@ unfoldable pub paths : ℕ → List ℕ → List Component → ℕ → ℕ → L
 paths n flags [] c p = []
 paths n flags (x ∷ []) c p = if (flag n flags c p) ((p ∷ []) ∷ []) []
 paths n flags (x ∷ y ∷ ys) c p =
-    if (flag n flags c p) (map (λ t. p ∷ t) (each (paths n flags (y ∷ ys) (suc c)) (reach (x .length) (y .low) (y .high) p))) []
+    if (flag n flags c p) (map (λ t. p ∷ t) (each (paths n flags (y ∷ ys) (suc c)) (reach (x .length + y .low) (x .length + y .high) p))) []
 
 -- a buffer after the rows whose numbers before component c stand in `row`, and whose start of c is one of those from a up to e
 unfoldable pub handed : List Component → ℕ → List ℕ → List ℕ → ℕ → ℕ → ℕ → Buffer → Buffer
