@@ -61,14 +61,14 @@ marks-bytes cs low f h (n ∷ ns) l =
 
 -- THE SUPPORT: the marks of the flags of a prefix in bytes are as many as its support
 pub support-bytes : (t : Template) (j m : ℕ) (letters lengths : List ℕ) → SoundTemplate t → 1 ≤ j → {w : List ℕ} → w ≡ bytes j m
-    → {n r : ℕ} → r ≡ n → n ≡ left-count (cut 0 (components t) w) (split lengths letters)
+    → {n r : ℕ} → r ≡ n → n ≡ left-count (cut (components t) w) (split lengths letters)
     → r ≡ support (parts t j m) (sequences letters lengths)
 unfolding support bytes sequences left-count
 support-bytes t j m letters lengths sound h e p q =
     let v = spell Letter-BASES j m in
-    let x : parts t j m ≡ cut 0 (components t) v = exact-parts t (exact-search t) j m in
+    let x : parts t j m ≡ cut (components t) v = exact-parts t (exact-search t) j m in
     let low : Spelled (parts t j m) = rw x (cut-spelled 0 (components t) v (spell-below Letter-BASES j m (omega arith))) in
     p
     ∙ q
-    ∙ ap (λ cs. length (keep (λ b. b) (left-marks cs (split lengths letters)))) (ap (cut 0 (components t)) e ∙ cut-bytes 0 (components t) v ∙ rw x)
+    ∙ ap (λ cs. length (keep (λ b. b) (left-marks cs (split lengths letters)))) (ap (cut (components t)) e ∙ cut-bytes 0 (components t) v ∙ rw x)
     ∙ ap (λ bs. length (keep (λ b. b) bs)) (marks-bytes (parts t j m) low (parts-worded t sound j m) (parts-some t sound j m h) lengths letters)

@@ -13,7 +13,7 @@ use Rattle.rules.specs.Letters.{letter, value}
 use Rattle.rules.specs.Limits.{Letter-BASES}
 use Rattle.rules.specs.Lists.{if}
 use Rattle.rules.specs.Occurrence.{front, front-by, stands, stands-by}
-use Rattle.rules.specs.Template.{Part, part, deal, cut}
+use Rattle.rules.specs.Template.{Part, part, deal, cut-after}
 use Rattle.rules.specs.declared.Component.{Component}
 use Rattle.rules.proofs.Occurs.{Exact}
 use Rattle.rules.proofs.Tables.{map-take, map-drop}
@@ -84,14 +84,14 @@ digits-drop : (n : ℕ) (w : List ℕ) → Digits w → Digits (drop n w)
 digits-drop n w h i = rw (getD-drop n w i 0) (h (n + i))
 
 -- parts of letters below the base have such letters
-pub cut-spelled : (n : ℕ) (cs : List Component) (w : List ℕ) → Digits w → Spelled (cut n cs w)
+pub cut-spelled : (n : ℕ) (cs : List Component) (w : List ℕ) → Digits w → Spelled (cut-after n cs w)
 unfolding deal Spelled
 cut-spelled n [] w h = tt
 cut-spelled n (c ∷ cs) [] h = tt
 cut-spelled n (c ∷ cs) (x ∷ w) h = (digits-take (c .length) (x ∷ w) h, λ s p. refl, cut-spelled (c .length) cs (drop (c .length) (x ∷ w)) (digits-drop (c .length) (x ∷ w) h))
 
 -- the bytes of letters give the bytes of the parts
-pub cut-bytes : (n : ℕ) (cs : List Component) (w : List ℕ) → cut n cs (map letter w) ≡ map lettered (cut n cs w)
+pub cut-bytes : (n : ℕ) (cs : List Component) (w : List ℕ) → cut-after n cs (map letter w) ≡ map lettered (cut-after n cs w)
 unfolding deal
 cut-bytes n [] w = refl
 cut-bytes n (c ∷ cs) [] = refl

@@ -7,7 +7,7 @@ use lib.ListN.{length, take, drop, getD, drop-of-length-le}
 use lib.Seq.{drop-cons, getD-take, length-take-le}
 use Rattle.rules.specs.Limits.{Template-COMPONENTS}
 use Rattle.rules.specs.Sound.{SoundTemplate}
-use Rattle.rules.specs.Template.{part, none, slots, components, deal, cut}
+use Rattle.rules.specs.Template.{part, none, slots, components, deal, cut-after}
 use Rattle.rules.specs.declared.Component.{Component}
 use Rattle.rules.specs.declared.Template.{Template}
 
@@ -38,7 +38,7 @@ components-some {t} sound i h =
 
 -- the first component takes the first letters, if there are any
 pub cut-some : (n : ℕ) (c : Component) (cs : List Component) (w : List ℕ) → 0 < length w
-    → cut n (c ∷ cs) w ≡ part (n + c .low) (n + c .high) (take (c .length) w) ∷ cut (c .length) cs (drop (c .length) w)
+    → cut-after n (c ∷ cs) w ≡ part (n + c .low) (n + c .high) (take (c .length) w) ∷ cut-after (c .length) cs (drop (c .length) w)
 unfolding deal
 cut-some n c cs [] h = absurd (omega arith)
 cut-some n c cs (x ∷ w) h = refl

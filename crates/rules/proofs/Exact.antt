@@ -46,7 +46,7 @@ module _ (t : Template) (e : profile-of t ≡ exactly) where
   unfolding exactly
   exact-most = ap (λ P. P .most) e
 
-  pub exact-parts : (j m : ℕ) → parts t j m ≡ cut 0 (components t) (spell Letter-BASES j m)
+  pub exact-parts : (j m : ℕ) → parts t j m ≡ cut (components t) (spell Letter-BASES j m)
   unfolding parts-in exactly
   exact-parts j m = rw e
 

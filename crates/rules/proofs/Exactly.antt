@@ -7,7 +7,7 @@ use Prim.Native.Nat.{ℕ, zero, suc, _+_, _<_}
 use native.Mathlib.Omega.{arith}
 use lib.ListN.{length, drop, getD}
 use Rattle.rules.specs.Occurrence.{nth, Found, Follows, Occurs, Stands, Gap, OccursExactly}
-use Rattle.rules.specs.Template.{Reading, none, deal, cut}
+use Rattle.rules.specs.Template.{Reading, none, deal, cut-after, cut}
 use Rattle.rules.specs.declared.Component.{Component}
 use Rattle.rules.proofs.Stands.{stands-exactly}
 
@@ -43,15 +43,15 @@ follows-gap R n cs w i p q l =
     )
 
 -- a part that is read exactly is found where each of its letters is the one there
-cut-stands : (n : ℕ) (cs : List Component) (w s : List ℕ) (i p : ℕ) → i < length (cut n cs w)
-    → Found (nth (cut n cs w) i) s p ↔ Stands (nth (cut n cs w) i .word) s p
+cut-stands : (n : ℕ) (cs : List Component) (w s : List ℕ) (i p : ℕ) → i < length (cut-after n cs w)
+    → Found (nth (cut-after n cs w) i) s p ↔ Stands (nth (cut-after n cs w) i .word) s p
 unfolding deal
 cut-stands n [] w s i p l = absurd (omega arith)
 cut-stands n (c ∷ cs) [] s i p l = absurd (omega arith)
 cut-stands n (c ∷ cs) (x ∷ w) s zero p l = stands-exactly _ s p
 cut-stands n (c ∷ cs) (x ∷ w) s (suc i) p l = cut-stands (c .length) cs (drop (c .length) (x ∷ w)) s i p (omega arith)
 
-pub occurs-exactly : (cs : List Component) (w s ps : List ℕ) → Occurs (cut 0 cs w) s ps ↔ OccursExactly cs w s ps
+pub occurs-exactly : (cs : List Component) (w s ps : List ℕ) → Occurs (cut cs w) s ps ↔ OccursExactly cs w s ps
 occurs-exactly cs w s ps = (
   λ o. record {
     one-each = o .one-each;

@@ -21,7 +21,7 @@ use Rattle.rules.specs.Relay.{whole-steps}
 use Rattle.rules.specs.Sequences.{sequences}
 use Rattle.rules.specs.Sound.{SoundSet, SoundTemplate}
 use Rattle.rules.specs.Support.{support, parts-in, measure, reaches}
-use Rattle.rules.specs.Template.{Part, components, size, deal, cut}
+use Rattle.rules.specs.Template.{Part, components, size, deal, cut-after}
 use Rattle.rules.specs.Walk.{walk-in, goods}
 use Rattle.rules.specs.declared.Component.{Component}
 use Rattle.rules.specs.declared.Template.{Template}
@@ -116,7 +116,7 @@ placed-in (c ∷ d ∷ ds) s p ps x m = go (found c s p) refl m (λ q qs. placed
 -- ---- the parts of a prefix
 
 -- the lengths and distances go by how many letters are dealt out, not by which
-cut-forms : (b : ℕ) (cs : List Component) (v w : List ℕ) → length v ≡ length w → map form (cut b cs v) ≡ map form (cut b cs w)
+cut-forms : (b : ℕ) (cs : List Component) (v w : List ℕ) → length v ≡ length w → map form (cut-after b cs v) ≡ map form (cut-after b cs w)
 unfolding deal
 cut-forms b [] v w e = refl
 cut-forms b (c ∷ cs) [] [] e = refl
@@ -128,7 +128,7 @@ cut-forms b (c ∷ cs) (x ∷ v) (y ∷ w) e =
     rw (k, cut-forms n cs (drop n (x ∷ v)) (drop n (y ∷ w)) (omega (arith, length-drop n (x ∷ v), length-drop n (y ∷ w))))
 
 -- letters dealt out to components that have room for them are all there
-cut-spelt : (n : ℕ) (cs : List Component) (w : List ℕ) → length w ≤ sum (map (λ c. c .length) cs) → spelt (cut n cs w) ≡ w
+cut-spelt : (n : ℕ) (cs : List Component) (w : List ℕ) → length w ≤ sum (map (λ c. c .length) cs) → spelt (cut-after n cs w) ≡ w
 unfolding deal joined sum
 cut-spelt n [] [] h = refl
 cut-spelt n [] (x ∷ w) h = absurd (omega arith)

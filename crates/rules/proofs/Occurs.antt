@@ -16,7 +16,7 @@ use Rattle.rules.specs.Occurrence.{stands, found, reach, starts, occurre
 use Rattle.rules.specs.Profile.{profile-of, base-of}
 use Rattle.rules.specs.Sound.{SoundTemplate}
 use Rattle.rules.specs.Support.{rows-from, occurrence-rows, parts, parts-in}
-use Rattle.rules.specs.Template.{Part, Reading, none, slots, components, deal, cut}
+use Rattle.rules.specs.Template.{Part, Reading, none, slots, components, deal, cut-after}
 use Rattle.rules.specs.declared.Component.{Component}
 use Rattle.rules.specs.declared.Template.{Template}
 use Rattle.rules.proofs.Members.{each-in, each-out}
@@ -35,7 +35,7 @@ Plain [] = Unit {0}
 Plain (c ∷ cs) = Exact c × Plain cs
 
 -- those of the exact search are
-pub cut-plain : (n : ℕ) (cs : List Component) (w : List ℕ) → Plain (cut n cs w)
+pub cut-plain : (n : ℕ) (cs : List Component) (w : List ℕ) → Plain (cut-after n cs w)
 unfolding deal
 cut-plain n [] w = tt
 cut-plain n (c ∷ cs) [] = tt

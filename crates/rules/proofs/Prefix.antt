@@ -57,7 +57,7 @@ front-less f k (x ∷ w) y (z ∷ s) e = go (f x z) k e (λ k. front-less f k w 
         → if b (front-by f k w s) (spare k false (λ k. front-by f k w s)) ≡ true
     go true k e ih = ih k e
     go false zero e ih = e
-    go false (suc k) e ih = ih k e
+    go false (suc k) e ih = ih _ e
 
 pub stands-less : (f : ℕ → ℕ → Bool) (k : ℕ) (w : List ℕ) (y : ℕ) (s : List ℕ) (p : ℕ) → stands-by f k (w ++ (y ∷ [])) s p ≡ true → stands-by f k w s p ≡ true
 unfolding stands-by

@@ -5,14 +5,14 @@ use mathlib.Core.List.{List, [], _∷_, _++_}
 use Prim.Native.Nat.{ℕ, zero, suc, _/_, _%_, _≤_}
 use native.Mathlib.Nat.{pow-zero, div-one, mod-eq-of-lt}
 use native.Mathlib.Omega.{arith}
-use lib.Dec.{leb, ltb}
+use lib.Dec.{leb}
 use lib.ListN.{length, take, drop, length-append, drop-of-length-le}
 use lib.Seq.{take-all, take-append-le, drop-append-le}
 use borrow.Author.Tests.{leb-true, leb-false, le-leb}
-use Rattle.rules.specs.Limits.{Letter-BASES, Letter-KINDS}
+use Rattle.rules.specs.Limits.{Letter-BASES}
 use Rattle.rules.specs.Lists.{keep, all?}
 use Rattle.rules.specs.Motif.{spell}
-use Rattle.rules.specs.Profile.{Tally, by-sequence, by-occurrence, Profile, Proper, allowed, to-come, exactly, repeated, substituted, within, mixed}
+use Rattle.rules.specs.Profile.{Tally, by-sequence, by-occurrence, Profile, Proper, allowed, to-come, exactly, repeated, substituted, several, within, mixed}
 use Rattle.rules.specs.Sound.{SoundTemplate}
 use Rattle.rules.specs.Support.{counted, tallied, allowed-in, reaches, parts-in, measure}
 use Rattle.rules.specs.Template.{Part, components, size, deal}
@@ -145,16 +145,23 @@ unfolding all?
 all-less f [] ys e = refl
 all-less f (x ∷ xs) ys e = let h = both (f x) _ .0 e in both _ _ .1 (h .0, all-less f xs ys (h .1))
 
-pub mixed-proper : (several : Component → ℕ) → Proper (mixed several)
-unfolding mixed within all? keep
-mixed-proper several = record {
+several-less : (w : List ℕ) (y : ℕ) → several w ≤ several (w ++ (y ∷ []))
+unfolding several
+several-less w y = omega (arith, ap length (keep-append (leb Letter-BASES) w (y ∷ [])), length-append (keep (leb Letter-BASES) w) (keep (leb Letter-BASES) (y ∷ [])))
+
+none-leb : (n : ℕ) → leb 0 n ≡ true
+none-leb n = le-leb 0 n (omega arith)
+
+leb-less : (a b n : ℕ) → a ≤ b → leb b n ≡ true → leb a n ≡ true
+leb-less a b n l e = le-leb a n (omega (arith, leb-true b n e))
+
+pub mixed-proper : (most : Component → ℕ) → Proper (mixed most)
+unfolding mixed within several all? keep
+mixed-proper most = record {
   pos = omega arith;
   short = omega arith;
   wide = omega arith;
-  none = λ c. le-leb 0 (several c) (omega arith);
-  first = λ c. le-leb 0 (several c) (omega arith);
-  closed = λ c w y e.
-    let h = both (all? (λ x. ltb x Letter-KINDS) (w ++ (y ∷ []))) _ .0 e in
-    let l : length (keep (leb Letter-BASES) w) ≤ several c = omega (arith, leb-true _ (several c) (h .1), ap length (keep-append (leb Letter-BASES) w (y ∷ [])), length-append (keep (leb Letter-BASES) w) (keep (leb Letter-BASES) (y ∷ []))) in
-    both _ _ .1 (all-less _ w (y ∷ []) (h .0), le-leb _ (several c) l);
+  none = λ c. rw none-leb;
+  first = λ c. rw none-leb;
+  closed = λ c w y e. let h = both (all? _ (w ++ (y ∷ []))) _ .0 e in both _ _ .1 (all-less _ w (y ∷ []) (h .0), leb-less _ _ _ (several-less w y) (h .1));
 }

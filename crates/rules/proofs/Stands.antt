@@ -27,7 +27,7 @@ module _ (f : ℕ → ℕ → Bool) where
       go : (b : Bool) (k : ℕ) → if b (front-by f k w s) (spare k false (λ k. front-by f k w s)) ≡ true → ((k : ℕ) → front-by f k w s ≡ true → length w ≤ length s) → suc (length w) ≤ suc (length s)
       go true k e ih = omega (arith, ih k e)
       go false zero e ih = absurd (false≢true e)
-      go false (suc k) e ih = omega (arith, ih k e)
+      go false (suc k) e ih = let h = ih _ e in omega arith
 
   -- and at most k do not fit
   front-close : (k : ℕ) (w s : List ℕ) → front-by f k w s ≡ true → misses f w s ≤ k
@@ -39,7 +39,7 @@ module _ (f : ℕ → ℕ → Bool) where
       go : (b : Bool) (k : ℕ) → if b (front-by f k w s) (spare k false (λ k. front-by f k w s)) ≡ true → ((k : ℕ) → front-by f k w s ≡ true → misses f w s ≤ k) → if b (misses f w s) (suc (misses f w s)) ≤ k
       go true k e ih = ih k e
       go false zero e ih = absurd (false≢true e)
-      go false (suc k) e ih = omega (arith, ih k e)
+      go false (suc k) e ih = let h = ih _ e in omega arith
 
   front-all : (k : ℕ) (w s : List ℕ) → length w ≤ length s → misses f w s ≤ k → front-by f k w s ≡ true
   unfolding front-by misses

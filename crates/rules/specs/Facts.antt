@@ -60,7 +60,7 @@ AT : List ℕ
 AT = 0 ∷ 3 ∷ []
 
 in-E : List ℕ → ℕ
-in-E w = support (cut 0 (components pair) w) (sequences letters lengths)
+in-E w = support (cut (components pair) w) (sequences letters lengths)
 
 -- what a call tells, as numbers: what it gives, or its refusal's number and place
 search-told : Told Search → List ℕ
@@ -122,8 +122,8 @@ facts =
     ∷ is (counts-told ((recover-rule letters lengths pair 2 0 (replicate 11 9)) .told)) (3 ∷ 3 ∷ [])
     ∷ is ((recover-rule letters lengths pair 2 0 (replicate 11 9)) .out) (1 ∷ 1 ∷ 3 ∷ 2 ∷ 2 ∷ 3 ∷ 2 ∷ 2 ∷ 4 ∷ 9 ∷ 9 ∷ [])
     -- p6: AAA: AA has occurrences (1,2), (1,3), (2,3) and 2 starts
-    ∷ is (joined (occurrences (cut 0 (components pair) AA) (0 ∷ 0 ∷ 0 ∷ []))) (1 ∷ 2 ∷ 1 ∷ 3 ∷ 2 ∷ 3 ∷ [])
-    ∷ is (weight (cut 0 (components pair) AA) ((0 ∷ 0 ∷ 0 ∷ []) ∷ []) ∷ []) (2 ∷ [])
+    ∷ is (joined (occurrences (cut (components pair) AA) (0 ∷ 0 ∷ 0 ∷ []))) (1 ∷ 2 ∷ 1 ∷ 3 ∷ 2 ∷ 3 ∷ [])
+    ∷ is (weight (cut (components pair) AA) ((0 ∷ 0 ∷ 0 ∷ []) ∷ []) ∷ []) (2 ∷ [])
     -- p7: the join of 1 4 with 3 5, head 1: range 0,1 gives 1 4; range 0,0 gives 4
     ∷ is ((join-rule (1 ∷ 4 ∷ []) (3 ∷ 5 ∷ []) 1 0 1 (9 ∷ 9 ∷ [])) .out) (1 ∷ 4 ∷ [])
     ∷ is ((join-rule (1 ∷ 4 ∷ []) (3 ∷ 5 ∷ []) 1 0 0 (9 ∷ 9 ∷ [])) .out) (4 ∷ 9 ∷ [])

@@ -103,7 +103,7 @@ pub record Gap (n low high p q : ℕ) : Type 0 where
 -- letters w dealt out to components cs: one start for each, such that its letters stand there, and each next start minus the
 -- previous start minus the previous length lies in its range
 pub record OccursExactly (cs : List Component) (w s ps : List ℕ) : Type 0 where
-  pub one-each : length ps ≡ length (cut 0 cs w)
-  pub standing : (i : ℕ) → i < length (cut 0 cs w) → Stands (nth (cut 0 cs w) i .word) s (getD ps i 0)
-  pub gaps : (i : ℕ) → suc i < length (cut 0 cs w)
+  pub one-each : length ps ≡ length (cut cs w)
+  pub standing : (i : ℕ) → i < length (cut cs w) → Stands (nth (cut cs w) i .word) s (getD ps i 0)
+  pub gaps : (i : ℕ) → suc i < length (cut cs w)
       → Gap (getD cs i none .length) (getD cs (suc i) none .low) (getD cs (suc i) none .high) (getD ps i 0) (getD ps (suc i) 0)

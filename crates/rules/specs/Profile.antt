@@ -69,12 +69,16 @@ bases = 1 ∷ 2 ∷ 4 ∷ 8 ∷ 5 ∷ 10 ∷ 12 ∷ 3 ∷ 6 ∷ 9 ∷ 14 ∷ 13 
 unfoldable pub stands-for : ℕ → ℕ → Bool
 stands-for x y = eqb ((getD bases x 0 / 2 ^ y) % 2) 1
 
--- fourteen letters, of which a component may have so many that stand for several bases
+-- how many of some letters stand for several bases
+unfoldable pub several : List ℕ → ℕ
+several w = length (keep (leb Letter-BASES) w)
+
+-- fourteen letters, of which a component may have so many that do
 unfoldable pub within : (Component → ℕ) → Component → List ℕ → Bool
-within several c w = all? (λ x. ltb x Letter-KINDS) w && leb (length (keep (leb Letter-BASES) w)) (several c)
+within most c w = all? (λ x. ltb x Letter-KINDS) w && leb (several w) (most c)
 
 unfoldable pub mixed : (Component → ℕ) → Profile
-mixed several = record { base = Letter-PLACES; most = Template-MIXED; reading = record { fits = stands-for; slack = λ c. 0 }; allows = within several; tally = by-sequence }
+mixed most = record { base = Letter-PLACES; most = Template-MIXED; reading = record { fits = stands-for; slack = λ c. 0 }; allows = within most; tally = by-sequence }
 
 -- THE PROFILE of a template: the one place that says which kind of search it asks for
 unfoldable pub profile-of : Template → Profile

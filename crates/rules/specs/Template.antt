@@ -74,6 +74,9 @@ deal R n [] w = []
 deal R n (c ∷ cs) [] = []
 deal R n (c ∷ cs) (x ∷ w) = read R n c (take (c .length) (x ∷ w)) ∷ deal R (c .length) cs (drop (c .length) (x ∷ w))
 
--- exactly
-abbrev pub cut : ℕ → List Component → List ℕ → List Part
-cut n cs w = deal plain n cs w
+-- exactly: after a component of n letters, and from the first component on
+abbrev pub cut-after : ℕ → List Component → List ℕ → List Part
+cut-after n cs w = deal plain n cs w
+
+abbrev pub cut : List Component → List ℕ → List Part
+cut cs w = cut-after 0 cs w

@@ -10,7 +10,7 @@ use Rattle.rules.specs.Lists.{sum}
 use Rattle.rules.specs.Motif.{spell}
 use Rattle.rules.specs.Sound.{SoundTemplate, SoundComponent}
 use Rattle.rules.specs.Support.{parts}
-use Rattle.rules.specs.Template.{deal, part, slots, none, components, size, cut}
+use Rattle.rules.specs.Template.{deal, part, slots, none, components, size, cut-after, cut}
 use Rattle.rules.specs.Text.{decimal, shape, shape-rest}
 use Rattle.rules.specs.declared.Component.{Component}
 use Rattle.rules.specs.declared.Template.{Template}
@@ -24,7 +24,7 @@ use Rattle.text.proofs.Letters.{length-letters}
 
 -- a component takes its letters off the front
 cut-more : (c : Component) (cs : List Component) (j m : ℕ) → 1 ≤ c .length
-    → cut 0 (c ∷ cs) (spell 4 (c .length + j) m) ≡ part (0 + c .low) (0 + c .high) (take (c .length) (spell 4 (c .length + j) m)) ∷ cut (c .length) cs (spell 4 j m)
+    → cut (c ∷ cs) (spell 4 (c .length + j) m) ≡ part (0 + c .low) (0 + c .high) (take (c .length) (spell 4 (c .length + j) m)) ∷ cut-after (c .length) cs (spell 4 j m)
 cut-more c cs j m h =
     cut-some 0 c cs (spell 4 (c .length + j) m) (rw length-spell (omega arith)) ∙ rw (spell-drop 4 (c .length) j m)
 
@@ -36,7 +36,7 @@ first-letters c j m = length-take-le (c .length) _ (rw length-spell (omega arith
 as-it-is : (n x : ℕ) → n + x - n ≡ x
 as-it-is n x = omega arith
 
-shape-after : (n : ℕ) (cs : List Component) (w : List ℕ) → shape-rest n (cut n cs w) ≡ shape-rest 0 (cut 0 cs w)
+shape-after : (n : ℕ) (cs : List Component) (w : List ℕ) → shape-rest n (cut-after n cs w) ≡ shape-rest 0 (cut cs w)
 unfolding shape-rest deal
 shape-after n [] w = refl
 shape-after n (c ∷ cs) [] = refl
@@ -53,7 +53,7 @@ unfolding ranged-word
 length-ranged c j m h = rw (length-append, length-letters (c .length) j m h)
 
 shape-first : (c : Component) {cs rest : List Component} (j m : ℕ) → cs ≡ c ∷ rest → 1 ≤ c .length
-    → shape (cut 0 cs (spell 4 (c .length + j) m)) ≡ letters (c .length) (c .length + j) m ++ shape-rest 0 (cut 0 rest (spell 4 j m))
+    → shape (cut cs (spell 4 (c .length + j) m)) ≡ letters (c .length) (c .length + j) m ++ shape-rest 0 (cut rest (spell 4 j m))
 unfolding shape letters
 shape-first c {cs} {rest} j m e h = rw (e, cut-more c rest j m h, first-letters c j m, shape-after (c .length) rest (spell 4 j m))
 

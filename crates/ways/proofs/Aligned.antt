@@ -10,7 +10,7 @@ use lib.Seq.{drop-cons, drop-drop, getD-take}
 use Rattle.rules.specs.Limits.{Template-COMPONENTS, Template-LENGTH, Template-GAP}
 use Rattle.rules.specs.Lists.{run, sum}
 use Rattle.rules.specs.Sound.{SoundComponent, SoundTemplate}
-use Rattle.rules.specs.Template.{deal, Part, part, none, slots, components, size, cut}
+use Rattle.rules.specs.Template.{deal, Part, part, none, slots, components, size, cut-after, cut}
 use Rattle.rules.specs.declared.Component.{Component}
 use Rattle.rules.specs.declared.Template.{Template}
 use Rattle.rules.proofs.Components.{cut-some}
@@ -88,7 +88,7 @@ module _ {t : Template} {cs : List Component} {w : List ℕ} (held : Held t cs w
     own-part : ℕ → Part
     own-part n = part (n + (getD cs c none) .low) (n + (getD cs c none) .high) own
 
-    own-cut : (n : ℕ) → cut n (onward cs (t .count) c) (drop b w) ≡ own-part n ∷ cut ((getD cs c none) .length) (onward cs (t .count) (suc c)) (drop (b + (getD cs c none) .length) w)
+    own-cut : (n : ℕ) → cut-after n (onward cs (t .count) c) (drop b w) ≡ own-part n ∷ cut-after ((getD cs c none) .length) (onward cs (t .count) (suc c)) (drop (b + (getD cs c none) .length) w)
     unfolding own-part
     own-cut n =
         let x = getD cs c none in
@@ -97,7 +97,7 @@ module _ {t : Template} {cs : List Component} {w : List ℕ} (held : Held t cs w
         rw (onward-step c within, cut-some n x (onward cs (t .count) (suc c)) (drop b w) left, drop-drop (x .length) b w, whole)
 
     -- with none before them
-    aligned-cut : aligned (onward cs (t .count) c) w ≡ cut 0 (onward cs (t .count) c) (drop b w)
+    aligned-cut : aligned (onward cs (t .count) c) w ≡ cut (onward cs (t .count) c) (drop b w)
     unfolding aligned
     aligned-cut = let here : length w - letters-of (onward cs (t .count) c) ≡ b = omega arith in rw here
 
@@ -117,7 +117,7 @@ module _ {t : Template} {cs : List Component} {w : List ℕ} (held : Held t cs w
       let l : onward cs (t .count) (suc c) ≡ onward cs (t .count) d = rw after in
       let e′ : b + n + letters-of (onward cs (t .count) d) ≡ length w = rw after (omega (arith, letters-step c k)) in
       let some : 0 < length (own d (b + n) h e′) = rw (own-length d (b + n) h e′) (component-sound d h .some) in
-      let later : x ≡ counts (cut n (onward cs (t .count) d) (drop (b + n) w)) s = ex ∙ rw (aligned-cut d (b + n) h e′) (counts-after 0 n (onward cs (t .count) d) (drop (b + n) w) s) in
+      let later : x ≡ counts (cut-after n (onward cs (t .count) d) (drop (b + n) w)) s = ex ∙ rw (aligned-cut d (b + n) h e′) (counts-after 0 n (onward cs (t .count) d) (drop (b + n) w) s) in
       let near = ap (λ n. n + (getD cs d none) .low) (sym (own-length c b k e)) in
       let far = ap (λ n. n + (getD cs d none) .high) (sym (own-length c b k e)) in
       ey ∙ rw (later, aligned-cut c b k e, own-cut c b k e 0, l, own-cut d (b + n) h e′ n) (leading-counts (own-part c b k e 0) (own-part d (b + n) h e′ n) _ _ _ (λ s p. refl) near far s some)

@@ -12,7 +12,7 @@ use lib.ListN.{length, getD, List·getD-eq-default}
 use Rattle.rules.specs.Limits.{Template-GAP}
 use Rattle.rules.specs.Lists.{run, if, sum}
 use Rattle.rules.specs.Occurrence.{stands-by, stands, reach, ways}
-use Rattle.rules.specs.Template.{Part, part, deal, cut}
+use Rattle.rules.specs.Template.{Part, part, deal, cut-after}
 use Rattle.rules.specs.declared.Component.{Component}
 use Rattle.ways.specs.Counts.{counts, entry, cell, ending, leading}
 use Rattle.ways.proofs.Standing.{stands-by-short}
@@ -61,7 +61,7 @@ ways-after near far near′ far′ w [] s p = refl
 ways-after near far near′ far′ w (d ∷ ds) s p = refl
 
 -- so the counts are the same however many letters the component before has
-pub counts-after : (k n : ℕ) (cs : List Component) (w s : List ℕ) → counts (cut k cs w) s ≡ counts (cut n cs w) s
+pub counts-after : (k n : ℕ) (cs : List Component) (w s : List ℕ) → counts (cut-after k cs w) s ≡ counts (cut-after n cs w) s
 unfolding counts deal
 counts-after k n [] w s = refl
 counts-after k n (c ∷ cs) [] s = refl

@@ -13,7 +13,7 @@ use Rattle.rules.specs.Recovery.{whole-list}
 use Rattle.rules.specs.Sequences.{sequences}
 use Rattle.rules.specs.Sound.{SoundSet, SoundTemplate}
 use Rattle.rules.specs.Support.{weight, occurrence-rows, parts}
-use Rattle.rules.specs.Template.{deal, none, components, size, cut}
+use Rattle.rules.specs.Template.{deal, none, components, size, cut-after, cut}
 use Rattle.rules.specs.declared.Component.{Component}
 use Rattle.rules.specs.declared.Template.{Template}
 use Rattle.rules.proofs.Bound.{list-bound}
@@ -30,7 +30,7 @@ use Rattle.ways.proofs.Totals.{weight-counts, rows-counts}
 
 -- the parts from the component c on are those of the later components and letters alone, after the k letters of the one before
 drop-cut : (n : ℕ) (cs : List Component) → ((i : ℕ) → i < length cs → 1 ≤ (getD cs i none) .length) → (c m : ℕ)
-    → (k : ℕ) × (drop c (cut n cs (spell Letter-BASES (letters-of cs) m)) ≡ cut k (drop c cs) (spell Letter-BASES (letters-of (drop c cs)) m))
+    → (k : ℕ) × (drop c (cut-after n cs (spell Letter-BASES (letters-of cs) m)) ≡ cut-after k (drop c cs) (spell Letter-BASES (letters-of (drop c cs)) m))
 unfolding letters-of sum deal
 drop-cut n cs some zero m = (n, refl)
 drop-cut n [] some (suc c) m = (n, refl)
@@ -40,7 +40,7 @@ drop-cut n (x ∷ cs) some (suc c) m =
     (r .0, rw (cut-some n x cs _ h, spell-drop Letter-BASES (x .length) (letters-of cs) m) (r .1))
 
 aligned-bytes : (cs : List Component) (n m : ℕ) → letters-of cs ≤ n
-    → aligned cs (map letter (spell Letter-BASES n m)) ≡ map lettered (cut 0 cs (spell Letter-BASES (letters-of cs) m))
+    → aligned cs (map letter (spell Letter-BASES n m)) ≡ map lettered (cut cs (spell Letter-BASES (letters-of cs) m))
 unfolding aligned
 aligned-bytes cs n m h =
     let e : n ≡ (n - letters-of cs) + letters-of cs = omega arith in
@@ -51,7 +51,7 @@ aligned-bytes cs n m h =
 -- ---- the motif m of a template, spelled in n bytes
 
 module _ {t : Template} (sound : SoundTemplate t) (m n : ℕ) (fits : size t ≤ n) where
-  parts-from : (c : ℕ) → (k : ℕ) × (drop c (parts t (size t) m) ≡ cut k (drop c (components t)) (spell Letter-BASES (letters-of (drop c (components t))) m))
+  parts-from : (c : ℕ) → (k : ℕ) × (drop c (parts t (size t) m) ≡ cut-after k (drop c (components t)) (spell Letter-BASES (letters-of (drop c (components t))) m))
   unfolding size letters-of
   parts-from c = rw (exact-parts t (exact-search t) (size t) m) (drop-cut 0 (components t) (components-some sound) c m)
 
@@ -65,7 +65,7 @@ module _ {t : Template} (sound : SoundTemplate t) (m n : ℕ) (fits : size t ≤
       let fit : letters-of cs ≤ n = omega (arith, letters-within (components t) c) in
       let digits = cut-spelled 0 cs v (spell-below Letter-BASES (letters-of cs) m (omega arith)) in
       let r = parts-from c in
-      rw (ey, ew, aligned-bytes cs n m fit, counts-bytes (cut 0 cs v) s digits, r .1) (counts-after 0 (r .0) cs v (map value s))
+      rw (ey, ew, aligned-bytes cs n m fit, counts-bytes (cut cs v) s digits, r .1) (counts-after 0 (r .0) cs v (map value s))
 
   -- those of the whole motif in all sequences
   module _ (letters lengths : List ℕ) {w : List ℕ} (spelled : w ≡ map letter (spell Letter-BASES n m)) where

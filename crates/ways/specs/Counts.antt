@@ -56,4 +56,4 @@ letters-of cs = sum (map (λ c. c .length) cs)
 
 -- the parts that they are if their letters are the last of w, with none before them
 unfoldable pub aligned : List Component → List ℕ → List Part
-aligned cs w = cut 0 cs (drop (length w - letters-of cs) w)
+aligned cs w = cut cs (drop (length w - letters-of cs) w)

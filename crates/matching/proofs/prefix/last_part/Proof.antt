@@ -7,7 +7,7 @@ use lib.ListN.{length, getD, take, drop}
 use borrow.Author.Needs.{needs}
 use Rattle.rules.specs.Limits.{Template-COMPONENTS, Template-LENGTH}
 use Rattle.rules.specs.Sound.{SoundComponent}
-use Rattle.rules.specs.Template.{none, cut, components}
+use Rattle.rules.specs.Template.{none, cut-after, cut, components}
 use Rattle.matching.specs.Flags.{following, last-starts}
 use Rattle.matching.proofs.Parts.{first-step, next-step, letters-end, components-end}
 use Rattle.matching.proofs.prefix.last_part.Statement.{statement}
@@ -22,7 +22,7 @@ Inv-loop word sequence flags₀ spare₀ count components behind₀ from₀ k₀
     × (from ≤ length word)
     × (behind ≤ Template-LENGTH)
     × (length components ≡ Template-COMPONENTS)
-    × (following (cut behind (drop k (take count components)) (drop from word)) sequence flags ≡ last-starts (cut 0 (take count components) word) sequence)
+    × (following (cut-after behind (drop k (take count components)) (drop from word)) sequence flags ≡ last-starts (cut (take count components) word) sequence)
 
 abbrev μ-loop : tie.MeasureT-loop
 μ-loop word sequence flags₀ spare₀ count components behind₀ from₀ k₀ flags spare behind from k = count - k

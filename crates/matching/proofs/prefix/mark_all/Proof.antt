@@ -23,7 +23,7 @@ Inv-loop letters lengths template word flags₀ spare₀ words₀ from₀ i₀ f
     × (length words ≡ length words₀)
     × (from + sum (drop i lengths) ≡ length letters)
     × (drop i (split lengths letters) ≡ split (drop i lengths) (drop from letters))
-    × (held words ≡ over (mark-at (cut 0 (components template) word) (split lengths letters)) i (held words₀))
+    × (held words ≡ over (mark-at (cut (components template) word) (split lengths letters)) i (held words₀))
 
 abbrev μ-loop : tie.MeasureT-loop
 μ-loop letters lengths template word flags₀ spare₀ words₀ from₀ i₀ flags spare words from i = length lengths - i
