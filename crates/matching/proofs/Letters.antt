@@ -11,7 +11,7 @@ use lib.Seq.{drop-cons, drop-at, drop-length, getD-take, length-take-le}
 use borrow.Rule.Slice.PartMut.{midOf, putMid, mid-len, post-is}
 use Rattle.rules.proofs.Lists.{run-append}
 use Rattle.rules.specs.Lists.{run, if, over}
-use Rattle.rules.specs.Occurrence.{stands-by, front-by, front, stands}
+use Rattle.rules.specs.Occurrence.{stands-by, front-by, stands}
 use Rattle.matching.specs.Flags.{kept-at, kept, matched}
 use Rattle.rules.proofs.Over.{map-agree, map-one}
 

@@ -2,8 +2,7 @@
 use mathlib.Core.Bool.{true}
 use mathlib.Core.List.{List}
 use mathlib.Core.Path.{_≡_, ap, sym, _∙_}
-use Prim.Native.Nat.{ℕ, zero, suc, _≤_}
-use native.Mathlib.Omega.{arith}
+use Prim.Native.Nat.{ℕ, _≤_}
 use lib.Dec.{leb}
 use Rattle.rules.proofs.Exact.{exact-search, exact-frequent}
 use Rattle.rules.specs.Support.{reaches, support, parts, frequent}
@@ -17,5 +16,4 @@ module _ (t : Template) (quorum : ℕ) (ss : List (List ℕ)) (m : ℕ) where
 
   -- any other is, if its support is at least the quorum
   pub frequent-support : (j : ℕ) {r : ℕ} → 1 ≤ j → r ≡ support (parts t j m) ss → leb quorum r ≡ frequent t quorum ss j m
-  frequent-support zero h e = absurd (omega arith)
-  frequent-support (suc j) h e = ap (leb quorum) e ∙ sym (exact-frequent t (exact-search t) quorum ss j m)
+  frequent-support j h e = ap (leb quorum) e ∙ sym (exact-frequent t (exact-search t) quorum ss j m h)

@@ -10,10 +10,9 @@ use borrow.Author.Tests.{ltb-true}
 use Rattle.rules.specs.Calls.{moved, leg-rule}
 use Rattle.rules.specs.Lists.{if, keep}
 use Rattle.rules.specs.Refusals.{first, search-checks}
-use Rattle.rules.specs.Sequences.{sequences}
 use Rattle.rules.specs.Text.{print-end}
 use Rattle.rules.specs.Told.{fine, LegTold}
-use Rattle.rules.specs.Walk.{exact, from, listed}
+use Rattle.rules.specs.Walk.{from, listed}
 use Rattle.rules.specs.declared.Place.{Place}
 use Rattle.rules.specs.declared.Search.{Search}
 use Rattle.rules.proofs.Places.{walk-of}

@@ -24,7 +24,7 @@ use Rattle.rules.proofs.Begins.{begins}
 use Rattle.rules.proofs.Lists.{each-append}
 use Rattle.rules.proofs.Places.{walk-of}
 use Rattle.rules.proofs.Candidates.{start-first}
-use Rattle.rules.proofs.Searches.{walk-pos, walk-lawful}
+use Rattle.rules.proofs.Searches.{walk-lawful}
 use Rattle.rules.proofs.Sound.{search-fine}
 use Rattle.rules.proofs.StepsSoFar.{from-first, begun-steps-few}
 use Rattle.rules.proofs.Whole.{listed-append}

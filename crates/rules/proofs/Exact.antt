@@ -4,7 +4,7 @@ use mathlib.Core.Path.{_≡_, refl, ap, _∙_}
 use mathlib.Core.Logic.{_↔_}
 use mathlib.Core.Bool.{true, _&&_}
 use mathlib.Core.List.{List, [], _∷_, List·Memᴰ}
-use Prim.Native.Nat.{ℕ, suc, _*_, _^_, _≤_, _<_}
+use Prim.Native.Nat.{ℕ, zero, suc, _*_, _^_, _≤_, _<_}
 use native.Mathlib.Omega.{arith}
 use lib.Dec.{leb, ltb}
 use lib.ListN.{drop}
@@ -75,9 +75,10 @@ module _ (t : Template) (e : profile-of t ≡ exactly) where
     exact-may j m = exact-permitted j m
 
     -- a prefix with a letter is frequent by its support
-    pub exact-frequent : (j m : ℕ) → frequent t quorum ss (suc j) m ≡ leb quorum (support (parts t (suc j) m) ss)
+    pub exact-frequent : (j m : ℕ) → 1 ≤ j → frequent t quorum ss j m ≡ leb quorum (support (parts t j m) ss)
     unfolding reaches measure exactly
-    exact-frequent j m = rw e
+    exact-frequent zero m h = absurd (omega arith)
+    exact-frequent (suc j) m h = rw e
 
     -- the list: the motifs whose support reaches the quorum
     pub exact-motifs : SoundTemplate t → (m : ℕ) → List·Memᴰ m (frequent-motifs t quorum ss) ↔ ((m < Letter-BASES ^ size t) × (quorum ≤ support (parts t (size t) m) ss))

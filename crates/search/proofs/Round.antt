@@ -8,26 +8,24 @@ use native.Mathlib.Omega.{arith}
 use lib.ListN.{length, set, drop, length-append, length-drop, length-map}
 use borrow.Author.Tests.{eqb-true, eqb-false}
 use lib.Dec.{eqb, leb}
-use Rattle.rules.specs.Profile.{profile-of, exactly}
 use Rattle.rules.specs.Calls.{moved, motif-parts, stretch, supports-of, weights-of}
 use Rattle.rules.specs.Legs.{Stop, leg}
 use Rattle.rules.specs.Limits.{Letter-BASES}
 use Rattle.rules.specs.Lists.{if, put}
 use Rattle.rules.specs.Sequences.{sequences}
 use Rattle.rules.specs.Support.{support, weight, frequent, parts}
-use Rattle.rules.specs.Motif.{spell}
-use Rattle.rules.specs.Template.{components, size}
+use Rattle.rules.specs.Template.{size}
 use Rattle.rules.specs.Told.{gives, toldAnswer, toldLeg}
-use Rattle.rules.specs.Walk.{walk-in, Walk, place, exact, next, motif}
+use Rattle.rules.specs.Walk.{walk-in, Walk, place, next, motif}
 use Rattle.rules.specs.declared.Leg.{Leg}
 use Rattle.rules.specs.declared.LegAnswer.{LegAnswer}
 use Rattle.rules.specs.declared.Place.{Place}
 use Rattle.rules.specs.declared.Search.{Search}
 use Rattle.rules.proofs.Candidates.{Candidate}
-use Rattle.rules.proofs.Completes.{frequent-some}
+use Rattle.rules.proofs.Exact.{exact-search, exact-base, exact-permitted, exact-frequent}
 use Rattle.rules.proofs.Passing.{Passing, passing-next}
 use Rattle.rules.proofs.Places.{walk-of, sound-passing}
-use Rattle.rules.proofs.Profiles.{allowed-all, walk-lawful}
+use Rattle.rules.proofs.Searches.{walk-lawful}
 use Rattle.rules.proofs.Sound.{SoundSearch}
 use Rattle.rules.proofs.Tests.{both}
 use Rattle.search.proofs.Follow.{Following, follow-start, follow-passes, follow-lists}
@@ -59,7 +57,7 @@ module _ (letters lengths : List ℕ) (s : Search) (o : SoundSearch letters leng
 
     -- its letters are at most K, and spell its number
     pub run-depth : p .letters ≤ size (s .template)
-    unfolding walk-in profile-of exactly
+    unfolding walk-in
     run-depth = go (r .passing)
       where
         go : Passing (walk-of letters lengths s) p → p .letters ≤ size (s .template)
@@ -67,12 +65,12 @@ module _ (letters lengths : List ℕ) (s : Search) (o : SoundSearch letters leng
         go (inr c) = c .most
 
     pub run-below : p .number < Letter-BASES ^ p .letters
-    unfolding walk-in profile-of exactly
+    unfolding walk-in
     run-below = go (r .passing)
       where
         go : Passing (walk-of letters lengths s) p → p .number < Letter-BASES ^ p .letters
         go (inl e) = rw e (omega arith)
-        go (inr c) = c .below
+        go (inr c) = rw (exact-base (s .template) (exact-search (s .template))) at (c .below)
 
     module _ (h : 1 ≤ p .letters) (l : steps < budget) {q : Place} (e : next (walk-of letters lengths s) p ≡ q) where
       then-passing : Passing (walk-of letters lengths s) q
@@ -95,7 +93,7 @@ module _ (letters lengths : List ℕ) (s : Search) (o : SoundSearch letters leng
           → found ≡ support (parts (s .template) (p .letters) (p .number)) (sequences letters lengths)
           → motifs′ ≡ if hit (set motifs rows (p .number)) motifs → supports′ ≡ if hit (set supports rows found) supports → weights′ ≡ if hit (set weights rows (weight (motif-parts s (p .number)) (sequences letters lengths))) weights
           → rows′ ≡ if hit (rows + 1) rows → Running motifs′ supports′ weights′ (steps + 1) rows′ q
-      unfolding motif walk-in profile-of exactly
+      unfolding motif walk-in
       run-step {motifs′} {supports′} {weights′} {rows′} {found} true m k lm ls lw f em es ew er =
           let u : rows < room = omega (arith, r .follow .rows, eqb-false rows room k) in
           let d : p .letters ≡ size (s .template) = eqb-true _ _ (both _ _ .0 m .0) in
@@ -125,17 +123,18 @@ module _ (letters lengths : List ℕ) (s : Search) (o : SoundSearch letters leng
 -- a candidate is a listed motif by its letters and by whether it is frequent
 pub motif-is : (letters lengths : List ℕ) (s : Search) (p : Place) (depth : ℕ) (good hit : Bool) → depth ≡ size (s .template) → good ≡ frequent (s .template) (s .quorum) (sequences letters lengths) (p .letters) (p .number)
     → hit ≡ (eqb (p .letters) depth && good) → motif (walk-of letters lengths s) p ≡ hit
-unfolding motif walk-in profile-of exactly
+unfolding motif walk-in
 motif-is letters lengths s p depth good hit d g e = rw (← d, ← g) (sym e)
 
 -- the walk is one over four letters
 pub walk-four : (letters lengths : List ℕ) (s : Search) (depth : ℕ) → depth ≡ size (s .template) → four (frequent (s .template) (s .quorum) (sequences letters lengths)) depth ≡ walk-of letters lengths s
-unfolding walk-in profile-of exactly
+unfolding walk-in
 walk-four letters lengths s depth d =
+    let t = s .template in
     rw d
     (λ i. record {
-      base = Letter-BASES;
-      may = fun-ext (λ j. fun-ext (λ m. sym (allowed-all (components (s .template)) (spell Letter-BASES j m)))) i;
+      base = sym (exact-base t (exact-search t)) i;
+      may = fun-ext (λ j. fun-ext (λ m. sym (exact-permitted t (exact-search t) j m))) i;
       good = frequent (s .template) (s .quorum) (sequences letters lengths);
       depth = size (s .template);
     })
@@ -148,8 +147,8 @@ next-is letters lengths s depth p d e = rw (walk-four letters lengths s depth d)
 -- a candidate is frequent if its support reaches the quorum
 pub frequent-is : (letters lengths : List ℕ) (s : Search) (p : Place) {found : ℕ} {good : Bool} → 1 ≤ p .letters → found ≡ support (parts (s .template) (p .letters) (p .number)) (sequences letters lengths)
     → good ≡ leb (s .quorum) found → good ≡ frequent (s .template) (s .quorum) (sequences letters lengths) (p .letters) (p .number)
-unfolding profile-of
-frequent-is letters lengths s p h f g = g ∙ rw f (sym (frequent-some (s .template) (s .quorum) (sequences letters lengths) (p .letters) (p .number) h))
+frequent-is letters lengths s p h f g =
+    g ∙ rw f (sym (exact-frequent (s .template) (exact-search (s .template)) (s .quorum) (sequences letters lengths) (p .letters) (p .number) h))
 
 -- a motif that is not one too many has a row in each table
 pub row-left : (hit : Bool) (rows room : ℕ) (motifs supports weights : List ℕ) → hit && eqb rows room ≡ false → rows ≤ room → room ≡ room-of motifs supports weights → hit ≡ true

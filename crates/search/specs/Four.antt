@@ -1,4 +1,4 @@
--- A walk over four letters, each of which may follow any prefix: what `exact` is, whatever is frequent.
+-- A walk over four letters, each of which may follow any prefix: that of an exact search, whatever is frequent.
 use mathlib.Core.Bool.{Bool, true}
 use Prim.Native.Nat.{ℕ}
 use Rattle.rules.specs.Limits.{Letter-BASES}
