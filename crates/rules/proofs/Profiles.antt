@@ -12,10 +12,10 @@ use borrow.Author.Tests.{leb-true, leb-false, le-leb}
 use Rattle.rules.specs.Limits.{Letter-BASES}
 use Rattle.rules.specs.Lists.{keep, all?}
 use Rattle.rules.specs.Motif.{spell}
-use Rattle.rules.specs.Profile.{Tally, by-sequence, by-occurrence, Profile, Proper, allowed, to-come, exactly, repeated, substituted, several, within, mixed}
+use Rattle.rules.specs.Profile.{Tally, by-sequence, by-occurrence, Profile, Proper, allowed, to-come, four-letters, exactly, repeated, substituted, several, within, mixed}
 use Rattle.rules.specs.Sound.{SoundTemplate}
 use Rattle.rules.specs.Support.{counted, tallied, allowed-in, reaches, parts-in, measure}
-use Rattle.rules.specs.Template.{Part, components, size, deal}
+use Rattle.rules.specs.Template.{Part, Reading, plain, components, size, deal}
 use Rattle.rules.specs.Walk.{walk-in, Lawful, spelled}
 use Rattle.rules.specs.declared.Component.{Component}
 use Rattle.rules.specs.declared.Template.{Template}
@@ -128,17 +128,20 @@ good-whole P t o quorum ss m = go (size t) refl (size-some t o)
 
 -- ---- THE PROFILES
 
+four-proper : (R : Reading) (a : Tally) → Proper (four-letters R a)
+four-proper R a = record { pos = omega arith; short = omega arith; wide = omega arith; none = λ c. refl; first = λ c. refl; closed = λ c w y e. refl }
+
 pub exactly-proper : Proper exactly
 unfolding exactly
-exactly-proper = record { pos = omega arith; short = omega arith; wide = omega arith; none = λ c. refl; first = λ c. refl; closed = λ c w y e. refl }
+exactly-proper = four-proper plain by-sequence
 
 pub repeated-proper : Proper repeated
 unfolding repeated
-repeated-proper = record { pos = omega arith; short = omega arith; wide = omega arith; none = λ c. refl; first = λ c. refl; closed = λ c w y e. refl }
+repeated-proper = four-proper plain by-occurrence
 
 pub substituted-proper : (e : Component → ℕ) → Proper (substituted e)
 unfolding substituted
-substituted-proper e = record { pos = omega arith; short = omega arith; wide = omega arith; none = λ c. refl; first = λ c. refl; closed = λ c w y e. refl }
+substituted-proper e = four-proper _ by-sequence
 
 all-less : {A : Type 0} (f : A → Bool) (xs ys : List A) → all? f (xs ++ ys) ≡ true → all? f xs ≡ true
 unfolding all?

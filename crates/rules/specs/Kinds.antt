@@ -5,7 +5,7 @@ use Prim.Native.Nat.{ℕ}
 use lib.ListN.{length}
 use Rattle.rules.specs.Facts.{Fact, is, letters, lengths, pair}
 use Rattle.rules.specs.Letters.{value}
-use Rattle.rules.specs.Lists.{run, keep, each, some?, all?, sum}
+use Rattle.rules.specs.Lists.{run, keep, each, some?, all?, member?, sum}
 use Rattle.rules.specs.Motif.{spell}
 use Rattle.rules.specs.Occurrence.{front-by, stands-by, reach, starts, occurrences}
 use Rattle.rules.specs.Profile.{allowed, to-come, exactly, repeated, substituted, bases, stands-for, several, within, mixed}
@@ -62,5 +62,5 @@ kinds =
     ∷ []
 
 the-kinds : map (λ f. f .computed) kinds ≡ map (λ f. f .paper) kinds
-unfolding kinds meanings E AAA triple later-one letters lengths pair whole run keep each some? all? sum spell value split sequences front-by stands-by reach starts occurrences allowed to-come reaches allowed-in parts-in measure walk-in exactly repeated substituted bases stands-for several within mixed marks support rows-from occurrence-rows components size deal children later under onward from up next start motif listed
+unfolding kinds meanings E AAA triple later-one letters lengths pair whole run keep each some? all? member? sum spell value split sequences front-by stands-by reach starts occurrences allowed to-come reaches allowed-in parts-in measure walk-in exactly repeated substituted bases stands-for several within mixed marks support rows-from occurrence-rows components size deal children later under onward from up next start motif listed
 the-kinds = refl

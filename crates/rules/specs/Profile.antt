@@ -1,13 +1,14 @@
 -- The kinds of search, as instances of one: how a motif's letters are read, which letters a component may have, and what
--- must reach the quorum. `exactly`, `mixed`, `substituted` and `repeated` are ours.
+-- must reach the quorum. `exactly`, `repeated`, `substituted` and `mixed` are ours, and `profile-of` says which one is asked for.
 use mathlib.Core.Bool.{Bool, true, _&&_}
 use mathlib.Core.List.{List, [], _∷_, _++_}
 use mathlib.Core.Path.{_≡_}
-use Prim.Native.Nat.{ℕ, _+_, _-_, _*_, _/_, _%_, _^_, _≤_}
+use Prim.Native.Nat.{ℕ, _+_, _-_, _*_, _^_, _≤_}
 use lib.Dec.{leb, ltb, eqb}
 use lib.ListN.{length, take, drop, getD}
+use Rattle.rules.specs.Letters.{A, C, G, T}
 use Rattle.rules.specs.Limits.{Letter-BASES, Letter-KINDS, Letter-PLACES, Template-LETTERS, Template-MIXED}
-use Rattle.rules.specs.Lists.{keep, all?}
+use Rattle.rules.specs.Lists.{keep, all?, member?}
 use Rattle.rules.specs.Template.{Reading, plain}
 use Rattle.rules.specs.declared.Component.{Component}
 use Rattle.rules.specs.declared.Template.{Template}
@@ -33,41 +34,51 @@ allowed f [] w = true
 allowed f (c ∷ cs) [] = true
 allowed f (c ∷ cs) (x ∷ w) = f c (take (c .length) (x ∷ w)) && allowed f cs (drop (c .length) (x ∷ w))
 
--- the spans of the gaps still to come after the letters w, multiplied
+-- the spans of the gaps still to come after the letters w, multiplied. That of the first component's range, 0 to 0, is 1
 unfoldable pub to-come : List Component → List ℕ → ℕ
 to-come [] w = 1
 to-come (c ∷ cs) [] = (c .high + 1 - c .low) * to-come cs []
 to-come (c ∷ cs) (x ∷ w) = to-come cs (drop (c .length) (x ∷ w))
 
--- what the laws ask of a profile: there are letters; A may come first; and where some letters are allowed, so are those before
--- the last of them
+-- what the laws ask of a profile
 pub record Proper (P : Profile) : Type 0 where
+  -- there are letters
   pub pos : 1 ≤ P .base
-  -- a motif's number fits eight bytes
+  -- a motif has no more than a template may have, and its number fits eight bytes
   pub short : P .most ≤ Template-LETTERS
   pub wide : P .base ^ P .most ≤ 256 ^ 8
+  -- A may come first; and where some letters are allowed, so are those before the last of them
   pub none : (c : Component) → P .allows c [] ≡ true
   pub first : (c : Component) → P .allows c (0 ∷ []) ≡ true
   pub closed : (c : Component) (w : List ℕ) (y : ℕ) → P .allows c (w ++ (y ∷ [])) ≡ true → P .allows c w ≡ true
 
--- THE PROFILES. Four letters, each of which fits itself and may follow any
+-- THE PROFILES. Over four letters, each of which may follow any
+abbrev pub four-letters : Reading → Tally → Profile
+four-letters R a = record { base = Letter-BASES; most = Template-LETTERS; reading = R; allows = λ c w. true; tally = a }
+
+-- each fits itself alone, and sequences are counted
 unfoldable pub exactly : Profile
-exactly = record { base = Letter-BASES; most = Template-LETTERS; reading = plain; allows = λ c w. true; tally = by-sequence }
+exactly = four-letters plain by-sequence
 
--- the same, by occurrences
+-- the same, but occurrences are counted
 unfoldable pub repeated : Profile
-repeated = record { base = Letter-BASES; most = Template-LETTERS; reading = plain; allows = λ c w. true; tally = by-occurrence }
+repeated = four-letters plain by-occurrence
 
--- the same as `exactly`, but that e of a component's letters may be others
+-- the same as `exactly`, but e of a component's letters may be others
 unfoldable pub substituted : (Component → ℕ) → Profile
-substituted e = record { base = Letter-BASES; most = Template-LETTERS; reading = record { fits = eqb; slack = e }; allows = λ c w. true; tally = by-sequence }
+substituted e = four-letters (record { fits = eqb; slack = e }) by-sequence
 
--- the bases that each letter stands for, by its place in A C G T R Y K M S W B D H V: A is 1, C 2, G 4, T 8, added up
-unfoldable pub bases : List ℕ
-bases = 1 ∷ 2 ∷ 4 ∷ 8 ∷ 5 ∷ 10 ∷ 12 ∷ 3 ∷ 6 ∷ 9 ∷ 14 ∷ 13 ∷ 11 ∷ 7 ∷ []
+-- the bases that each letter stands for, by its place in the order A C G T, R Y K M S W, B D H V
+unfoldable pub bases : List (List ℕ)
+bases =
+    (A ∷ []) ∷ (C ∷ []) ∷ (G ∷ []) ∷ (T ∷ [])
+    ∷ (A ∷ G ∷ []) ∷ (C ∷ T ∷ []) ∷ (G ∷ T ∷ []) ∷ (A ∷ C ∷ []) ∷ (C ∷ G ∷ []) ∷ (A ∷ T ∷ [])
+    ∷ (C ∷ G ∷ T ∷ []) ∷ (A ∷ G ∷ T ∷ []) ∷ (A ∷ C ∷ T ∷ []) ∷ (A ∷ C ∷ G ∷ [])
+    ∷ []
 
+-- the letter x of a motif stands for the base y
 unfoldable pub stands-for : ℕ → ℕ → Bool
-stands-for x y = eqb ((getD bases x 0 / 2 ^ y) % 2) 1
+stands-for x y = member? y (getD bases x [])
 
 -- how many of some letters stand for several bases
 unfoldable pub several : List ℕ → ℕ
