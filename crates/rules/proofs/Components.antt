@@ -6,7 +6,7 @@ use native.Mathlib.Omega.{arith}
 use lib.ListN.{length, take, drop, getD, drop-of-length-le}
 use lib.Seq.{drop-cons, getD-take, length-take-le}
 use Rattle.rules.specs.Limits.{Template-COMPONENTS}
-use Rattle.rules.specs.Sound.{SoundTemplate}
+use Rattle.rules.specs.Sound.{SoundComponent, SoundTemplate}
 use Rattle.rules.specs.Template.{part, none, slots, components, deal, cut-after}
 use Rattle.rules.specs.declared.Component.{Component}
 use Rattle.rules.specs.declared.Template.{Template}
@@ -30,11 +30,14 @@ module _ (t : Template) (few : t .count ≤ Template-COMPONENTS) where
   pub components-none : (c : ℕ) → t .count ≤ c → drop c (components t) ≡ []
   components-none c l = drop-of-length-le (components t) {i = c} (rw components-length l)
 
--- each component of a sound template has a letter
-pub components-some : {t : Template} → SoundTemplate t → (i : ℕ) → i < length (components t) → 1 ≤ (getD (components t) i none) .length
-components-some {t} sound i h =
+-- each component of a sound template is sound, and so has a letter
+pub components-sound : {t : Template} → SoundTemplate t → (i : ℕ) → i < length (components t) → SoundComponent (getD (components t) i none)
+components-sound {t} sound i h =
     let l : i < t .count = omega (arith, components-length t (sound .few)) in
-    rw (components-at t i l) (sound .each i l .some)
+    rw (components-at t i l) (sound .each i l)
+
+pub components-some : {t : Template} → SoundTemplate t → (i : ℕ) → i < length (components t) → 1 ≤ (getD (components t) i none) .length
+components-some sound i h = components-sound sound i h .some
 
 -- the first component takes the first letters, if there are any
 pub cut-some : (n : ℕ) (c : Component) (cs : List Component) (w : List ℕ) → 0 < length w

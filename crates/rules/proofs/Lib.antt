@@ -13,7 +13,6 @@ pub mod Spelling
 pub mod Components
 pub mod Bytes
 pub mod Prefix
-pub mod Repeats
 pub mod Lengths
 pub mod Bound
 pub mod Step

@@ -1,6 +1,6 @@
 -- `keep`, `each`, `run` and `some?`.
 use mathlib.Core.Path.{_≡_, refl, sym, ap, _∙_}
-use mathlib.Core.Bool.{Bool, true, false, _&&_}
+use mathlib.Core.Bool.{Bool, true, false, _&&_, false≢true}
 use mathlib.Core.List.{List, [], _∷_, _++_, map, append-assoc}
 use Prim.Native.Nat.{ℕ, zero, suc, _+_, _-_, _*_, _≤_, _<_}
 use native.Mathlib.Nat.{zero-mul, add-zero, zero-add}
@@ -124,3 +124,15 @@ pub some-map : {A B : Type 0} (f : A → B) (xs : List A) → some? (map f xs) �
 unfolding some?
 some-map f [] = refl
 some-map f (x ∷ xs) = refl
+
+-- no fewer pass a wider test
+pub keep-wider : {A : Type 0} (f g : A → Bool) → ((x : A) → f x ≡ true → g x ≡ true) → (xs : List A) → length (keep f xs) ≤ length (keep g xs)
+unfolding keep
+keep-wider f g h [] = omega arith
+keep-wider f g h (x ∷ xs) = go (f x) (g x) (h x) (keep-wider f g h xs)
+  where
+    go : (a b : Bool) → (a ≡ true → b ≡ true) → length (keep f xs) ≤ length (keep g xs) → length (if a (x ∷ keep f xs) (keep f xs)) ≤ length (if b (x ∷ keep g xs) (keep g xs))
+    go true true k ih = omega arith
+    go true false k ih = absurd (false≢true (k refl))
+    go false true k ih = omega arith
+    go false false k ih = ih

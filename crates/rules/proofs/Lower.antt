@@ -2,30 +2,18 @@
 -- steps are no fewer. Of any walk with a wider rule, and so of every kind of search.
 use mathlib.Core.Path.{_≡_, refl, sym, ap, _∙_}
 use mathlib.Core.Bool.{Bool, true, false, _&&_, false≢true}
-use mathlib.Core.List.{List, [], _∷_, _++_, map-append}
+use mathlib.Core.List.{List, _++_, map-append}
 use Prim.Native.Nat.{ℕ, zero, suc, _+_, _/_, _^_, _≤_}
 use native.Mathlib.Omega.{arith}
-use lib.ListN.{length, length-append}
+use lib.ListN.{length-append}
 use borrow.Author.Tests.{leb-true, le-leb}
-use Rattle.rules.specs.Lists.{run, if, keep}
+use Rattle.rules.specs.Lists.{run, keep}
 use Rattle.rules.specs.Profile.{Tally, by-sequence, by-occurrence, Profile}
 use Rattle.rules.specs.Support.{tallied, reaches, measure, parts-in, marks, support}
 use Rattle.rules.specs.Template.{Part, size}
 use Rattle.rules.specs.Walk.{walk-in, Walk, spelled, candidate, motifs, tries}
 use Rattle.rules.specs.declared.Template.{Template}
-use Rattle.rules.proofs.Lists.{keep-append, keep-keep, keep-same}
-
--- no fewer pass a wider test
-keep-wider : {A : Type 0} (f g : A → Bool) → ((x : A) → f x ≡ true → g x ≡ true) → (xs : List A) → length (keep f xs) ≤ length (keep g xs)
-unfolding keep
-keep-wider f g h [] = omega arith
-keep-wider f g h (x ∷ xs) = go (f x) (g x) (h x) (keep-wider f g h xs)
-  where
-    go : (a b : Bool) → (a ≡ true → b ≡ true) → length (keep f xs) ≤ length (keep g xs) → length (if a (x ∷ keep f xs) (keep f xs)) ≤ length (if b (x ∷ keep g xs) (keep g xs))
-    go true true k ih = omega arith
-    go true false k ih = absurd (false≢true (k refl))
-    go false true k ih = omega arith
-    go false false k ih = ih
+use Rattle.rules.proofs.Lists.{keep-append, keep-keep, keep-same, keep-wider}
 
 -- a walk with another rule of which prefixes are good
 abbrev pub ruled : Walk → (ℕ → ℕ → Bool) → Walk

@@ -1,50 +1,51 @@
--- An occurrence of a prefix, cut short by a letter, is one of the shorter prefix:
--- the last part loses its last letter, or goes whole if that was its only one, or the letter stood past the last part.
-use mathlib.Core.Path.{_≡_, refl, sym, _∙_}
-use mathlib.Core.Bool.{Bool, true, false, _||_, false≢true}
+-- A prefix one letter shorter comes to no less. Its last part loses a letter, and so stands wherever it did; or goes whole, and
+-- then it could follow in at most as many places as its range has. So occurrences times the spans of the gaps to come are no
+-- fewer, and a sequence in which a prefix occurs has its shorter one too.
+use mathlib.Core.Path.{_≡_, refl, ap}
+use mathlib.Core.Bool.{Bool, true, false, false≢true}
 use mathlib.Core.List.{List, [], _∷_, _++_, map}
-use Prim.Native.Nat.{ℕ, zero, suc, _+_, _/_, _%_, _≤_}
+use Prim.Native.Nat.{ℕ, zero, suc, _+_, _-_, _*_, _/_, _%_, _≤_, _<_}
 use native.Mathlib.Omega.{arith}
 use lib.Dec.{leb}
-use lib.ListN.{length, take, drop, length-append, drop-of-length-le}
+use lib.ListN.{length, take, drop, getD, length-append, length-drop, drop-of-length-le}
 use lib.Seq.{take-all, take-append-le, drop-append-le}
 use borrow.Author.Tests.{leb-true, leb-false}
-use Rattle.rules.specs.Lists.{run, if, keep, each, some?, sum}
+use Rattle.rules.specs.Lists.{run, if, some?, sum}
 use Rattle.rules.specs.Motif.{spell}
-use Rattle.rules.specs.Occurrence.{spare, front-by, stands-by, found, reach, starts, occurrences}
-use Rattle.rules.specs.Sound.{SoundTemplate}
-use Rattle.rules.specs.Support.{marks, support}
-use Rattle.rules.specs.Template.{Part, Reading, read, slots, components, size, deal}
+use Rattle.rules.specs.Occurrence.{spare, front-by, stands-by, found, reach, occurrences, ways}
+use Rattle.rules.specs.Profile.{to-come}
+use Rattle.rules.specs.Sound.{SoundComponent, SoundTemplate}
+use Rattle.rules.specs.Support.{support, occurrence-rows}
+use Rattle.rules.specs.Template.{Part, Reading, none, read, slots, components, size, deal}
 use Rattle.rules.specs.declared.Component.{Component}
 use Rattle.rules.specs.declared.Template.{Template}
-use Rattle.rules.proofs.Lists.{some-map}
+use Rattle.rules.proofs.Lists.{keep-wider}
 use Rattle.rules.proofs.Spelling.{spell-more, length-spell}
+use Rattle.rules.proofs.Ways.{occurrences-count, rows-count, support-sequences}
 
--- ---- some? of lists
+-- ---- sums
 
--- what is kept on a test has something in it only if the test passes
-some-if : {A : Type 0} (b : Bool) (xs : List A) → some? (if b xs []) ≡ true → (b ≡ true) × (some? xs ≡ true)
-unfolding some?
-some-if true xs e = (refl, e)
-some-if false xs e = absurd (false≢true e)
+-- what is so of each is so of the sums
+sum-times : {A : Type 0} (f g : A → ℕ) (k l : ℕ) → ((x : A) → f x * k ≤ g x * l) → (xs : List A) → sum (map f xs) * k ≤ sum (map g xs) * l
+unfolding sum
+sum-times f g k l h [] = omega arith
+sum-times f g k l h (x ∷ xs) = omega (arith, h x, sum-times f g k l h xs)
 
-some-append : {A : Type 0} (xs ys : List A) → some? (xs ++ ys) ≡ some? xs || some? ys
-unfolding some?
-some-append [] ys = refl
-some-append (x ∷ xs) ys = refl
+-- and of a run, if each comes to at most l
+sum-run : (f : ℕ → ℕ) (k l : ℕ) → ((x : ℕ) → f x * k ≤ l) → (a n : ℕ) → sum (map f (run a n)) * k ≤ n * l
+unfolding sum run
+sum-run f k l h a zero = omega arith
+sum-run f k l h a (suc n) = omega (arith, h a, sum-run f k l h (suc a) n)
 
--- where f gives something, so does g
-some-each : {A B C : Type 0} (f : A → List B) (g : A → List C) (xs : List A) → ((x : A) → some? (f x) ≡ true → some? (g x) ≡ true) → some? (each f xs) ≡ true → some? (each g xs) ≡ true
-unfolding each
-some-each f g [] h e = unfold some? in absurd (false≢true e)
-some-each f g (x ∷ xs) h e = rw (some-append (g x) (each g xs)) (go (some? (f x)) (some? (g x)) refl refl (rw (some-append (f x) (each f xs)) at e) (some-each f g xs h))
-  where
-    go : (a b : Bool) → some? (f x) ≡ a → some? (g x) ≡ b → a || some? (each f xs) ≡ true → (some? (each f xs) ≡ true → some? (each g xs) ≡ true) → b || some? (each g xs) ≡ true
-    go a true p q e ih = refl
-    go true false p q e ih = absurd (false≢true (sym q ∙ h x p))
-    go false false p q e ih = ih e
+if-times : (b : Bool) (i k m n : ℕ) → i * k ≤ m * n → if b i 0 * k ≤ if b m 0 * n
+if-times true i k m n h = h
+if-times false i k m n h = omega arith
 
--- ---- occurrences, cut short
+times : (a b n : ℕ) → a ≤ b → a * n ≤ b * n
+times a b zero h = omega arith
+times a b (suc n) h = omega (arith, times a b n h)
+
+-- ---- one letter less in a sequence
 
 -- all but the last of some letters stand where all do
 front-less : (f : ℕ → ℕ → Bool) (k : ℕ) (w : List ℕ) (y : ℕ) (s : List ℕ) → front-by f k (w ++ (y ∷ [])) s ≡ true → front-by f k w s ≡ true
@@ -69,86 +70,155 @@ unfolding deal
 deal-nil R n [] = refl
 deal-nil R n (c ∷ cs) = refl
 
+-- components that 6 and 8 pass
+abbrev pub AllSound : List Component → Type 0
+AllSound cs = (i : ℕ) → i < length cs → SoundComponent (getD cs i none)
+
 module _ (R : Reading) (s : List ℕ) where
-  -- parts start where the first of them stands
-  first-stands : (c : Part) (cs : List Part) (p : ℕ) → some? (starts (c ∷ cs) s p) ≡ true → found c s p ≡ true
-  unfolding starts
-  first-stands c [] p e = some-if _ _ e .0
-  first-stands c (d ∷ ds) p e = some-if _ _ e .0
+  -- a part alone, from one start
+  one-way : (c d : Part) (p : ℕ) → (found c s p ≡ true → found d s p ≡ true) → ways (c ∷ []) s p ≤ ways (d ∷ []) s p
+  unfolding ways
+  one-way c d p h = go (found c s p) (found d s p) h
+    where
+      go : (a b : Bool) → (a ≡ true → b ≡ true) → if a 1 0 ≤ if b 1 0
+      go true true h = omega arith
+      go true false h = absurd (false≢true (h refl))
+      go false b h = omega arith
 
-  one-starts : (c : Part) (p : ℕ) → found c s p ≡ true → some? (starts (c ∷ []) s p) ≡ true
-  unfolding starts some?
-  one-starts c p e = rw e
+  at-most-one : (c : Part) (p : ℕ) → ways (c ∷ []) s p ≤ 1
+  unfolding ways
+  at-most-one c p = go (found c s p)
+    where
+      go : (b : Bool) → if b 1 0 ≤ 1
+      go true = omega arith
+      go false = omega arith
 
-  -- with a first part more, those start still that did
-  after : (a : Part) (n : ℕ) (c : Component) (v w : List ℕ) (ds es : List Part) → ((p : ℕ) → some? (starts (read R n c v ∷ ds) s p) ≡ true → some? (starts (read R n c w ∷ es) s p) ≡ true)
-      → (p : ℕ) → some? (starts (a ∷ read R n c v ∷ ds) s p) ≡ true → some? (starts (a ∷ read R n c w ∷ es) s p) ≡ true
-  unfolding starts
-  after a n c v w ds es h p e =
-      let k = some-if (found a s p) _ e in
-      rw (k .0) (some-map (λ t. p ∷ t) _ ∙ some-each _ _ (reach (n + c .low) (n + c .high) p) h (sym (some-map (λ t. p ∷ t) _) ∙ k .1))
+  -- a part that goes whole
+  last-gone : (a : Part) (n : ℕ) (c : Component) (cs : List Component) (y : ℕ) → 1 ≤ c .length → (p : ℕ)
+      → ways (a ∷ deal R n (c ∷ cs) (y ∷ [])) s p * to-come (c ∷ cs) (y ∷ []) ≤ ways (a ∷ []) s p * to-come (c ∷ cs) []
+  unfolding deal to-come ways reach
+  last-gone a n c cs y h p = rw (take-all (c .length) (y ∷ []) h, drop-of-length-le (y ∷ []) {i = c .length} h, deal-nil R (c .length) cs) (go (found a s p))
+    where
+      b : Part
+      b = read R n c (y ∷ [])
 
-  -- so it is where a letter is taken from what follows the first part
-  less-after : (a : Part) (n : ℕ) (cs : List Component) (v : List ℕ) (y : ℕ) → (1 ≤ length v → (p : ℕ) → some? (starts (deal R n cs (v ++ (y ∷ []))) s p) ≡ true → some? (starts (deal R n cs v) s p) ≡ true)
-      → (p : ℕ) → some? (starts (a ∷ deal R n cs (v ++ (y ∷ []))) s p) ≡ true → some? (starts (a ∷ deal R n cs v) s p) ≡ true
-  unfolding deal
-  less-after a n [] v y ih p e = e
-  less-after a n (d ∷ ds) [] y ih p e = one-starts a p (first-stands a _ p e)
-  less-after a n (d ∷ ds) (x ∷ w) y ih p e = after a n d _ _ _ _ (ih (omega arith)) p e
+      later : List ℕ
+      later = run (p + (n + c .low)) (n + c .high + 1 - (n + c .low))
 
-  -- with a letter less in all, parts start where they did
-  fewer : (n : ℕ) (cs : List Component) (v : List ℕ) (y : ℕ) → 1 ≤ length v → (p : ℕ) → some? (starts (deal R n cs (v ++ (y ∷ []))) s p) ≡ true → some? (starts (deal R n cs v) s p) ≡ true
-  unfolding deal
-  fewer n [] v y h p e = e
-  fewer n (c ∷ cs) [] y h p e = absurd (omega arith)
-  fewer n (c ∷ cs) (x ∷ w) y h p e = go (leb (c .length) (suc (length w))) refl (fewer (c .length) cs (drop (c .length) (x ∷ w)) y)
+      most : sum (map (ways (b ∷ []) s) later) * to-come cs [] ≤ (n + c .high + 1 - (n + c .low)) * to-come cs []
+      most = sum-run (ways (read R n c (y ∷ []) ∷ []) s) (to-come cs []) (to-come cs []) (λ q. le q) (p + (n + c .low)) (n + c .high + 1 - (n + c .low))
+        where
+          le : (q : ℕ) → ways (read R n c (y ∷ []) ∷ []) s q * to-come cs [] ≤ to-come cs []
+          le q = omega (arith, times _ 1 (to-come cs []) (at-most-one (read R n c (y ∷ [])) q))
+
+      span : n + c .high + 1 - (n + c .low) ≡ c .high + 1 - c .low
+      span = omega arith
+
+      go : (x : Bool) → if x (sum (map (ways (b ∷ []) s) later)) 0 * to-come cs [] ≤ if x 1 0 * ((c .high + 1 - c .low) * to-come cs [])
+      go true = omega (arith, most, ap (λ k. k * to-come cs []) span)
+      go false = omega arith
+
+  -- with a first part more
+  with-first : (a : Part) (n : ℕ) (d : Component) (ds : List Component) (x : ℕ) (w : List ℕ) (y : ℕ)
+      → ((p : ℕ) → ways (deal R n (d ∷ ds) (x ∷ w ++ (y ∷ []))) s p * to-come (d ∷ ds) (x ∷ w ++ (y ∷ [])) ≤ ways (deal R n (d ∷ ds) (x ∷ w)) s p * to-come (d ∷ ds) (x ∷ w))
+      → (p : ℕ) → ways (a ∷ deal R n (d ∷ ds) (x ∷ w ++ (y ∷ []))) s p * to-come (d ∷ ds) (x ∷ w ++ (y ∷ [])) ≤ ways (a ∷ deal R n (d ∷ ds) (x ∷ w)) s p * to-come (d ∷ ds) (x ∷ w)
+  unfolding deal ways
+  with-first a n d ds x w y h p = if-times (found a s p) _ _ _ _ (sum-times _ _ _ _ h (reach (n + d .low) (n + d .high) p))
+
+  -- a letter taken from what follows the first part
+  less-after : (a : Part) (n : ℕ) (cs : List Component) (v : List ℕ) (y : ℕ) → AllSound cs
+      → (1 ≤ length v → (p : ℕ) → ways (deal R n cs (v ++ (y ∷ []))) s p * to-come cs (v ++ (y ∷ [])) ≤ ways (deal R n cs v) s p * to-come cs v)
+      → (p : ℕ) → ways (a ∷ deal R n cs (v ++ (y ∷ []))) s p * to-come cs (v ++ (y ∷ [])) ≤ ways (a ∷ deal R n cs v) s p * to-come cs v
+  less-after a n [] v y l ih p = unfold deal to-come in omega arith
+  less-after a n (d ∷ ds) [] y l ih p = rw (deal-nil R n (d ∷ ds)) (last-gone a n d ds y (l 0 (omega arith) .some) p)
+  less-after a n (d ∷ ds) (x ∷ w) y l ih p = with-first a n d ds x w y (ih (omega arith)) p
+
+  -- with a letter less in all
+  fewer-ways : (n : ℕ) (cs : List Component) (v : List ℕ) (y : ℕ) → AllSound cs → 1 ≤ length v → (p : ℕ)
+      → ways (deal R n cs (v ++ (y ∷ []))) s p * to-come cs (v ++ (y ∷ [])) ≤ ways (deal R n cs v) s p * to-come cs v
+  unfolding deal to-come
+  fewer-ways n [] v y l h p = omega arith
+  fewer-ways n (c ∷ cs) [] y l h p = absurd (omega arith)
+  fewer-ways n (c ∷ cs) (x ∷ w) y l h p = go (leb (c .length) (suc (length w))) refl (fewer-ways (c .length) cs (drop (c .length) (x ∷ w)) y (λ i k. l (suc i) (omega arith)))
     where
       v : List ℕ
       v = x ∷ w
 
       go : (b : Bool) → leb (c .length) (suc (length w)) ≡ b
-          → (1 ≤ length (drop (c .length) v) → (p : ℕ) → some? (starts (deal R (c .length) cs (drop (c .length) v ++ (y ∷ []))) s p) ≡ true → some? (starts (deal R (c .length) cs (drop (c .length) v)) s p) ≡ true)
-          → some? (starts (read R n c (take (c .length) v) ∷ deal R (c .length) cs (drop (c .length) v)) s p) ≡ true
-      -- the letter stood after the first part
-      go true f ih = let l = leb-true (c .length) (suc (length w)) f in
-          less-after _ (c .length) cs (drop (c .length) v) y ih p (rw (take-append-le (c .length) v (y ∷ []) l, drop-append-le (c .length) v (y ∷ []) l) at e)
-      -- it was the first part's last
+          → (1 ≤ length (drop (c .length) v) → (p : ℕ) → ways (deal R (c .length) cs (drop (c .length) v ++ (y ∷ []))) s p * to-come cs (drop (c .length) v ++ (y ∷ [])) ≤ ways (deal R (c .length) cs (drop (c .length) v)) s p * to-come cs (drop (c .length) v))
+          → ways (read R n c (take (c .length) (v ++ (y ∷ []))) ∷ deal R (c .length) cs (drop (c .length) (v ++ (y ∷ [])))) s p * to-come cs (drop (c .length) (v ++ (y ∷ [])))
+          ≤ ways (read R n c (take (c .length) v) ∷ deal R (c .length) cs (drop (c .length) v)) s p * to-come cs (drop (c .length) v)
+      go true f ih = let k = leb-true (c .length) (suc (length w)) f in
+          rw (take-append-le (c .length) v (y ∷ []) k, drop-append-le (c .length) v (y ∷ []) k) (less-after _ (c .length) cs (drop (c .length) v) y (λ i k. l (suc i) (omega arith)) ih p)
       go false f ih =
-          let l = leb-false (c .length) (suc (length w)) f in
+          let k = leb-false (c .length) (suc (length w)) f in
           let short : length v ≤ c .length = omega arith in
           let long : length (v ++ (y ∷ [])) ≤ c .length = omega (arith, length-append v (y ∷ [])) in
-          rw (take-all (c .length) v short, drop-of-length-le v short, deal-nil R (c .length) cs)
-          (one-starts _ p (stands-less (R .fits) (R .slack c) v y s p (rw (take-all (c .length) (v ++ (y ∷ [])) long) at (first-stands _ _ p e))))
+          rw (take-all (c .length) v short, drop-of-length-le v {i = c .length} short, take-all (c .length) (v ++ (y ∷ [])) long, drop-of-length-le (v ++ (y ∷ [])) {i = c .length} long, deal-nil R (c .length) cs)
+          (times _ _ (to-come cs []) (one-way (read R n c (v ++ (y ∷ []))) (read R n c v) p (stands-less (R .fits) (R .slack c) v y s p)))
 
-  -- so they occur in the sequences in which they did
-  fewer-occur : (n : ℕ) (cs : List Component) (v : List ℕ) (y : ℕ) → 1 ≤ length v → some? (occurrences (deal R n cs (v ++ (y ∷ []))) s) ≡ true → some? (occurrences (deal R n cs v) s) ≡ true
-  unfolding occurrences
-  fewer-occur n cs v y h e = some-each _ _ (run 1 (length s)) (fewer n cs v y h) e
+  fewer-occurrences : (n : ℕ) (cs : List Component) (v : List ℕ) (y : ℕ) → AllSound cs → 1 ≤ length v
+      → length (occurrences (deal R n cs (v ++ (y ∷ []))) s) * to-come cs (v ++ (y ∷ [])) ≤ length (occurrences (deal R n cs v) s) * to-come cs v
+  fewer-occurrences n cs v y l h = rw (occurrences-count, occurrences-count) (sum-times _ _ _ _ (fewer-ways n cs v y l h) (run 1 (length s)))
 
--- ---- support
+-- ---- in all sequences
 
--- a test that passes only where another does counts no more
-marks-le : {A : Type 0} (f g : A → Bool) → ((x : A) → f x ≡ true → g x ≡ true) → (xs : List A) → length (keep (λ b. b) (map f xs)) ≤ length (keep (λ b. b) (map g xs))
-unfolding keep
-marks-le f g h [] = omega arith
-marks-le f g h (x ∷ xs) = go (f x) (g x) (h x) (marks-le f g h xs)
-  where
-    go : (a b : Bool) → (a ≡ true → b ≡ true) → length (keep (λ b. b) (map f xs)) ≤ length (keep (λ b. b) (map g xs))
-        → length (if a (a ∷ keep (λ b. b) (map f xs)) (keep (λ b. b) (map f xs))) ≤ length (if b (b ∷ keep (λ b. b) (map g xs)) (keep (λ b. b) (map g xs)))
-    go true true k ih = omega arith
-    go true false k ih = absurd (false≢true (k refl))
-    go false true k ih = omega arith
-    go false false k ih = ih
+-- a prefix one letter shorter comes to no less
+pub rows-antitone : (R : Reading) (base n : ℕ) (cs : List Component) (j m : ℕ) → AllSound cs → 1 ≤ j → (ss : List (List ℕ))
+    → length (occurrence-rows (deal R n cs (spell base (suc j) m)) ss) * to-come cs (spell base (suc j) m)
+    ≤ length (occurrence-rows (deal R n cs (spell base j (m / base))) ss) * to-come cs (spell base j (m / base))
+rows-antitone R base n cs j m l h ss =
+    rw (rows-count, rows-count, spell-more base j m)
+    (sum-times _ _ _ _ (λ s. fewer-occurrences R s n cs (spell base j (m / base)) (m % base) l (rw length-spell h)) ss)
 
-module _ (R : Reading) (base n : ℕ) (cs : List Component) (j m : ℕ) (h : 1 ≤ j) where
+-- the gaps to come can each be kept
+to-come-some : (cs : List Component) (w : List ℕ) → AllSound cs → 1 ≤ to-come cs w
+unfolding to-come
+to-come-some [] w l = omega arith
+to-come-some (c ∷ cs) [] l =
+    let h = to-come-some cs [] (λ i k. l (suc i) (omega arith)) in
+    let g : 1 ≤ c .high + 1 - c .low = omega (arith, l 0 (omega arith) .ordered) in
+    omega (arith, times 1 (c .high + 1 - c .low) (to-come cs []) g)
+to-come-some (c ∷ cs) (x ∷ w) l = to-come-some cs (drop (c .length) (x ∷ w)) (λ i k. l (suc i) (omega arith))
+
+some-length : {A : Type 0} (xs : List A) → some? xs ≡ true → 1 ≤ length xs
+unfolding some?
+some-length [] e = absurd (false≢true e)
+some-length (x ∷ xs) e = omega arith
+
+length-some : {A : Type 0} (xs : List A) → 1 ≤ length xs → some? xs ≡ true
+unfolding some?
+length-some [] h = absurd (omega arith)
+length-some (x ∷ xs) h = refl
+
+-- a product of at least 1 has no factor 0
+left-some : (a b : ℕ) → 1 ≤ a * b → 1 ≤ a
+left-some zero b h = absurd (omega arith)
+left-some (suc a) b h = omega arith
+
+product-some : (a b : ℕ) → 1 ≤ a → 1 ≤ b → 1 ≤ a * b
+product-some a b h k = omega (arith, times 1 a b h)
+
+module _ (R : Reading) (base n : ℕ) (cs : List Component) (j m : ℕ) (l : AllSound cs) (h : 1 ≤ j) where
   -- a prefix one letter shorter occurs wherever the longer one does
   pub prefix-occurs : (s : List ℕ) → some? (occurrences (deal R n cs (spell base (suc j) m)) s) ≡ true → some? (occurrences (deal R n cs (spell base j (m / base))) s) ≡ true
-  prefix-occurs s e = fewer-occur R s n cs (spell base j (m / base)) (m % base) (rw length-spell h) (rw (spell-more base j m) at e)
+  prefix-occurs s e =
+      let v : List ℕ = spell base j (m / base) in
+      let w : List ℕ = v ++ (m % base ∷ []) in
+      let long : 1 ≤ length (occurrences (deal R n cs w) s) = some-length _ (rw (spell-more base j m) at e) in
+      let most = fewer-occurrences R s n cs v (m % base) l (rw length-spell h) in
+      length-some _ (left-some _ (to-come cs v) (omega (arith, most, product-some _ _ long (to-come-some cs w l))))
 
   -- so its support is no smaller
   pub support-antitone : (ss : List (List ℕ)) → support (deal R n cs (spell base (suc j) m)) ss ≤ support (deal R n cs (spell base j (m / base))) ss
-  unfolding support marks
-  support-antitone ss = marks-le _ _ prefix-occurs ss
+  support-antitone ss = rw (support-sequences, support-sequences) (keep-wider _ _ prefix-occurs ss)
+
+-- a whole motif has no gap to come
+pub none-to-come : (cs : List Component) (w : List ℕ) → AllSound cs → sum (map (λ c. c .length) cs) ≡ length w → to-come cs w ≡ 1
+unfolding to-come sum
+none-to-come [] w l e = refl
+none-to-come (c ∷ cs) [] l e = absurd (omega (arith, l 0 (omega arith) .some))
+none-to-come (c ∷ cs) (x ∷ w) l e = none-to-come cs (drop (c .length) (x ∷ w)) (λ i h. l (suc i) (omega arith)) (omega (arith, length-drop (c .length) (x ∷ w)))
 
 -- K is at least 1
 pub size-some : (t : Template) → SoundTemplate t → 1 ≤ size t

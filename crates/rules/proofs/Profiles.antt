@@ -19,10 +19,9 @@ use Rattle.rules.specs.Template.{Part, Reading, plain, components, size,
 use Rattle.rules.specs.Walk.{walk-in, Lawful, spelled}
 use Rattle.rules.specs.declared.Component.{Component}
 use Rattle.rules.specs.declared.Template.{Template}
-use Rattle.rules.proofs.Components.{components-some}
+use Rattle.rules.proofs.Components.{components-sound}
 use Rattle.rules.proofs.Lists.{keep-append}
-use Rattle.rules.proofs.Prefix.{size-some, support-antitone}
-use Rattle.rules.proofs.Repeats.{rows-antitone, none-to-come}
+use Rattle.rules.proofs.Prefix.{rows-antitone, support-antitone, none-to-come, size-some}
 use Rattle.rules.proofs.Spelling.{spell-more, length-spell}
 use Rattle.rules.proofs.Tests.{both}
 
@@ -75,8 +74,8 @@ module _ (P : Profile) (proper : Proper P) where
       where
         go : (a : Tally) → tallied a (deal (P .reading) 0 (components t) (spell (P .base) (suc j) m)) (to-come (components t) (spell (P .base) (suc j) m)) ss
             ≤ tallied a (deal (P .reading) 0 (components t) (spell (P .base) j (m / P .base))) (to-come (components t) (spell (P .base) j (m / P .base))) ss
-        go by-sequence = support-antitone (P .reading) (P .base) 0 (components t) j m h ss
-        go by-occurrence = rows-antitone (P .reading) (P .base) 0 (components t) j m (components-some o) h ss
+        go by-sequence = support-antitone (P .reading) (P .base) 0 (components t) j m (components-sound o) h ss
+        go by-occurrence = rows-antitone (P .reading) (P .base) 0 (components t) j m (components-sound o) h ss
 
     module _ (quorum : ℕ) (ss : List (List ℕ)) where
       good-anti : SoundTemplate t → (j m : ℕ) → reaches (measure P t ss) quorum (suc j) m ≡ true → reaches (measure P t ss) quorum j (m / P .base) ≡ true
@@ -121,7 +120,7 @@ good-whole P t o quorum ss m = go (size t) refl (size-some t o)
   where
     go : (k : ℕ) → size t ≡ k → 1 ≤ k → reaches (measure P t ss) quorum k m ≡ leb quorum (counted (P .tally) (parts-in P t k m) ss)
     go zero e h = absurd (omega arith)
-    go (suc k) e h = good-at k (none-to-come (components t) (spell (P .base) (suc k) m) (components-some o) (e ∙ sym (length-spell (P .base) (suc k) m)))
+    go (suc k) e h = good-at k (none-to-come (components t) (spell (P .base) (suc k) m) (components-sound o) (e ∙ sym (length-spell (P .base) (suc k) m)))
       where
         good-at : (k : ℕ) → to-come (components t) (spell (P .base) (suc k) m) ≡ 1 → reaches (measure P t ss) quorum (suc k) m ≡ leb quorum (counted (P .tally) (parts-in P t (suc k) m) ss)
         good-at k z = unfold reaches measure in rw z (ap (leb quorum) (tallied-one (P .tally) _ ss))
