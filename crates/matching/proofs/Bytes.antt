@@ -8,7 +8,7 @@ use lib.ListN.{length, take, drop, length-map}
 use Rattle.rules.proofs.Bytes.{lettered, Spelled, stands-bytes, cut-spelled, cut-bytes}
 use Rattle.rules.proofs.Exact.{exact-search, exact-parts}
 use Rattle.rules.proofs.Lists.{each-same}
-use Rattle.rules.proofs.Occurs.{Worded, Plain, parts-worded, parts-some}
+use Rattle.rules.proofs.Occurs.{Worded, AllLiteral, parts-worded, parts-some}
 use Rattle.rules.proofs.Spelling.{spell-below}
 use Rattle.rules.proofs.Tables.{map-take, map-drop}
 use Rattle.rules.specs.Letters.{value, letter}
@@ -44,14 +44,14 @@ worded-bytes [] h i l = absurd (omega arith)
 worded-bytes (c ∷ cs) h zero l = rw (length-map (c .word) letter) (h 0 (omega arith))
 worded-bytes (c ∷ cs) h (suc i) l = worded-bytes cs (λ k m. h (suc k) (omega arith)) i (omega arith)
 
-plain-bytes : (cs : List Part) → Plain (map lettered cs)
-plain-bytes [] = tt
-plain-bytes (c ∷ cs) = (λ s p. refl, plain-bytes cs)
+literal-bytes : (cs : List Part) → AllLiteral (map lettered cs)
+literal-bytes [] = tt
+literal-bytes (c ∷ cs) = (λ s p. refl, literal-bytes cs)
 
 -- a flag of the bytes is left where the prefix occurs in the values
 left-bytes : (cs : List Part) (s : List ℕ) → Spelled cs → Worded cs → 1 ≤ length cs → left? (last-starts (map lettered cs) s) ≡ some? (occurrences cs (map value s))
 left-bytes cs s low f h =
-    flag-left (map lettered cs) s (worded-bytes cs f) (plain-bytes cs) (rw (length-map cs lettered) h) ∙ ap (λ l. some? l) (occurrences-bytes s cs low)
+    flag-left (map lettered cs) s (worded-bytes cs f) (literal-bytes cs) (rw (length-map cs lettered) h) ∙ ap (λ l. some? l) (occurrences-bytes s cs low)
 
 marks-bytes : (cs : List Part) → Spelled cs → Worded cs → 1 ≤ length cs → (ns l : List ℕ) → left-marks (map lettered cs) (split ns l) ≡ marks cs (split ns (map value l))
 unfolding left-marks marks split

@@ -11,7 +11,7 @@ use native.Mathlib.Omega.{arith}
 use lib.Dec.{leb}
 use lib.ListN.{length, drop, drop-of-length-le}
 use borrow.Author.Tests.{le-leb, leb-true}
-use Rattle.rules.proofs.Occurs.{Worded, Exact, Plain}
+use Rattle.rules.proofs.Occurs.{Worded, Literal, AllLiteral}
 use Rattle.rules.proofs.Lists.{some-map}
 use Rattle.rules.specs.Lists.{if, run, each, some?}
 use Rattle.rules.specs.Occurrence.{stands-by, front-by, found, reach, starts, occurrences}
@@ -112,10 +112,10 @@ module _ (s : List ℕ) where
         b)
 
   -- a part that is read exactly keeps the flags at which it is found
-  matched-found : (c : Part) → Exact c → (A : ℕ → Bool) → matched (c .word) 0 s (flagged A (length s)) ≡ flagged (λ o. if (found c s (suc (o + 0))) (A o) false) (length s)
+  matched-found : (c : Part) → Literal c → (A : ℕ → Bool) → matched (c .word) 0 s (flagged A (length s)) ≡ flagged (λ o. if (found c s (suc (o + 0))) (A o) false) (length s)
   matched-found c x A = matched-flagged s (c .word) 0 A ∙ flagged-same _ _ (length s) (λ o. ap (λ (b : Bool). if b (A o) false) (sym (x s (suc (o + 0)))))
 
-  left-following : (cs : List Part) → Worded cs → Plain cs → (A : ℕ → Bool) (c : Part) → ((o : ℕ) → A o ≡ true → found c s (suc o) ≡ true)
+  left-following : (cs : List Part) → Worded cs → AllLiteral cs → (A : ℕ → Bool) (c : Part) → ((o : ℕ) → A o ≡ true → found c s (suc o) ≡ true)
       → left? (following cs s (flagged A (length s))) ≡ any (meets A c cs) 0 (length s)
   unfolding following meets next
   left-following [] f x A c h =
@@ -128,7 +128,7 @@ module _ (s : List ℕ) where
       ∙ left-following ds (λ i l. f (suc i) (omega arith)) (x .1) (next A d) d (next-stands A d)
       ∙ same-truth _ _ (back A c d ds h) (on A c d ds (f 0 (omega arith)))
 
-  left-occurs : (c : Part) (cs : List Part) → Worded cs → Plain (c ∷ cs) → left? (last-starts (c ∷ cs) s) ≡ some? (occurrences (c ∷ cs) s)
+  left-occurs : (c : Part) (cs : List Part) → Worded cs → AllLiteral (c ∷ cs) → left? (last-starts (c ∷ cs) s) ≡ some? (occurrences (c ∷ cs) s)
   unfolding last-starts occurrences meets begins
   left-occurs c cs f x =
       let A : ℕ → Bool = λ o. if (found c s (suc (o + 0))) true false in
@@ -141,6 +141,6 @@ module _ (s : List ℕ) where
       ∙ sym (some-each (starts (c ∷ cs) s) 1 (length s))
 
 -- THE LAW. A flag is left in a sequence exactly if the prefix, given as its parts, has an occurrence there
-pub flag-left : (cs : List Part) (s : List ℕ) → Worded cs → Plain cs → 1 ≤ length cs → left? (last-starts cs s) ≡ some? (occurrences cs s)
+pub flag-left : (cs : List Part) (s : List ℕ) → Worded cs → AllLiteral cs → 1 ≤ length cs → left? (last-starts cs s) ≡ some? (occurrences cs s)
 flag-left [] s f x h = absurd (omega arith)
 flag-left (c ∷ cs) s f x h = left-occurs s c cs (λ i l. f (suc i) (omega arith)) x

@@ -15,7 +15,7 @@ use Rattle.rules.specs.Lists.{if}
 use Rattle.rules.specs.Occurrence.{front, front-by, stands, stands-by}
 use Rattle.rules.specs.Template.{Part, part, deal, cut-after}
 use Rattle.rules.specs.declared.Component.{Component}
-use Rattle.rules.proofs.Occurs.{Exact}
+use Rattle.rules.proofs.Occurs.{Literal}
 use Rattle.rules.proofs.Tables.{map-take, map-drop}
 
 -- ---- one letter
@@ -72,7 +72,7 @@ lettered c = part (c .near) (c .far) (map letter (c .word))
 -- parts of such letters, read exactly
 unfoldable pub Spelled : List Part → Type 0
 Spelled [] = Unit
-Spelled (c ∷ cs) = Digits (c .word) × Exact c × Spelled cs
+Spelled (c ∷ cs) = Digits (c .word) × Literal c × Spelled cs
 
 digits-take : (n : ℕ) (w : List ℕ) → Digits w → Digits (take n w)
 digits-take zero w h i = omega arith

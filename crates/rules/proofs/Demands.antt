@@ -31,7 +31,7 @@ use Rattle.rules.specs.declared.Template.{Template}
 use Rattle.rules.proofs.Bound.{list-bound}
 use Rattle.rules.proofs.Completes.{relay-complete, relay-ends, relay-answers}
 use Rattle.rules.proofs.Exact.{exact-search, exact-occurs, exact-motifs, exact-steps}
-use Rattle.rules.proofs.Exactly.{follows-gap}
+use Rattle.rules.proofs.Sentence.{follows-gap}
 use Rattle.rules.proofs.Legs.{Passed, leg-law}
 use Rattle.rules.proofs.LowFirst.{Bytes}
 use Rattle.rules.proofs.OccurrenceOrder.{rows-in-order}
@@ -78,7 +78,7 @@ pub record Demand2 : Type 0 where
   -- the list holds exactly the motifs that the kind of search allows and of which as much is counted as the quorum asks, each
   -- once, in letter order
   pub motifs : (t : Template) → SoundTemplate t → (quorum : ℕ) (ss : List (List ℕ)) (m : ℕ)
-      → List·Memᴰ m (frequent-motifs t quorum ss) ↔ ((m < base-of t ^ size t) × (permitted t (size t) m ≡ true) × (quorum ≤ counted (profile-of t .tally) (parts t (size t) m) ss))
+      → List·Memᴰ m (frequent-motifs t quorum ss) ↔ ((m < base-of t ^ size t) × (permitted t (size t) m ≡ true) × (quorum ≤ counted (profile-of t .basis) (parts t (size t) m) ss))
   pub in-letter-order : (t : Template) (quorum : ℕ) (ss : List (List ℕ)) → Rising (frequent-motifs t quorum ss)
   -- the support is the number of sequences in which the motif occurs
   pub supports : (t : Template) (j m : ℕ) (ss : List (List ℕ)) → support (parts t j m) ss ≡ length (keep (λ s. some? (occurrences (parts t j m) s)) ss)

@@ -21,7 +21,7 @@ use Rattle.rules.specs.Walk.{walk-in, walk-over, goods}
 use Rattle.rules.specs.declared.Component.{Component}
 use Rattle.rules.specs.declared.Place.{Place}
 use Rattle.rules.specs.declared.Template.{Template}
-use Rattle.rules.proofs.Exactly.{occurs-exactly}
+use Rattle.rules.proofs.Sentence.{occurs-exactly}
 use Rattle.rules.proofs.Plain.{tries-plain}
 use Rattle.rules.proofs.Searches.{list-holds}
 use Rattle.rules.proofs.Tests.{and-true}
@@ -61,9 +61,9 @@ module _ (t : Template) (e : profile-of t ≡ exactly) where
   exact-place p = rw (exact-permitted (p .letters) (p .number), exact-base) (ap (λ b. leb (p .letters) (size t) && b) (and-true _))
 
   -- sequences are counted
-  pub exact-counted : (cs : List Part) (ss : List (List ℕ)) → counted (profile-of t .tally) cs ss ≡ support cs ss
+  pub exact-counted : (cs : List Part) (ss : List (List ℕ)) → counted (profile-of t .basis) cs ss ≡ support cs ss
   unfolding exactly
-  exact-counted cs ss = ap (λ P. counted (P .tally) cs ss) e
+  exact-counted cs ss = ap (λ P. counted (P .basis) cs ss) e
 
   -- an occurrence is the paper's
   pub exact-occurs : (j m : ℕ) (s ps : List ℕ) → Occurs (parts t j m) s ps ↔ OccursExactly (components t) (spell Letter-BASES j m) s ps

@@ -30,7 +30,7 @@ use Rattle.rules.proofs.Exact.{exact-steps}
 use Rattle.rules.proofs.Lengths.{rising-within, each-run, each-times, keep-some}
 use Rattle.rules.proofs.Members.{each-in, each-out, keep-run-out}
 use Rattle.rules.proofs.OccurrenceOrder.{keep-run-rising}
-use Rattle.rules.proofs.Occurs.{Plain, cut-plain}
+use Rattle.rules.proofs.Occurs.{AllLiteral, cut-literal}
 use Rattle.rules.proofs.Prefix.{size-some}
 use Rattle.rules.proofs.Spelling.{length-spell, number-spell}
 use Rattle.rules.proofs.Ways.{some-is, support-sequences}
@@ -88,7 +88,7 @@ stands-read w s zero e = absurd (false≢true e)
 stands-read w s (suc o) e = front-read w (drop o s) e
 
 -- the letters of parts that occur are among those that can be read off where such parts are placed
-placed-in : (cs : List Part) (s : List ℕ) (p : ℕ) (ps : List ℕ) → Plain cs → List·Memᴰ ps (starts cs s p) → List·Memᴰ (spelt cs) (placed (map form cs) s p)
+placed-in : (cs : List Part) (s : List ℕ) (p : ℕ) (ps : List ℕ) → AllLiteral cs → List·Memᴰ ps (starts cs s p) → List·Memᴰ (spelt cs) (placed (map form cs) s p)
 unfolding placed starts joined
 placed-in [] s p ps x m = absurd (List·Memᴰ·not-nil m)
 placed-in (c ∷ []) s p ps x m = go (found c s p) refl m
@@ -161,7 +161,7 @@ module _ (t : Template) (j m : ℕ) (deep : j ≤ size t) where
       let r = each-out (starts (parts-in exactly t j m) s) (run 1 (length s)) o in
       let same = cut-forms 0 (components t) (spell Letter-BASES j 0) (spell Letter-BASES j m) (length-spell Letter-BASES j 0 ∙ sym (length-spell Letter-BASES j m)) in
       let whole = cut-spelt 0 (components t) (spell Letter-BASES j m) (omega (arith, length-spell Letter-BASES j m)) in
-      each-in _ (run 1 (length s)) (r .1) (rw same (Memᴰ·cast (sym whole) (placed-in (parts-in exactly t j m) s (r .0) ps (cut-plain 0 (components t) (spell Letter-BASES j m)) (r .2))))
+      each-in _ (run 1 (length s)) (r .1) (rw same (Memᴰ·cast (sym whole) (placed-in (parts-in exactly t j m) s (r .0) ps (cut-literal 0 (components t) (spell Letter-BASES j m)) (r .2))))
 
   -- and so is one whose support is at least 1
   support-read : (ss : List (List ℕ)) → 1 ≤ support (parts-in exactly t j m) ss → List·Memᴰ (spell Letter-BASES j m) (each (readings t j) ss)

@@ -6,7 +6,7 @@ pub mod Over
 pub mod Members
 pub mod Stands
 pub mod Occurs
-pub mod Exactly
+pub mod Sentence
 pub mod OccurrenceOrder
 pub mod Ways
 pub mod Spelling

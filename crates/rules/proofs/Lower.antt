@@ -8,8 +8,8 @@ use native.Mathlib.Omega.{arith}
 use lib.ListN.{length-append}
 use borrow.Author.Tests.{leb-true, le-leb}
 use Rattle.rules.specs.Lists.{run, keep}
-use Rattle.rules.specs.Profile.{Tally, by-sequence, by-occurrence, Profile}
-use Rattle.rules.specs.Support.{tallied, reaches, measure, parts-in, marks, support}
+use Rattle.rules.specs.Profile.{Basis, by-sequence, by-occurrence, Profile}
+use Rattle.rules.specs.Support.{counted-with, reaches, measure, parts-in, marks, support}
 use Rattle.rules.specs.Template.{Part, size}
 use Rattle.rules.specs.Walk.{walk-in, Walk, spelled, candidate, motifs, tries}
 use Rattle.rules.specs.declared.Template.{Template}
@@ -63,9 +63,9 @@ pub support-append : (cs : List Part) (ss ts : List (List ℕ)) → support cs (
 unfolding support marks
 support-append cs ss ts = rw (map-append, keep-append, length-append)
 
-tallied-more : (a : Tally) → a ≡ by-sequence → (cs : List Part) (n : ℕ) (ss ts : List (List ℕ)) → tallied a cs n ss ≤ tallied a cs n (ss ++ ts)
-tallied-more by-sequence e cs n ss ts = omega (arith, support-append cs ss ts)
-tallied-more by-occurrence e cs n ss ts = let z : false ≡ true = cc in absurd (false≢true z)
+counted-more : (a : Basis) → a ≡ by-sequence → (cs : List Part) (n : ℕ) (ss ts : List (List ℕ)) → counted-with a cs n ss ≤ counted-with a cs n (ss ++ ts)
+counted-more by-sequence e cs n ss ts = omega (arith, support-append cs ss ts)
+counted-more by-occurrence e cs n ss ts = let z : false ≡ true = cc in absurd (false≢true z)
 
 module _ (P : Profile) (t : Template) (q r : ℕ) (lower : r ≤ q) (ss : List (List ℕ)) where
   pub lower-lists : motifs (walk-in P t q ss) ≡ keep (reaches (measure P t ss) q (size t)) (motifs (walk-in P t r ss))
@@ -77,10 +77,10 @@ module _ (P : Profile) (t : Template) (q r : ℕ) (lower : r ≤ q) (ss : List (
   lower-steps = tries-fewer (walk-in P t r ss) _ (reaches-wider _ _ q r lower (λ j m. omega arith)) (size t)
 
   -- with more sequences at the end, where sequences are what is counted
-  module _ (by : P .tally ≡ by-sequence) (ts : List (List ℕ)) where
+  module _ (by : P .basis ≡ by-sequence) (ts : List (List ℕ)) where
     measure-more : (j m : ℕ) → measure P t ss j m ≤ measure P t (ss ++ ts) j m
     unfolding measure
-    measure-more j m = tallied-more (P .tally) by (parts-in P t j m) _ ss ts
+    measure-more j m = counted-more (P .basis) by (parts-in P t j m) _ ss ts
 
     pub longer-lists : motifs (walk-in P t q ss) ≡ keep (reaches (measure P t ss) q (size t)) (motifs (walk-in P t r (ss ++ ts)))
     unfolding walk-in

@@ -27,19 +27,19 @@ abbrev pub Worded : List Part → Type 0
 Worded cs = (i : ℕ) → i < length cs → 1 ≤ length ((nth cs i) .word)
 
 -- a part, and parts, that are read exactly
-abbrev pub Exact : Part → Type 0
-Exact c = (s : List ℕ) (p : ℕ) → found c s p ≡ stands (c .word) s p
+abbrev pub Literal : Part → Type 0
+Literal c = (s : List ℕ) (p : ℕ) → found c s p ≡ stands (c .word) s p
 
-abbrev pub Plain : List Part → Type 0
-Plain [] = Unit {0}
-Plain (c ∷ cs) = Exact c × Plain cs
+abbrev pub AllLiteral : List Part → Type 0
+AllLiteral [] = Unit {0}
+AllLiteral (c ∷ cs) = Literal c × AllLiteral cs
 
 -- those of the exact search are
-pub cut-plain : (n : ℕ) (cs : List Component) (w : List ℕ) → Plain (cut-after n cs w)
+pub cut-literal : (n : ℕ) (cs : List Component) (w : List ℕ) → AllLiteral (cut-after n cs w)
 unfolding deal
-cut-plain n [] w = tt
-cut-plain n (c ∷ cs) [] = tt
-cut-plain n (c ∷ cs) (x ∷ w) = (λ s p. refl, cut-plain (c .length) cs (drop (c .length) (x ∷ w)))
+cut-literal n [] w = tt
+cut-literal n (c ∷ cs) [] = tt
+cut-literal n (c ∷ cs) (x ∷ w) = (λ s p. refl, cut-literal (c .length) cs (drop (c .length) (x ∷ w)))
 
 -- letters dealt out to components of at least one letter leave no part without one
 deal-worded : (R : Reading) (n : ℕ) (cs : List Component) (w : List ℕ) → ((i : ℕ) → i < length cs → 1 ≤ (getD cs i none) .length) → Worded (deal R n cs w)

@@ -16,7 +16,7 @@ use Rattle.rules.specs.Occurrence.{spare, front-by, stands-by, found, re
 use Rattle.rules.specs.Profile.{to-come}
 use Rattle.rules.specs.Sound.{SoundComponent, SoundTemplate}
 use Rattle.rules.specs.Support.{support, occurrence-rows}
-use Rattle.rules.specs.Template.{Part, Reading, none, read, slots, components, size, deal}
+use Rattle.rules.specs.Template.{Part, Reading, none, part-of, slots, components, size, deal}
 use Rattle.rules.specs.declared.Component.{Component}
 use Rattle.rules.specs.declared.Template.{Template}
 use Rattle.rules.proofs.Lists.{keep-wider}
@@ -100,16 +100,16 @@ module _ (R : Reading) (s : List ℕ) where
   last-gone a n c cs y h p = rw (take-all (c .length) (y ∷ []) h, drop-of-length-le (y ∷ []) {i = c .length} h, deal-nil R (c .length) cs) (go (found a s p))
     where
       b : Part
-      b = read R n c (y ∷ [])
+      b = part-of R n c (y ∷ [])
 
       later : List ℕ
       later = run (p + (n + c .low)) (n + c .high + 1 - (n + c .low))
 
       most : sum (map (ways (b ∷ []) s) later) * to-come cs [] ≤ (n + c .high + 1 - (n + c .low)) * to-come cs []
-      most = sum-run (ways (read R n c (y ∷ []) ∷ []) s) (to-come cs []) (to-come cs []) (λ q. le q) (p + (n + c .low)) (n + c .high + 1 - (n + c .low))
+      most = sum-run (ways (part-of R n c (y ∷ []) ∷ []) s) (to-come cs []) (to-come cs []) (λ q. le q) (p + (n + c .low)) (n + c .high + 1 - (n + c .low))
         where
-          le : (q : ℕ) → ways (read R n c (y ∷ []) ∷ []) s q * to-come cs [] ≤ to-come cs []
-          le q = omega (arith, times _ 1 (to-come cs []) (at-most-one (read R n c (y ∷ [])) q))
+          le : (q : ℕ) → ways (part-of R n c (y ∷ []) ∷ []) s q * to-come cs [] ≤ to-come cs []
+          le q = omega (arith, times _ 1 (to-come cs []) (at-most-one (part-of R n c (y ∷ [])) q))
 
       span : n + c .high + 1 - (n + c .low) ≡ c .high + 1 - c .low
       span = omega arith
@@ -146,8 +146,8 @@ module _ (R : Reading) (s : List ℕ) where
 
       go : (b : Bool) → leb (c .length) (suc (length w)) ≡ b
           → (1 ≤ length (drop (c .length) v) → (p : ℕ) → ways (deal R (c .length) cs (drop (c .length) v ++ (y ∷ []))) s p * to-come cs (drop (c .length) v ++ (y ∷ [])) ≤ ways (deal R (c .length) cs (drop (c .length) v)) s p * to-come cs (drop (c .length) v))
-          → ways (read R n c (take (c .length) (v ++ (y ∷ []))) ∷ deal R (c .length) cs (drop (c .length) (v ++ (y ∷ [])))) s p * to-come cs (drop (c .length) (v ++ (y ∷ [])))
-          ≤ ways (read R n c (take (c .length) v) ∷ deal R (c .length) cs (drop (c .length) v)) s p * to-come cs (drop (c .length) v)
+          → ways (part-of R n c (take (c .length) (v ++ (y ∷ []))) ∷ deal R (c .length) cs (drop (c .length) (v ++ (y ∷ [])))) s p * to-come cs (drop (c .length) (v ++ (y ∷ [])))
+          ≤ ways (part-of R n c (take (c .length) v) ∷ deal R (c .length) cs (drop (c .length) v)) s p * to-come cs (drop (c .length) v)
       go true f ih = let k = leb-true (c .length) (suc (length w)) f in
           rw (take-append-le (c .length) v (y ∷ []) k, drop-append-le (c .length) v (y ∷ []) k) (less-after _ (c .length) cs (drop (c .length) v) y (λ i k. l (suc i) (omega arith)) ih p)
       go false f ih =
@@ -155,7 +155,7 @@ module _ (R : Reading) (s : List ℕ) where
           let short : length v ≤ c .length = omega arith in
           let long : length (v ++ (y ∷ [])) ≤ c .length = omega (arith, length-append v (y ∷ [])) in
           rw (take-all (c .length) v short, drop-of-length-le v {i = c .length} short, take-all (c .length) (v ++ (y ∷ [])) long, drop-of-length-le (v ++ (y ∷ [])) {i = c .length} long, deal-nil R (c .length) cs)
-          (times _ _ (to-come cs []) (one-way (read R n c (v ++ (y ∷ []))) (read R n c v) p (stands-less (R .fits) (R .slack c) v y s p)))
+          (times _ _ (to-come cs []) (one-way (part-of R n c (v ++ (y ∷ []))) (part-of R n c v) p (stands-less (R .fits) (R .slack c) v y s p)))
 
   fewer-occurrences : (n : ℕ) (cs : List Component) (v : List ℕ) (y : ℕ) → AllSound cs → 1 ≤ length v
       → length (occurrences (deal R n cs (v ++ (y ∷ []))) s) * to-come cs (v ++ (y ∷ [])) ≤ length (occurrences (deal R n cs v) s) * to-come cs v

@@ -12,10 +12,10 @@ use borrow.Author.Tests.{leb-true, leb-false, le-leb}
 use Rattle.rules.specs.Limits.{Letter-BASES}
 use Rattle.rules.specs.Lists.{keep, all?}
 use Rattle.rules.specs.Motif.{spell}
-use Rattle.rules.specs.Profile.{Tally, by-sequence, by-occurrence, Profile, Proper, allowed, to-come, four-letters, exactly, repeated, substituted, several, within, mixed}
+use Rattle.rules.specs.Profile.{Basis, by-sequence, by-occurrence, Profile, Proper, allowed, to-come, four-letters, exactly, repeated, substituted, several, within, mixed}
 use Rattle.rules.specs.Sound.{SoundTemplate}
-use Rattle.rules.specs.Support.{counted, tallied, allowed-in, reaches, parts-in, measure}
-use Rattle.rules.specs.Template.{Part, Reading, plain, components, size, deal}
+use Rattle.rules.specs.Support.{counted, counted-with, allowed-in, reaches, parts-in, measure}
+use Rattle.rules.specs.Template.{Part, Reading, literal, components, size, deal}
 use Rattle.rules.specs.Walk.{walk-in, Lawful, spelled}
 use Rattle.rules.specs.declared.Component.{Component}
 use Rattle.rules.specs.declared.Template.{Template}
@@ -70,10 +70,10 @@ module _ (P : Profile) (proper : Proper P) where
     -- what a prefix comes to, and one shorter
     measure-antitone : SoundTemplate t → (ss : List (List ℕ)) (j m : ℕ) → 1 ≤ j → measure P t ss (suc j) m ≤ measure P t ss j (m / P .base)
     unfolding measure parts-in
-    measure-antitone o ss j m h = go (P .tally)
+    measure-antitone o ss j m h = go (P .basis)
       where
-        go : (a : Tally) → tallied a (deal (P .reading) 0 (components t) (spell (P .base) (suc j) m)) (to-come (components t) (spell (P .base) (suc j) m)) ss
-            ≤ tallied a (deal (P .reading) 0 (components t) (spell (P .base) j (m / P .base))) (to-come (components t) (spell (P .base) j (m / P .base))) ss
+        go : (a : Basis) → counted-with a (deal (P .reading) 0 (components t) (spell (P .base) (suc j) m)) (to-come (components t) (spell (P .base) (suc j) m)) ss
+            ≤ counted-with a (deal (P .reading) 0 (components t) (spell (P .base) j (m / P .base))) (to-come (components t) (spell (P .base) j (m / P .base))) ss
         go by-sequence = support-antitone (P .reading) (P .base) 0 (components t) j m (components-sound o) h ss
         go by-occurrence = rows-antitone (P .reading) (P .base) 0 (components t) j m (components-sound o) h ss
 
@@ -108,35 +108,35 @@ module _ (P : Profile) (proper : Proper P) where
 
 -- ---- whole motifs
 
-tallied-one : (a : Tally) (cs : List Part) (ss : List (List ℕ)) → tallied a cs 1 ss ≡ counted a cs ss
-tallied-one by-sequence cs ss = refl
-tallied-one by-occurrence cs ss = omega arith
+counted-one : (a : Basis) (cs : List Part) (ss : List (List ℕ)) → counted-with a cs 1 ss ≡ counted a cs ss
+counted-one by-sequence cs ss = refl
+counted-one by-occurrence cs ss = omega arith
 
 -- a motif has no gap to come: it is good exactly if what is counted of it reaches the quorum
 pub good-whole : (P : Profile) (t : Template) → SoundTemplate t → (quorum : ℕ) (ss : List (List ℕ)) (m : ℕ)
-    → reaches (measure P t ss) quorum (size t) m ≡ leb quorum (counted (P .tally) (parts-in P t (size t) m) ss)
+    → reaches (measure P t ss) quorum (size t) m ≡ leb quorum (counted (P .basis) (parts-in P t (size t) m) ss)
 unfolding size
 good-whole P t o quorum ss m = go (size t) refl (size-some t o)
   where
-    go : (k : ℕ) → size t ≡ k → 1 ≤ k → reaches (measure P t ss) quorum k m ≡ leb quorum (counted (P .tally) (parts-in P t k m) ss)
+    go : (k : ℕ) → size t ≡ k → 1 ≤ k → reaches (measure P t ss) quorum k m ≡ leb quorum (counted (P .basis) (parts-in P t k m) ss)
     go zero e h = absurd (omega arith)
     go (suc k) e h = good-at k (none-to-come (components t) (spell (P .base) (suc k) m) (components-sound o) (e ∙ sym (length-spell (P .base) (suc k) m)))
       where
-        good-at : (k : ℕ) → to-come (components t) (spell (P .base) (suc k) m) ≡ 1 → reaches (measure P t ss) quorum (suc k) m ≡ leb quorum (counted (P .tally) (parts-in P t (suc k) m) ss)
-        good-at k z = unfold reaches measure in rw z (ap (leb quorum) (tallied-one (P .tally) _ ss))
+        good-at : (k : ℕ) → to-come (components t) (spell (P .base) (suc k) m) ≡ 1 → reaches (measure P t ss) quorum (suc k) m ≡ leb quorum (counted (P .basis) (parts-in P t (suc k) m) ss)
+        good-at k z = unfold reaches measure in rw z (ap (leb quorum) (counted-one (P .basis) _ ss))
 
 -- ---- THE PROFILES
 
-four-proper : (R : Reading) (a : Tally) → Proper (four-letters R a)
+four-proper : (R : Reading) (a : Basis) → Proper (four-letters R a)
 four-proper R a = record { pos = omega arith; short = omega arith; wide = omega arith; none = λ c. refl; first = λ c. refl; closed = λ c w y e. refl }
 
 pub exactly-proper : Proper exactly
 unfolding exactly
-exactly-proper = four-proper plain by-sequence
+exactly-proper = four-proper literal by-sequence
 
 pub repeated-proper : Proper repeated
 unfolding repeated
-repeated-proper = four-proper plain by-occurrence
+repeated-proper = four-proper literal by-occurrence
 
 pub substituted-proper : (e : Component → ℕ) → Proper (substituted e)
 unfolding substituted

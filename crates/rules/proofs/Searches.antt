@@ -36,6 +36,6 @@ module _ (t : Template) (quorum : ℕ) (ss : List (List ℕ)) where
 
     -- and holds the motifs whose letters are allowed and of which enough is counted
     pub list-holds : (m : ℕ) → List·Memᴰ m (frequent-motifs t quorum ss)
-        ↔ ((m < base-of t ^ size t) × (permitted t (size t) m ≡ true) × (quorum ≤ counted (profile-of t .tally) (parts t (size t) m) ss))
+        ↔ ((m < base-of t ^ size t) × (permitted t (size t) m ≡ true) × (quorum ≤ counted (profile-of t .basis) (parts t (size t) m) ss))
     unfolding frequent-motifs
     list-holds = profile-list (profile-of t) (profile-proper t) t sound quorum ss

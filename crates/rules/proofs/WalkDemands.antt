@@ -81,7 +81,7 @@ module _ (P : Profile) (proper : Proper P) (t : Template) (sound : SoundTemplate
 
   -- its list: the motifs whose letters are allowed and of which enough is counted
   pub profile-list : (m : ℕ) → List·Memᴰ m (motifs (walk-in P t quorum ss))
-      ↔ ((m < P .base ^ size t) × (allowed-in P t (size t) m ≡ true) × (quorum ≤ counted (P .tally) (parts-in P t (size t) m) ss))
+      ↔ ((m < P .base ^ size t) × (allowed-in P t (size t) m ≡ true) × (quorum ≤ counted (P .basis) (parts-in P t (size t) m) ss))
   unfolding walk-in
   profile-list m =
       let is = motifs-are (walk-in P t quorum ss) m in

@@ -10,11 +10,11 @@ abbrev pub Letter-MARK : ℕ
 Letter-MARK = 4
 
 -- the letters of a mixed motif, and the base of its number
-abbrev pub Letter-KINDS : ℕ
-Letter-KINDS = 14
+abbrev pub Letter-SYMBOLS : ℕ
+Letter-SYMBOLS = 14
 
-abbrev pub Letter-PLACES : ℕ
-Letter-PLACES = 16
+abbrev pub Letter-DIGITS : ℕ
+Letter-DIGITS = 16
 
 -- a template's components, the letters of one, the letters in all (K), and the longest gap
 abbrev pub Template-COMPONENTS : ℕ

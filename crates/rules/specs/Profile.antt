@@ -7,15 +7,15 @@ use Prim.Native.Nat.{ℕ, _+_, _-_, _*_, _^_, _≤_}
 use lib.Dec.{leb, ltb, eqb}
 use lib.ListN.{length, take, drop, getD}
 use Rattle.rules.specs.Letters.{A, C, G, T}
-use Rattle.rules.specs.Limits.{Letter-BASES, Letter-KINDS, Letter-PLACES, Template-LETTERS, Template-MIXED}
+use Rattle.rules.specs.Limits.{Letter-BASES, Letter-SYMBOLS, Letter-DIGITS, Template-LETTERS, Template-MIXED}
 use Rattle.rules.specs.Lists.{keep, all?, member?}
-use Rattle.rules.specs.Template.{Reading, plain}
+use Rattle.rules.specs.Template.{Reading, literal}
 use Rattle.rules.specs.declared.Component.{Component}
 use Rattle.rules.specs.declared.Template.{Template}
 
 -- what must reach the quorum: the sequences in which a motif occurs, or its occurrences
-pub data Tally : Type 0 where
-  by-sequence by-occurrence : Tally
+pub data Basis : Type 0 where
+  by-sequence by-occurrence : Basis
 
 pub record Profile : Type 0 where
   -- the base of a motif's number
@@ -26,7 +26,7 @@ pub record Profile : Type 0 where
   pub reading : Reading
   -- a component may begin with some letters
   pub allows : Component → List ℕ → Bool
-  pub tally : Tally
+  pub basis : Basis
 
 -- the letters of a motif, or of a prefix, are allowed, component by component
 unfoldable pub allowed : (Component → List ℕ → Bool) → List Component → List ℕ → Bool
@@ -53,16 +53,16 @@ pub record Proper (P : Profile) : Type 0 where
   pub closed : (c : Component) (w : List ℕ) (y : ℕ) → P .allows c (w ++ (y ∷ [])) ≡ true → P .allows c w ≡ true
 
 -- THE PROFILES. Over four letters, each of which may follow any
-abbrev pub four-letters : Reading → Tally → Profile
-four-letters R a = record { base = Letter-BASES; most = Template-LETTERS; reading = R; allows = λ c w. true; tally = a }
+abbrev pub four-letters : Reading → Basis → Profile
+four-letters R a = record { base = Letter-BASES; most = Template-LETTERS; reading = R; allows = λ c w. true; basis = a }
 
 -- each fits itself alone, and sequences are counted
 unfoldable pub exactly : Profile
-exactly = four-letters plain by-sequence
+exactly = four-letters literal by-sequence
 
 -- the same, but occurrences are counted
 unfoldable pub repeated : Profile
-repeated = four-letters plain by-occurrence
+repeated = four-letters literal by-occurrence
 
 -- the same as `exactly`, but e of a component's letters may be others
 unfoldable pub substituted : (Component → ℕ) → Profile
@@ -86,10 +86,10 @@ several w = length (keep (leb Letter-BASES) w)
 
 -- fourteen letters, of which a component may have so many that do
 unfoldable pub within : (Component → ℕ) → Component → List ℕ → Bool
-within most c w = all? (λ x. ltb x Letter-KINDS) w && leb (several w) (most c)
+within most c w = all? (λ x. ltb x Letter-SYMBOLS) w && leb (several w) (most c)
 
 unfoldable pub mixed : (Component → ℕ) → Profile
-mixed most = record { base = Letter-PLACES; most = Template-MIXED; reading = record { fits = stands-for; slack = λ c. 0 }; allows = within most; tally = by-sequence }
+mixed most = record { base = Letter-DIGITS; most = Template-MIXED; reading = record { fits = stands-for; slack = λ c. 0 }; allows = within most; basis = by-sequence }
 
 -- THE PROFILE of a template: the one place that says which kind of search it asks for
 unfoldable pub profile-of : Template → Profile

@@ -7,7 +7,7 @@ use lib.ListN.{length}
 use Rattle.rules.specs.Lists.{run, keep, some?, sum}
 use Rattle.rules.specs.Motif.{spell}
 use Rattle.rules.specs.Occurrence.{starts, occurrences}
-use Rattle.rules.specs.Profile.{Tally, by-sequence, by-occurrence, Profile, profile-of, allowed, to-come}
+use Rattle.rules.specs.Profile.{Basis, by-sequence, by-occurrence, Profile, profile-of, allowed, to-come}
 use Rattle.rules.specs.Template.{Part, components, deal}
 use Rattle.rules.specs.declared.Template.{Template}
 
@@ -37,14 +37,14 @@ unfoldable pub occurrence-rows : List Part → List (List ℕ) → List (List �
 occurrence-rows cs ss = rows-from 1 cs ss
 
 -- what is counted of a motif: the sequences in which it occurs, or its occurrences
-abbrev pub counted : Tally → List Part → List (List ℕ) → ℕ
+abbrev pub counted : Basis → List Part → List (List ℕ) → ℕ
 counted by-sequence cs ss = support cs ss
 counted by-occurrence cs ss = length (occurrence-rows cs ss)
 
 -- what a prefix may come to if the gaps still to come have n spans: a sequence is one still, an occurrence may go on in n ways
-abbrev pub tallied : Tally → List Part → ℕ → List (List ℕ) → ℕ
-tallied by-sequence cs n ss = counted by-sequence cs ss
-tallied by-occurrence cs n ss = counted by-occurrence cs ss * n
+abbrev pub counted-with : Basis → List Part → ℕ → List (List ℕ) → ℕ
+counted-with by-sequence cs n ss = counted by-sequence cs ss
+counted-with by-occurrence cs n ss = counted by-occurrence cs ss * n
 
 -- A SEARCH of a profile, over a template
 module _ (P : Profile) (t : Template) where
@@ -58,7 +58,7 @@ module _ (P : Profile) (t : Template) where
 
   -- what it may come to
   unfoldable pub measure : List (List ℕ) → ℕ → ℕ → ℕ
-  measure ss j m = tallied (P .tally) (parts-in j m) (to-come (components t) (spell (P .base) j m)) ss
+  measure ss j m = counted-with (P .basis) (parts-in j m) (to-come (components t) (spell (P .base) j m)) ss
 
 -- a prefix is good if what it may come to reaches the quorum; the empty one always is
 unfoldable pub reaches : (ℕ → ℕ → ℕ) → ℕ → ℕ → ℕ → Bool

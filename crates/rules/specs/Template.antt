@@ -56,12 +56,12 @@ pub record Reading : Type 0 where
   pub slack : Component → ℕ
 
 -- exactly: a letter fits itself, and none may fail to
-abbrev pub plain : Reading
-plain = record { fits = eqb; slack = λ c. 0 }
+abbrev pub literal : Reading
+literal = record { fits = eqb; slack = λ c. 0 }
 
 -- a component's part with the letters w: it starts after the n letters of the one before and a gap of its range
-abbrev pub read : Reading → ℕ → Component → List ℕ → Part
-read R n c w = record { near = n + c .low; far = n + c .high; word = w; fits = R .fits; slack = R .slack c }
+abbrev pub part-of : Reading → ℕ → Component → List ℕ → Part
+part-of R n c w = record { near = n + c .low; far = n + c .high; word = w; fits = R .fits; slack = R .slack c }
 
 -- a part that is read exactly
 abbrev pub part : ℕ → ℕ → List ℕ → Part
@@ -72,11 +72,11 @@ part near far w = record { near = near; far = far; word = w; fits = eqb; slack =
 unfoldable pub deal : Reading → ℕ → List Component → List ℕ → List Part
 deal R n [] w = []
 deal R n (c ∷ cs) [] = []
-deal R n (c ∷ cs) (x ∷ w) = read R n c (take (c .length) (x ∷ w)) ∷ deal R (c .length) cs (drop (c .length) (x ∷ w))
+deal R n (c ∷ cs) (x ∷ w) = part-of R n c (take (c .length) (x ∷ w)) ∷ deal R (c .length) cs (drop (c .length) (x ∷ w))
 
 -- exactly: after a component of n letters, and from the first component on
 abbrev pub cut-after : ℕ → List Component → List ℕ → List Part
-cut-after n cs w = deal plain n cs w
+cut-after n cs w = deal literal n cs w
 
 abbrev pub cut : List Component → List ℕ → List Part
 cut cs w = cut-after 0 cs w

@@ -16,7 +16,7 @@ use Rattle.rules.specs.Template.{Part, part, deal, cut-after}
 use Rattle.rules.specs.declared.Component.{Component}
 use Rattle.ways.specs.Counts.{counts, entry, cell, ending, leading}
 use Rattle.ways.proofs.Standing.{stands-by-short}
-use Rattle.rules.proofs.Occurs.{Exact}
+use Rattle.rules.proofs.Occurs.{Literal}
 use Rattle.rules.proofs.Over.{length-map-run, getD-map-run}
 use Rattle.rules.proofs.Tables.{map-same}
 use Rattle.ways.proofs.Tables.{over-most, window-most}
@@ -68,12 +68,12 @@ counts-after k n (c ∷ cs) [] s = refl
 counts-after k n (c ∷ cs) (x ∷ w) s = map-same _ _ (ways-after (k + c .low) (k + c .high) (n + c .low) (n + c .high) _ _ s) (run 1 (length s))
 
 -- the pass of the last part
-pub ending-counts : (c : Part) → Exact c → (s : List ℕ) → map (ending (c .word) s) (run 1 (length s)) ≡ counts (c ∷ []) s
+pub ending-counts : (c : Part) → Literal c → (s : List ℕ) → map (ending (c .word) s) (run 1 (length s)) ≡ counts (c ∷ []) s
 unfolding counts ending cell ways
 ending-counts c x s = map-same (ending (c .word) s) (ways (c ∷ []) s) (λ p. rw (x s p)) (run 1 (length s))
 
 -- the pass of a part before others, the next of them after a gap of low to high
-pub leading-counts : (c d : Part) (ds : List Part) (low high : ℕ) → Exact c → d .near ≡ length (c .word) + low → d .far ≡ length (c .word) + high
+pub leading-counts : (c d : Part) (ds : List Part) (low high : ℕ) → Literal c → d .near ≡ length (c .word) + low → d .far ≡ length (c .word) + high
     → (s : List ℕ) → 0 < length (d .word)
     → map (leading (c .word) low high s (counts (d ∷ ds) s)) (run 1 (length s)) ≡ counts (c ∷ d ∷ ds) s
 unfolding counts leading cell ways
