@@ -10,7 +10,7 @@ use Rattle.descent.specs.Buffer.{Buffer, emits, after}
 use Rattle.rules.specs.Limits.{SequenceSet-LETTERS}
 use Rattle.rules.specs.Lists.{run, if, each, some?}
 use Rattle.rules.specs.Occurrence.{reach, starts}
-use Rattle.rules.specs.Template.{Part, components}
+use Rattle.rules.specs.Template.{Part, components, distance}
 use Rattle.rules.specs.declared.Component.{Component}
 use Rattle.rules.specs.declared.Template.{Template}
 
@@ -27,7 +27,7 @@ unfoldable pub paths : ℕ → List ℕ → List Component → ℕ → ℕ → L
 paths n flags [] c p = []
 paths n flags (x ∷ []) c p = if (flag n flags c p) ((p ∷ []) ∷ []) []
 paths n flags (x ∷ y ∷ ys) c p =
-    if (flag n flags c p) (map (λ t. p ∷ t) (each (paths n flags (y ∷ ys) (suc c)) (reach (x .length + y .low) (x .length + y .high) p))) []
+    if (flag n flags c p) (map (λ t. p ∷ t) (each (paths n flags (y ∷ ys) (suc c)) (reach (distance (x .length) (y .low)) (distance (x .length) (y .high)) p))) []
 
 -- a buffer after the rows whose numbers before component c stand in `row`, and whose start of c is one of those from a up to e
 unfoldable pub handed : List Component → ℕ → List ℕ → List ℕ → ℕ → ℕ → ℕ → Buffer → Buffer

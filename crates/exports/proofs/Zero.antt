@@ -1,14 +1,14 @@
 -- An exported call answers 0 exactly if none of its checks refuses: every refusal has a number of at least 1.
 use mathlib.Core.Path.{_≡_, refl, ap}
 use mathlib.Core.Logic.{_↔_}
-use mathlib.Core.Bool.{Bool, true, false, _&&_, _||_, not}
+use mathlib.Core.Bool.{Bool, true, false, _&&_, not}
 use mathlib.Core.List.{List, [], _∷_, _++_}
-use Prim.Native.Nat.{ℕ, suc, _≤_, _^_}
+use Prim.Native.Nat.{ℕ, suc, _≤_}
 use native.Mathlib.Omega.{arith}
-use lib.Dec.{leb, ltb, eqb}
+use lib.Dec.{ltb, eqb}
 use lib.ListN.{length}
-use Rattle.rules.specs.Profile.{profile-of, base-of}
-use Rattle.rules.specs.Support.{permitted}
+use Rattle.rules.specs.Profile.{profile-of}
+use Rattle.rules.specs.Support.{valid}
 use Rattle.rules.specs.Calls.{begun, unless, written-unless, save-rule, restore-rule, recover-rule, join-rule}
 use Rattle.rules.specs.Join.{rising?}
 use Rattle.rules.specs.Limits.{Template-COMPONENTS, Template-LENGTH, SequenceSet-SEQUENCES, SequenceSet-LETTERS}
@@ -105,7 +105,7 @@ module _ (letters lengths : List ℕ) where
   recover-numbered t m f =
       let h = template-numbered t in
       both-numbered (set-checks letters lengths) (check5 t ∷ check6 t ∷ check7 t ∷ check8 t ∷ check14 t m ∷ check15 letters lengths t m f ∷ []) (set-numbered letters lengths)
-      (h .0, (h .1 .0, (h .1 .1 .0, (h .1 .1 .1, (if-numbered (leb (base-of t ^ size t) m || not (permitted t (size t) m)) 14 0 (omega arith), (if-numbered (ltb (length (whole-list t (sequences letters lengths) m)) f) 15 0 (omega arith), tt))))))
+      (h .0, (h .1 .0, (h .1 .1 .0, (h .1 .1 .1, (if-numbered (not (valid t (size t) m)) 14 0 (omega arith), (if-numbered (ltb (length (whole-list t (sequences letters lengths) m)) f) 15 0 (omega arith), tt))))))
 
 join-numbered : (xs ys : List ℕ) (head low high : ℕ) (out : List ℕ) → AllNumbered (join-checks xs ys head low high out)
 unfolding join-checks check6-head check8-range check16

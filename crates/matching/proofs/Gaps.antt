@@ -12,7 +12,7 @@ use lib.ListN.{length, take, drop, getD, replicate, drop-of-length-le}
 use lib.Seq.{take-length, length-take-le}
 use borrow.Author.Tests.{le-leb, lt-leb}
 use Rattle.rules.specs.Lists.{run, if, sum, over}
-use Rattle.matching.specs.Flags.{ago, recent, near, after, opened}
+use Rattle.matching.specs.Flags.{ago, recent, near, reached, opened}
 use Rattle.rules.proofs.Over.{over-all}
 
 module _ (ks : List ℕ) where
@@ -99,7 +99,7 @@ module _ (ks : List ℕ) where
 -- a whole pass, from a copy of the flags
 pub opened-pass : (n low high : ℕ) (ks ls : List ℕ) {cs ms : List ℕ} → length ls ≡ length ks → cs ≡ take (length ks) ks ++ drop (length ks) ls
     → ms ≡ over (near cs (n + low) (high + 1 - low)) (length cs) ks → ms ≡ opened n low high ks
-unfolding after
+unfolding reached
 opened-pass n low high ks ls {cs} l e q =
     let h : length ls ≤ length ks = omega arith in
     let same : cs ≡ ks = e ∙ rw (take-length, drop-of-length-le ls {i = length ks} h, append-nil) in

@@ -7,7 +7,7 @@ use lib.Dec.{eqb, leb}
 use lib.ListN.{length, getD, replicate}
 use Rattle.rules.specs.Lists.{if, run, sum}
 use Rattle.rules.specs.Occurrence.{stands}
-use Rattle.rules.specs.Template.{Part}
+use Rattle.rules.specs.Template.{Part, distance, span}
 
 -- 1 of true
 abbrev pub bit : Bool → ℕ
@@ -38,17 +38,17 @@ unfoldable pub near : List ℕ → ℕ → ℕ → ℕ → ℕ
 near ks d n o = if (eqb (recent ks o d n) 0) 0 1
 
 -- the flags of the places that lie least to most places after a set one
-unfoldable pub after : ℕ → ℕ → List ℕ → List ℕ
-after least most ks = map (near ks least (most + 1 - least)) (run 0 (length ks))
+unfoldable pub reached : ℕ → ℕ → List ℕ → List ℕ
+reached least most ks = map (near ks least (span least most)) (run 0 (length ks))
 
 -- those that a part of n letters reaches over a gap of low to high
 abbrev pub opened : ℕ → ℕ → ℕ → List ℕ → List ℕ
-opened n low high ks = after (n + low) (n + high) ks
+opened n low high ks = reached (distance n low) (distance n high) ks
 
 -- A PREFIX. From the flags ks of a part, those of the last of the parts that follow it
 unfoldable pub following : List Part → List ℕ → List ℕ → List ℕ
 following [] s ks = ks
-following (c ∷ cs) s ks = following cs s (matched (c .word) 0 s (after (c .near) (c .far) ks))
+following (c ∷ cs) s ks = following cs s (matched (c .word) 0 s (reached (c .near) (c .far) ks))
 
 -- the flags of the last of all parts
 unfoldable pub last-starts : List Part → List ℕ → List ℕ

@@ -14,12 +14,12 @@ use Rattle.rules.specs.Sound.{SoundTemplate}
 use Rattle.rules.specs.Support.{support, weight, parts}
 use Rattle.rules.specs.Template.{size}
 use Rattle.rules.specs.Told.{Verdict, fine, refused, gives}
-use Rattle.rules.specs.Walk.{Walk, listed, motif}
+use Rattle.rules.specs.Walk.{Walk, listed, motif, walk-of}
 use Rattle.rules.specs.declared.Place.{Place}
 use Rattle.rules.specs.declared.Search.{Search}
 use Rattle.rules.specs.declared.Template.{Template}
 use Rattle.rules.proofs.Legs.{Passed, leg-law, Why, leg-why}
-use Rattle.rules.proofs.Places.{walk-of, place-deep}
+use Rattle.rules.proofs.Places.{place-deep}
 use Rattle.rules.proofs.Searches.{walk-pos}
 use Rattle.rules.proofs.Lists.{keep-few}
 use Rattle.rules.proofs.Tables.{put-front}

@@ -12,10 +12,9 @@ use Rattle.rules.specs.Lists.{if, keep}
 use Rattle.rules.specs.Refusals.{first, search-checks}
 use Rattle.rules.specs.Text.{print-end}
 use Rattle.rules.specs.Told.{fine, LegTold}
-use Rattle.rules.specs.Walk.{from, listed}
+use Rattle.rules.specs.Walk.{from, listed, walk-of}
 use Rattle.rules.specs.declared.Place.{Place}
 use Rattle.rules.specs.declared.Search.{Search}
-use Rattle.rules.proofs.Places.{walk-of}
 use Rattle.rules.proofs.Whole.{listed-append}
 use Rattle.motifs.specs.declared.Way.{Way}
 use Rattle.motifs.specs.Pages.{room-of, ended-told?}

@@ -11,11 +11,11 @@ use Rattle.rules.specs.Legs.{leg}
 use Rattle.rules.specs.Refusals.{first, search-checks}
 use Rattle.rules.specs.Sequences.{sequences}
 use Rattle.rules.specs.Told.{fine, LegTold}
-use Rattle.rules.specs.Walk.{from, listed}
+use Rattle.rules.specs.Walk.{from, listed, walk-of}
 use Rattle.rules.specs.declared.Place.{Place}
 use Rattle.rules.specs.declared.Search.{Search}
 use Rattle.rules.proofs.Legs.{Passed}
-use Rattle.rules.proofs.Places.{walk-of, sound-passing, moved-sound}
+use Rattle.rules.proofs.Places.{sound-passing, moved-sound}
 use Rattle.rules.proofs.Searches.{walk-pos}
 use Rattle.rules.proofs.Relayed.{leg-passing}
 use Rattle.rules.proofs.Sound.{search-sound, search-fine}

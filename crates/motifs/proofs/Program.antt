@@ -16,13 +16,12 @@ use Rattle.rules.specs.Relay.{Lent, whole-steps}
 use Rattle.rules.specs.Sequences.{sequences}
 use Rattle.rules.specs.Text.{text-checks, parse-template, parse-quorum, parse-letters, parse-lengths, print-end, print-refused, print-search, print-rule}
 use Rattle.rules.specs.Told.{Verdict, fine, refused, gives, refuses, LegTold}
-use Rattle.rules.specs.Walk.{Walk, from, listed, start}
+use Rattle.rules.specs.Walk.{Walk, from, listed, start, walk-of}
 use Rattle.rules.specs.declared.Place.{Place}
 use Rattle.rules.specs.declared.Search.{Search}
 use Rattle.rules.specs.declared.Template.{Template}
 use Rattle.rules.proofs.Begins.{begins}
 use Rattle.rules.proofs.Lists.{each-append}
-use Rattle.rules.proofs.Places.{walk-of}
 use Rattle.rules.proofs.Candidates.{start-first}
 use Rattle.rules.proofs.Searches.{walk-lawful}
 use Rattle.rules.proofs.Sound.{search-fine}

@@ -7,7 +7,7 @@ use Prim.Native.Nat.{ℕ, suc, _-_, _^_, _≤_, _<_}
 use native.Mathlib.Omega.{arith}
 use lib.Dec.{ltb}
 use lib.ListN.{length, drop, drop-of-length-le}
-use borrow.Author.Tests.{lt-ltb, le-ltb, le-leb, ltb-true, ltb-false}
+use borrow.Author.Tests.{lt-ltb, le-ltb}
 use Rattle.descent.specs.Buffer.{buffer, progress, emits}
 use Rattle.descent.specs.declared.Progress.{Progress}
 use Rattle.descent.proofs.Buffer.{emits-none, emits-passed}
@@ -16,7 +16,6 @@ use Rattle.recovery.specs.Rule.{first-checks, rows-rule}
 use Rattle.recovery.proofs.Page.{emits-page}
 use Rattle.rules.specs.Calls.{recover-rule}
 use Rattle.rules.specs.Limits.{Letter-BASES}
-use Rattle.rules.specs.Profile.{base-of}
 use Rattle.rules.specs.Recovery.{whole-list}
 use Rattle.rules.specs.Recovery as list
 use Rattle.rules.specs.Refusals.{_else_, first, check14, check15, set-checks, recover-checks}
@@ -26,8 +25,7 @@ use Rattle.rules.specs.Support.{occurrence-rows, parts}
 use Rattle.rules.specs.Template.{size}
 use Rattle.rules.specs.Told.{Verdict, Told, fine, refused, gives, refuses, Counts}
 use Rattle.rules.specs.declared.Template.{Template}
-use Rattle.rules.proofs.EachCheck.{check14-fine}
-use Rattle.rules.proofs.Exact.{exact-search, exact-base, exact-permitted}
+use Rattle.rules.proofs.Exact.{exact-search, exact-valid}
 use Rattle.rules.proofs.Occurs.{parts-worded, rows-are}
 use Rattle.rules.proofs.Sound.{set-sound, template-sound}
 use Rattle.rules.proofs.Verdicts.{first-append, first-both, else-fine}
@@ -39,14 +37,13 @@ use Rattle.checks.specs.Orders.{template-checks}
 module _ (t : Template) (m : ℕ) {k : ℕ} {spelled : Bool} (letters : k ≡ size t) (test : spelled ≡ ltb m (Letter-BASES ^ k)) where
   -- if they can, 14 passes
   pub motif-passes : spelled ≡ true → fine ≡ check14 t m
-  motif-passes e =
-      let below : m < base-of t ^ size t = rw (exact-base t (exact-search t), ← letters) (ltb-true m (Letter-BASES ^ k) (sym test ∙ e)) in
-      sym (check14-fine t m .1 (below, exact-permitted t (exact-search t) (size t) m))
+  unfolding check14
+  motif-passes e = rw (exact-valid t (exact-search t) (size t) m, ← letters, ← test, e)
 
   -- and else it is refused
   pub motif-refused : spelled ≡ false → refused 14 0 ≡ check14 t m
   unfolding check14
-  motif-refused e = rw (exact-base t (exact-search t), ← letters, le-leb (Letter-BASES ^ k) m (ltb-false m (Letter-BASES ^ k) (sym test ∙ e)))
+  motif-refused e = rw (exact-valid t (exact-search t) (size t) m, ← letters, ← test, e)
 
 -- ---- 1 to 8 and 14
 

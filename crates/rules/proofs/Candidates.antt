@@ -36,7 +36,7 @@ module _ (W : Walk) (L : Lawful W) where
   unfolding candidate spelled
   first-candidate =
       let q : 0 / base ≡ 0 = block base 0 0 (omega arith) (omega (arith, L .pos)) in
-      record { most = L .deep; below = rw (pow-suc, pow-zero) (omega (arith, L .pos)); is = rw (L .first, q, L .root) }
+      record { most = L .lettered; below = rw (pow-suc, pow-zero) (omega (arith, L .pos)); is = rw (L .first, q, L .root) }
 
   -- the letters of a candidate may stand there
   pub candidate-may : (p : Place) → Candidate W p → may (p .letters) (p .number) ≡ true
@@ -140,11 +140,11 @@ module _ (W : Walk) (L : Lawful W) where
       go : (j m : ℕ) → j ≤ depth → m < base ^ j → candidate W j m ≡ true → List·Memᴰ (place j m) (from W (start W))
       go zero m l b e = absurd (false≢true e)
       go (suc j) m l b e = let f = both (may (suc j) m) (spelled W j (m / base) && good j (m / base)) .0 e in let g = both (spelled W j (m / base)) (good j (m / base)) .0 (f .1) in
-          in-tail j m (List·Memᴰ·cases-cons (rw (whole W (L .pos) (L .deep) (L .root)) at (visited (suc j) m l b (rw (f .0) (g .0)) (g .1))))
+          in-tail j m (List·Memᴰ·cases-cons (rw (whole W (L .pos) (L .lettered) (L .root)) at (visited (suc j) m l b (rw (f .0) (g .0)) (g .1))))
 
   pub only-candidates : (p : Place) → List·Memᴰ p (from W (start W)) → Candidate W p
   unfolding under spelled
-  only-candidates p h = go depth refl (L .deep) (whole W (L .pos) (L .deep) (L .root))
+  only-candidates p h = go depth refl (L .lettered) (whole W (L .pos) (L .lettered) (L .root))
     where
       go : (D : ℕ) → D ≡ depth → 1 ≤ D → under W D 0 0 ≡ place 0 0 ∷ from W (start W) → Candidate W p
       go zero e l w = absurd (omega arith)
@@ -152,11 +152,11 @@ module _ (W : Walk) (L : Lawful W) where
           let o = each-out (under W d 1) (children W 0 0) (rw (L .root) at (subst (λ ps. List·Memᴰ p ps) (sym (tail-eq-of-cons-eq w)) h)) in
           let b : 0 < base ^ 0 = omega (arith, pow-zero base) in
           let k = kid 0 0 (o .0) refl b (o .1) in
-          settle p _ (candidate-kid 0 0 (o .0) (L .deep) (L .root) refl b (o .1)) (members d 1 (o .0) p (omega arith) (k .spelt) (k .under) (o .2))
+          settle p _ (candidate-kid 0 0 (o .0) (L .lettered) (L .root) refl b (o .1)) (members d 1 (o .0) p (omega arith) (k .spelt) (k .under) (o .2))
 
   -- T6 once more: the search passes through a candidate, and is left with what is from there on
   pub passes : (p : Place) → Candidate W p → (taken : List Place) × (from W (start W) ≡ taken ++ from W p)
-  passes p c = reach (from W (start W)) (start W) p (start-size W (L .deep)) refl (all-candidates p c)
+  passes p c = reach (from W (start W)) (start W) p (start-size W (L .lettered)) refl (all-candidates p c)
 
   pub some : (p : Place) → Candidate W p → 1 ≤ p .letters
   unfolding candidate

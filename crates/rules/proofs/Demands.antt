@@ -5,6 +5,7 @@ use mathlib.Core.Logic.{_⊎_, _↔_}
 use mathlib.Core.Bool.{true}
 use mathlib.Core.List.{List, [], _∷_, _++_, List·Memᴰ}
 use Prim.Native.Nat.{ℕ, suc, _+_, _*_, _≤_, _<_, _^_, min}
+use lib.Dec.{leb}
 use lib.ListN.{length, take, getD, replicate}
 use native.Mathlib.Omega.{arith}
 use Rattle.rules.specs.Calls.{unless, on-refusal, begin-rule, LegRule, stretch, leg-rule, written-unless, save-rule, restore-rule, recover-rule, join-rule}
@@ -21,16 +22,16 @@ use Rattle.rules.specs.Relay.{frequent-motifs, whole-steps, Complete, Le
 use Rattle.rules.specs.Saved.{bytes, sized?, laid-out?, read-search}
 use Rattle.rules.specs.Sequences.{sequences}
 use Rattle.rules.specs.Sound.{SoundSet, SoundTemplate}
-use Rattle.rules.specs.Support.{support, counted, permitted, parts, parts-in}
+use Rattle.rules.specs.Support.{support, counted, valid, parts, parts-in}
 use Rattle.rules.specs.Template.{none, components, size, trimmed}
 use Rattle.rules.specs.Told.{Told, gives, refuses, Verdict, fine, refused, Counts}
-use Rattle.rules.specs.Walk.{Walk, ended-place, walk-over, walk-of, from, start, listed, goods}
+use Rattle.rules.specs.Walk.{Walk, ended-place, walk-in, walk-over, walk-of, from, start, listed, goods}
 use Rattle.rules.specs.declared.Place.{Place}
 use Rattle.rules.specs.declared.Search.{Search}
 use Rattle.rules.specs.declared.Template.{Template}
 use Rattle.rules.proofs.Bound.{list-bound}
 use Rattle.rules.proofs.Completes.{relay-complete, relay-ends, relay-answers}
-use Rattle.rules.proofs.Exact.{exact-search, exact-occurs, exact-motifs, exact-steps}
+use Rattle.rules.proofs.Exact.{exact-search, exact-occurs, exact-motifs, exact-frequent, exact-steps}
 use Rattle.rules.proofs.Sentence.{follows-gap}
 use Rattle.rules.proofs.Legs.{Passed, leg-law}
 use Rattle.rules.proofs.LowFirst.{Bytes}
@@ -75,10 +76,10 @@ pub record Demand1 : Type 0 where
 -- ---- DEMAND 2: the list
 
 pub record Demand2 : Type 0 where
-  -- the list holds exactly the motifs that the kind of search allows and of which as much is counted as the quorum asks, each
-  -- once, in letter order
+  -- the list holds exactly the motifs of which as much is counted as the quorum asks, each once, in letter order: their numbers are
+  -- those of K letters that the kind of search allows
   pub motifs : (t : Template) → SoundTemplate t → (quorum : ℕ) (ss : List (List ℕ)) (m : ℕ)
-      → List·Memᴰ m (frequent-motifs t quorum ss) ↔ ((m < base-of t ^ size t) × (permitted t (size t) m ≡ true) × (quorum ≤ counted (profile-of t .basis) (parts t (size t) m) ss))
+      → List·Memᴰ m (frequent-motifs t quorum ss) ↔ ((valid t (size t) m ≡ true) × (quorum ≤ counted (profile-of t .basis) (parts t (size t) m) ss))
   pub in-letter-order : (t : Template) (quorum : ℕ) (ss : List (List ℕ)) → Rising (frequent-motifs t quorum ss)
   -- the support is the number of sequences in which the motif occurs
   pub supports : (t : Template) (j m : ℕ) (ss : List (List ℕ)) → support (parts t j m) ss ≡ length (keep (λ s. some? (occurrences (parts t j m) s)) ss)
@@ -88,14 +89,16 @@ pub record Demand2 : Type 0 where
   pub gaps : (t : Template) (j m i p q : ℕ) → suc i < length (parts t j m)
       → let c = getD (components t) i none in let d = getD (components t) (suc i) none in
       Follows (nth (parts t j m) (suc i) .near) (nth (parts t j m) (suc i) .far) p q ↔ Gap (c .length) (d .low) (d .high) p q
-  -- every template asks for an exact search, of which this is, in the paper's words: the list holds exactly the motifs whose
-  -- support reaches the quorum; an occurrence has each letter where it stands; the steps are 4 times the number of frequent
-  -- prefixes of 0 to K - 1 letters
+  -- every template asks for an exact search, and of an exact search the paper's own words hold. The list holds exactly the motifs
+  -- whose support reaches the quorum; each letter of an occurrence is the one that stands there; a prefix is frequent if its
+  -- support reaches the quorum, and the steps are 4 times the number of frequent prefixes of 0 to K - 1 letters
   pub exact : (t : Template) → profile-of t ≡ exactly
   pub exact-list : (t : Template) → profile-of t ≡ exactly → SoundTemplate t → (quorum : ℕ) (ss : List (List ℕ)) (m : ℕ)
       → List·Memᴰ m (frequent-motifs t quorum ss) ↔ ((m < Letter-BASES ^ size t) × (quorum ≤ support (parts t (size t) m) ss))
   pub exact-occurrence : (t : Template) → profile-of t ≡ exactly → (j m : ℕ) (s ps : List ℕ)
       → Occurs (parts t j m) s ps ↔ OccursExactly (components t) (spell Letter-BASES j m) s ps
+  pub exact-prefix : (t : Template) → profile-of t ≡ exactly → (quorum : ℕ) (ss : List (List ℕ)) (j m : ℕ) → 1 ≤ j
+      → (walk-over t quorum ss) .good j m ≡ leb quorum (support (parts t j m) ss)
   pub exact-count : (t : Template) → profile-of t ≡ exactly → (quorum : ℕ) (ss : List (List ℕ))
       → whole-steps t quorum ss ≡ Letter-BASES * goods (walk-over t quorum ss) (size t)
   -- a leg of a new search that answers ended has listed it whole
@@ -216,7 +219,7 @@ recovered-page fine a c xs out e = (cc, refl)
 recovered-page (refused n p) a c xs out e = (cc, cc)
 
 pub demand2 : Demand2
-unfolding parts-in whole-list recover-rule
+unfolding parts-in walk-in whole-list recover-rule
 demand2 =
     record {
       motifs = λ t o quorum ss. list-holds t quorum ss o;
@@ -227,6 +230,7 @@ demand2 =
       exact = exact-search;
       exact-list = λ t e o quorum ss. exact-motifs t e quorum ss o;
       exact-occurrence = exact-occurs;
+      exact-prefix = exact-frequent;
       exact-count = exact-steps;
       one-leg = one-leg-complete;
       recovered = λ t o ss m row. rows-are (parts t (size t) m) ss (parts-worded t o (size t) m) (parts-some t o (size t) m (size-some t o)) row;

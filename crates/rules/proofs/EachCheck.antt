@@ -4,21 +4,21 @@ use mathlib.Core.Path.{_≡_, refl}
 use mathlib.Core.Logic.{_↔_, Iff·rfl, Iff·trans}
 use mathlib.Core.Bool.{Bool, true, false, _&&_, not}
 use mathlib.Core.List.{List}
-use Prim.Native.Nat.{ℕ, zero, suc, _+_, _^_, _≤_, _<_}
+use Prim.Native.Nat.{ℕ, zero, suc, _+_, _≤_, _<_}
 use native.Mathlib.Omega.{arith}
-use lib.Dec.{leb, ltb, eqb}
+use lib.Dec.{ltb, eqb}
 use lib.ListN.{length, getD}
-use borrow.Author.Tests.{ltb-false, le-ltb, leb-false, lt-leb, eqb-true, eq-eqb, ne-eqb}
+use borrow.Author.Tests.{ltb-false, le-ltb, eqb-true, eq-eqb, ne-eqb}
 use Rattle.rules.specs.Join.{rising?}
 use Rattle.rules.specs.Letters.{letter?}
 use Rattle.rules.specs.Limits.{Template-COMPONENTS, Template-LENGTH, Template-GAP, SequenceSet-SEQUENCES, SequenceSet-LETTERS}
 use Rattle.rules.specs.Lists.{sum}
-use Rattle.rules.specs.Profile.{profile-of, base-of}
+use Rattle.rules.specs.Profile.{profile-of}
 use Rattle.rules.specs.Recovery.{whole-list}
 use Rattle.rules.specs.Refusals.{refuse-if, bad-byte, bad-length, bad-range, bad-gap, check1, check2, check3, check4, check5, check6, check7, check8, check9, check10, check11, check11-place, check12, passes?, check13, check14, check15, check6-head, check8-range, check16, check17}
 use Rattle.rules.specs.Saved.{sized?, laid-out?, place-rule?}
 use Rattle.rules.specs.Sequences.{sequences}
-use Rattle.rules.specs.Support.{permitted}
+use Rattle.rules.specs.Support.{valid}
 use Rattle.rules.specs.Template.{slots, none, components, size}
 use Rattle.rules.specs.Told.{fine}
 use Rattle.rules.specs.declared.Component.{Component}
@@ -138,13 +138,9 @@ unfolding check13
 check13-fine letters lengths s = wants _ 13 Iff·rfl
 
 -- 14: the number is a motif's
-pub check14-fine : (t : Template) (m : ℕ) → (check14 t m ≡ fine) ↔ ((m < base-of t ^ size t) × (permitted t (size t) m ≡ true))
+pub check14-fine : (t : Template) (m : ℕ) → (check14 t m ≡ fine) ↔ (valid t (size t) m ≡ true)
 unfolding check14
-check14-fine t m =
-    says _ 14 (
-      λ e. let h = neither (leb (base-of t ^ size t) m) _ .0 e in (leb-false _ m (h .0), not-false (permitted t (size t) m) .0 (h .1)),
-      λ h. neither _ _ .1 (lt-leb _ m (h .0), not-false _ .1 (h .1)),
-    )
+check14-fine t m = wants _ 14 Iff·rfl
 
 -- 15: the first row is not above the list's length
 pub check15-fine : (letters lengths : List ℕ) (t : Template) (m f : ℕ) → (check15 letters lengths t m f ≡ fine) ↔ (f ≤ length (whole-list t (sequences letters lengths) m))

@@ -1,6 +1,6 @@
 -- What is so of an exact search, in document 01's words: four letters, each of which stands for itself and may follow any; the
 -- list is that of the motifs whose support reaches the quorum, and the steps are four for each frequent prefix.
-use mathlib.Core.Path.{_≡_, refl, ap, _∙_}
+use mathlib.Core.Path.{_≡_, refl, sym, ap, _∙_}
 use mathlib.Core.Logic.{_↔_}
 use mathlib.Core.Bool.{true, _&&_}
 use mathlib.Core.List.{List, [], _∷_, List·Memᴰ}
@@ -8,6 +8,7 @@ use Prim.Native.Nat.{ℕ, zero, suc, _*_, _^_, _≤_, _<_}
 use native.Mathlib.Omega.{arith}
 use lib.Dec.{leb, ltb}
 use lib.ListN.{drop}
+use borrow.Author.Tests.{ltb-true, lt-ltb}
 use Rattle.rules.specs.Limits.{Letter-BASES, Template-LETTERS}
 use Rattle.rules.specs.Motif.{spell}
 use Rattle.rules.specs.Occurrence.{Occurs, OccursExactly}
@@ -15,7 +16,7 @@ use Rattle.rules.specs.Profile.{allowed, exactly, profile-of, base-of}
 use Rattle.rules.specs.Relay.{frequent-motifs, whole-steps}
 use Rattle.rules.specs.Saved.{place-rule?}
 use Rattle.rules.specs.Sound.{SoundTemplate}
-use Rattle.rules.specs.Support.{support, counted, parts, parts-in, allowed-in, permitted, measure, reaches, frequent}
+use Rattle.rules.specs.Support.{support, counted, parts, parts-in, allowed-in, valid, measure, reaches, frequent}
 use Rattle.rules.specs.Template.{Part, components, size, cut}
 use Rattle.rules.specs.Walk.{walk-in, walk-over, goods}
 use Rattle.rules.specs.declared.Component.{Component}
@@ -51,14 +52,17 @@ module _ (t : Template) (e : profile-of t ≡ exactly) where
   exact-parts j m = rw e
 
   -- every letter is allowed
-  pub exact-permitted : (j m : ℕ) → permitted t j m ≡ true
+  pub exact-allowed : (j m : ℕ) → allowed-in (profile-of t) t j m ≡ true
   unfolding allowed-in exactly
-  exact-permitted j m = rw e (allowed-all (components t) (spell Letter-BASES j m))
+  exact-allowed j m = rw e (allowed-all (components t) (spell Letter-BASES j m))
 
-  -- so the place rule is one of numbers
+  -- so any number below 4 to the power of j is one of j letters, and the place rule is one of numbers
+  pub exact-valid : (j m : ℕ) → valid t j m ≡ ltb m (Letter-BASES ^ j)
+  exact-valid j m = rw (exact-allowed j m, exact-base) (and-true _)
+
   pub exact-place : (p : Place) → place-rule? t p ≡ leb (p .letters) (size t) && ltb (p .number) (Letter-BASES ^ p .letters)
   unfolding place-rule?
-  exact-place p = rw (exact-permitted (p .letters) (p .number), exact-base) (ap (λ b. leb (p .letters) (size t) && b) (and-true _))
+  exact-place p = ap (λ b. leb (p .letters) (size t) && b) (exact-valid (p .letters) (p .number))
 
   -- sequences are counted
   pub exact-counted : (cs : List Part) (ss : List (List ℕ)) → counted (profile-of t .basis) cs ss ≡ support cs ss
@@ -72,7 +76,7 @@ module _ (t : Template) (e : profile-of t ≡ exactly) where
   module _ (quorum : ℕ) (ss : List (List ℕ)) where
     pub exact-may : (j m : ℕ) → (walk-over t quorum ss) .may j m ≡ true
     unfolding walk-in
-    exact-may j m = exact-permitted j m
+    exact-may j m = exact-allowed j m
 
     -- a prefix with a letter is frequent by its support
     pub exact-frequent : (j m : ℕ) → 1 ≤ j → frequent t quorum ss j m ≡ leb quorum (support (parts t j m) ss)
@@ -85,8 +89,8 @@ module _ (t : Template) (e : profile-of t ≡ exactly) where
     exact-motifs o m =
         let h = list-holds t quorum ss o m in
         let c = exact-counted (parts t (size t) m) ss in (
-          λ k. let r = h .0 k in (rw exact-base at (r .0), omega (arith, r .2)),
-          λ k. h .1 (rw exact-base (k .0), exact-permitted (size t) m, omega (arith, k .1)),
+          λ k. let r = h .0 k in (ltb-true m _ (sym (exact-valid (size t) m) ∙ r .0), omega (arith, r .1)),
+          λ k. h .1 (exact-valid (size t) m ∙ lt-ltb m _ (k .0), omega (arith, k .1)),
         )
 
     -- the count: four for each frequent prefix shorter than a motif

@@ -69,7 +69,7 @@ parts-some t sound (suc j) m l = go (t .count) (sound .some)
 
 -- an occurrence of one part
 occurs-one : (c : Part) (s : List ℕ) (p : ℕ) → Found c s p → Occurs (c ∷ []) s (p ∷ [])
-occurs-one c s p h = record { one-each = refl; standing = standing; following = λ i l. absurd (omega arith) }
+occurs-one c s p h = record { one-each = refl; standing = standing; gaps = λ i l. absurd (omega arith) }
   where
     standing : (i : ℕ) → i < 1 → Found (nth (c ∷ []) i) s (getD (p ∷ []) i 0)
     standing zero l = h
@@ -78,19 +78,19 @@ occurs-one c s p h = record { one-each = refl; standing = standing; following = 
 module _ (c d : Part) (ds : List Part) (s : List ℕ) (p q : ℕ) (qs : List ℕ) where
   -- an occurrence of the later parts that a part stands before
   occurs-more : Found c s p → Follows (d .near) (d .far) p q → Occurs (d ∷ ds) s (q ∷ qs) → Occurs (c ∷ d ∷ ds) s (p ∷ q ∷ qs)
-  occurs-more h g o = record { one-each = ap suc (o .one-each); standing = standing; following = following }
+  occurs-more h g o = record { one-each = ap suc (o .one-each); standing = standing; gaps = gaps }
     where
       standing : (i : ℕ) → i < length (c ∷ d ∷ ds) → Found (nth (c ∷ d ∷ ds) i) s (getD (p ∷ q ∷ qs) i 0)
       standing zero l = h
       standing (suc i) l = o .standing i (omega arith)
 
-      following : (i : ℕ) → suc i < length (c ∷ d ∷ ds) → Follows (nth (d ∷ ds) i .near) (nth (d ∷ ds) i .far) (getD (p ∷ q ∷ qs) i 0) (getD (q ∷ qs) i 0)
-      following zero l = g
-      following (suc i) l = o .following i (omega arith)
+      gaps : (i : ℕ) → suc i < length (c ∷ d ∷ ds) → Follows (nth (d ∷ ds) i .near) (nth (d ∷ ds) i .far) (getD (p ∷ q ∷ qs) i 0) (getD (q ∷ qs) i 0)
+      gaps zero l = g
+      gaps (suc i) l = o .gaps i (omega arith)
 
   -- and back: what is left of an occurrence without its first part
   occurs-rest : Occurs (c ∷ d ∷ ds) s (p ∷ q ∷ qs) → Occurs (d ∷ ds) s (q ∷ qs)
-  occurs-rest o = record { one-each = omega (arith, o .one-each); standing = λ i l. o .standing (suc i) (omega arith); following = λ i l. o .following (suc i) (omega arith) }
+  occurs-rest o = record { one-each = omega (arith, o .one-each); standing = λ i l. o .standing (suc i) (omega arith); gaps = λ i l. o .gaps (suc i) (omega arith) }
 
 -- each tuple under a first start begins with it
 pub starts-lead : (cs : List Part) (s : List ℕ) (p : ℕ) (ps : List ℕ) → List·Memᴰ ps (starts cs s p) → (rest : List ℕ) × (ps ≡ p ∷ rest)
@@ -142,7 +142,7 @@ starts-all (c ∷ d ∷ ds) s p (q ∷ qs) w o =
     rw (found-is c s p (w 0 (omega arith)) .1 (o .standing 0 (omega arith)))
     (Memᴰ·map (λ t. p ∷ t)
     (each-in (starts (d ∷ ds) s) (reach (d .near) (d .far) p)
-    (reach-is (d .near) (d .far) p q .1 (o .following 0 (omega arith)))
+    (reach-is (d .near) (d .far) p q .1 (o .gaps 0 (omega arith)))
     (starts-all (d ∷ ds) s q qs (λ i l. w (suc i) (omega arith)) (occurs-rest c d ds s p q qs o))))
 
 module _ (cs : List Part) (s : List ℕ) (worded : Worded cs) where

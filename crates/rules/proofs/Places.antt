@@ -17,8 +17,7 @@ use Rattle.rules.specs.Sequences.{sequences}
 use Rattle.rules.specs.Sound.{SoundTemplate}
 use Rattle.rules.specs.Support.{allowed-in}
 use Rattle.rules.specs.Template.{size}
-use Rattle.rules.specs.Walk.{place, ended-place, walk-in, walk-over, candidate}
-pub use Rattle.rules.specs.Walk.{walk-of}
+use Rattle.rules.specs.Walk.{place, ended-place, walk-in, walk-over, walk-of, candidate}
 use Rattle.rules.specs.declared.Place.{Place}
 use Rattle.rules.specs.declared.Search.{Search}
 use Rattle.rules.specs.declared.Template.{Template}

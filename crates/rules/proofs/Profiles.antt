@@ -90,7 +90,7 @@ module _ (P : Profile) (proper : Proper P) where
       -- EVERY PROFILE walks lawfully
       pub lawful-in : SoundTemplate t → Lawful (walk-in P t quorum ss)
       unfolding walk-in reaches
-      lawful-in o = record { pos = proper .pos; deep = size-some t o; first = first-may; root = refl; anti = good-anti o }
+      lawful-in o = record { pos = proper .pos; lettered = size-some t o; first = first-may; root = refl; anti = good-anti o }
 
       -- and a prefix whose last letter may follow is one whose letters all may
       pub spelled-in : (j m : ℕ) → spelled (walk-in P t quorum ss) (suc j) m ≡ allowed-in P t (suc j) m

@@ -14,11 +14,11 @@ use Rattle.rules.proofs.Legs.{Ample, ended-all, legs-end, start-size}
 module _ (W : Walk) (L : Lawful W) where
   -- T5: legs that answer `ended` list exactly the good motifs, in as many steps as there are candidates
   pub all-listed : (gs : List Grant) → (legs W gs (start W)) .stop ≡ ended → (legs W gs (start W)) .motifs ≡ motifs W
-  all-listed gs e = ended-all W (L .pos) gs (start W) (start-size W (L .deep)) e .0 ∙ lists W L
+  all-listed gs e = ended-all W (L .pos) gs (start W) (start-size W (L .lettered)) e .0 ∙ lists W L
 
   pub all-tried : (gs : List Grant) → (legs W gs (start W)) .stop ≡ ended → (legs W gs (start W)) .steps ≡ tries W (W .depth)
-  all-tried gs e = ended-all W (L .pos) gs (start W) (start-size W (L .deep)) e .1 ∙ tried W L
+  all-tried gs e = ended-all W (L .pos) gs (start W) (start-size W (L .lettered)) e .1 ∙ tried W L
 
   -- and they do, if each has a budget and room and there are as many legs as candidates
   pub legs-enough : (gs : List Grant) → Ample gs → tries W (W .depth) ≤ length gs → (legs W gs (start W)) .stop ≡ ended
-  legs-enough gs a h = legs-end W (L .pos) gs (start W) a (omega (arith, ap (λ (p : Place). p .letters) (start-first W L))) (start-size W (L .deep)) (omega (arith, tried W L))
+  legs-enough gs a h = legs-end W (L .pos) gs (start W) a (omega (arith, ap (λ (p : Place). p .letters) (start-first W L))) (start-size W (L .lettered)) (omega (arith, tried W L))

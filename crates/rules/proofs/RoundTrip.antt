@@ -52,7 +52,7 @@ sound-fits letters lengths s set t n m q rule =
     let b : ℕ = base-of (s .template) in
     let x : s .place .number < b ^ s .place .letters = ltb-true (s .place .number) (b ^ s .place .letters) (both (ltb (s .place .number) (b ^ s .place .letters)) _ .0 (p .1) .0) in
     let proper = profile-proper (s .template) in
-    let k : s .place .letters ≤ profile-of (s .template) .most = let e = leb-true (s .place .letters) (size (s .template)) (p .0) in omega (arith, t .fits) in
+    let k : s .place .letters ≤ profile-of (s .template) .most = let e = leb-true (s .place .letters) (size (s .template)) (p .0) in omega (arith, t .short) in
     let y : b ^ s .place .letters ≤ 256 ^ 8 = le-trans (pow-le-pow-right {n = b} (proper .pos) k) (proper .wide) in
     record {
       count = t .few;

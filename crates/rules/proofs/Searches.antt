@@ -3,17 +3,17 @@ use mathlib.Core.Path.{_≡_}
 use mathlib.Core.Logic.{_↔_}
 use mathlib.Core.Bool.{true}
 use mathlib.Core.List.{List, List·Memᴰ}
-use Prim.Native.Nat.{ℕ, _≤_, _<_, _^_}
+use Prim.Native.Nat.{ℕ, _≤_}
 use Rattle.rules.specs.Order.{Rising}
-use Rattle.rules.specs.Profile.{Proper, profile-of, base-of}
+use Rattle.rules.specs.Profile.{Proper, profile-of}
 use Rattle.rules.specs.Relay.{frequent-motifs}
 use Rattle.rules.specs.Sound.{SoundTemplate}
-use Rattle.rules.specs.Support.{counted, permitted, parts}
+use Rattle.rules.specs.Support.{counted, valid, parts}
 use Rattle.rules.specs.Template.{size}
 use Rattle.rules.specs.Walk.{walk-in, Lawful, walk-over}
 use Rattle.rules.specs.declared.Template.{Template}
 use Rattle.rules.proofs.Profiles.{exactly-proper, lawful-in}
-use Rattle.rules.proofs.WalkDemands.{motifs-rise, profile-list}
+use Rattle.rules.proofs.WalkDemands.{motifs-rise, profile-demands}
 
 -- THE PROFILE of every template is proper
 pub profile-proper : (t : Template) → Proper (profile-of t)
@@ -34,8 +34,8 @@ module _ (t : Template) (quorum : ℕ) (ss : List (List ℕ)) where
     pub walk-lawful : Lawful (walk-over t quorum ss)
     walk-lawful = lawful-in (profile-of t) (profile-proper t) t quorum ss sound
 
-    -- and holds the motifs whose letters are allowed and of which enough is counted
+    -- and holds exactly the motifs of which enough is counted
     pub list-holds : (m : ℕ) → List·Memᴰ m (frequent-motifs t quorum ss)
-        ↔ ((m < base-of t ^ size t) × (permitted t (size t) m ≡ true) × (quorum ≤ counted (profile-of t .basis) (parts t (size t) m) ss))
+        ↔ ((valid t (size t) m ≡ true) × (quorum ≤ counted (profile-of t .basis) (parts t (size t) m) ss))
     unfolding frequent-motifs
-    list-holds = profile-list (profile-of t) (profile-proper t) t sound quorum ss
+    list-holds = profile-demands (profile-of t) (profile-proper t) t sound quorum ss .list

@@ -56,11 +56,11 @@ occurs-exactly cs w s ps = (
   λ o. record {
     one-each = o .one-each;
     standing = λ i l. cut-stands 0 cs w s i _ l .0 (o .standing i l);
-    gaps = λ i l. follows-gap _ 0 cs w i _ _ l .0 (o .following i l);
+    gaps = λ i l. follows-gap _ 0 cs w i _ _ l .0 (o .gaps i l);
   },
   λ o. record {
     one-each = o .one-each;
     standing = λ i l. cut-stands 0 cs w s i _ l .1 (o .standing i l);
-    following = λ i l. follows-gap _ 0 cs w i _ _ l .1 (o .gaps i l);
+    gaps = λ i l. follows-gap _ 0 cs w i _ _ l .1 (o .gaps i l);
   },
 )

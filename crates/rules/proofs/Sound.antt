@@ -3,18 +3,17 @@
 use mathlib.Core.Path.{_≡_, refl}
 use mathlib.Core.Bool.{true}
 use mathlib.Core.List.{List, [], _∷_}
-use Prim.Native.Nat.{ℕ, _^_, _≤_, _<_}
+use Prim.Native.Nat.{ℕ, _≤_}
 use native.Mathlib.Omega.{arith}
 use lib.ListN.{length}
 use Rattle.rules.specs.Join.{rising?}
 use Rattle.rules.specs.Limits.{Template-LENGTH, Template-GAP}
-use Rattle.rules.specs.Profile.{base-of}
 use Rattle.rules.specs.Recovery.{whole-list}
 use Rattle.rules.specs.Refusals.{first, check5, check6, check7, check8, check9, check10, check11, check11-place, passes?, check14, check15, check17, set-checks, value-checks, new-checks, restore-checks, search-checks, save-checks, recover-checks, join-checks}
 use Rattle.rules.specs.Saved.{bytes, sized?, laid-out?, place-rule?, read-search}
 use Rattle.rules.specs.Sequences.{sequences}
 use Rattle.rules.specs.Sound.{SoundSet, SoundTemplate}
-use Rattle.rules.specs.Support.{permitted}
+use Rattle.rules.specs.Support.{valid}
 use Rattle.rules.specs.Template.{size}
 use Rattle.rules.specs.Told.{Verdict, fine}
 use Rattle.rules.specs.declared.Search.{Search}
@@ -57,7 +56,7 @@ module _ (t : Template) where
         some = n .0;
         few = n .1;
         deep = omega (arith, check7-fine t .0 e7, profile-proper t .short);
-        fits = check7-fine t .0 e7;
+        short = check7-fine t .0 e7;
         each = λ i h. record { some = l i h .0; short = l i h .1; ordered = g i h .0; near = g i h .1 };
         low = z .0;
         high = z .1;
@@ -71,7 +70,7 @@ module _ (t : Template) where
     fine6 = check6-fine t (s .few) .1 (λ i h. (s .each i h .some, s .each i h .short))
 
     fine7 : check7 t ≡ fine
-    fine7 = check7-fine t .1 (s .fits)
+    fine7 = check7-fine t .1 (s .short)
 
     fine8 : check8 t ≡ fine
     fine8 = check8-fine t (s .few) .1 (λ i h. (s .each i h .ordered, s .each i h .near, λ q. rw q (s .low, s .high)))
@@ -113,8 +112,7 @@ pub record SoundBytes (letters lengths bs : List ℕ) : Type 0 where
 pub record SoundRecovery (letters lengths : List ℕ) (t : Template) (m f : ℕ) : Type 0 where
   pub set : SoundSet letters lengths
   pub template : SoundTemplate t
-  pub motif : m < base-of t ^ size t
-  pub spelt : permitted t (size t) m ≡ true
+  pub motif : valid t (size t) m ≡ true
   pub row : f ≤ length (whole-list t (sequences letters lengths) m)
 
 -- what a join passes
@@ -247,8 +245,7 @@ module _ (letters lengths : List ℕ) where
         record {
           set = set-sound letters lengths (h .0);
           template = from-checks t (c 0) (c 1) (c 2) (c 3);
-          motif = check14-fine t m .0 (c 4) .0;
-          spelt = check14-fine t m .0 (c 4) .1;
+          motif = check14-fine t m .0 (c 4);
           row = check15-fine letters lengths t m f .0 (c 5);
         }
 
@@ -258,7 +255,7 @@ module _ (letters lengths : List ℕ) where
         let k = s .template in
         first-both (set-checks letters lengths) recover-rest .1 (
           set-fine letters lengths (s .set),
-          all-fine recover-rest (fine5 t k, (fine6 t k, (fine7 t k, (fine8 t k, (check14-fine t m .1 (s .motif, s .spelt), (check15-fine letters lengths t m f .1 (s .row), tt)))))),
+          all-fine recover-rest (fine5 t k, (fine6 t k, (fine7 t k, (fine8 t k, (check14-fine t m .1 (s .motif), (check15-fine letters lengths t m f .1 (s .row), tt)))))),
         )
 
 module _ (xs ys : List ℕ) (head low high : ℕ) (out : List ℕ) where

@@ -52,7 +52,7 @@ module _ (letters lengths : List ℕ) (t : Template) (quorum : ℕ) (s : Search)
   steps-so-far gs h =
       let W : Walk = walk-over t quorum (sequences letters lengths) in
       let L = walk-lawful t quorum (sequences letters lengths) (b .template) in
-      let r = passed-most W first-place (legs W (map granted gs) first-place) (legs-law W (L .pos) (map granted gs) first-place (L .deep)) in
+      let r = passed-most W first-place (legs W (map granted gs) first-place) (legs-law W (L .pos) (map granted gs) first-place (L .lettered)) in
       rw (relay-legs letters lengths gs s (b .sound) (b .trim) h, b .walk, b .at)
       (omega (arith, r, from-first t quorum (sequences letters lengths) (b .template)))
 

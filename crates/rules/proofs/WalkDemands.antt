@@ -6,12 +6,13 @@ use mathlib.Core.List.{List, List·Memᴰ}
 use Prim.Native.Nat.{ℕ, zero, suc, _≤_, _<_, _^_}
 use native.Mathlib.Omega.{arith}
 use lib.ListN.{length}
-use borrow.Author.Tests.{leb-true, le-leb}
+use lib.Dec.{ltb}
+use borrow.Author.Tests.{leb-true, le-leb, ltb-true, lt-ltb}
 use Rattle.rules.specs.Legs.{ended, Grant, leg, legs}
 use Rattle.rules.specs.Order.{Rising}
 use Rattle.rules.specs.Profile.{Profile, Proper, exactly, mixed, repeated, substituted}
 use Rattle.rules.specs.Sound.{SoundTemplate}
-use Rattle.rules.specs.Support.{counted, allowed-in, parts-in}
+use Rattle.rules.specs.Support.{counted, allowed-in, valid-in, parts-in}
 use Rattle.rules.specs.Template.{size}
 use Rattle.rules.specs.Walk.{walk-in, Walk, Lawful, ended-place, from, start, listed, spelled, motifs, tries}
 use Rattle.rules.specs.declared.Component.{Component}
@@ -70,30 +71,34 @@ walk-demands W L =
 
 -- ---- every kind of search
 
-module _ (P : Profile) (proper : Proper P) (t : Template) (sound : SoundTemplate t) (quorum : ℕ) (ss : List (List ℕ)) where
-  pub profile-demands : WalkDemands (walk-in P t quorum ss)
-  profile-demands = walk-demands (walk-in P t quorum ss) (lawful-in P proper t quorum ss sound)
+-- what is asked of a search of a profile: of its walk; and its list holds exactly the motifs, by their numbers, of which as much is
+-- counted as the quorum asks
+pub record ProfileDemands (P : Profile) (t : Template) (quorum : ℕ) (ss : List (List ℕ)) : Type 0 where
+  pub walk : WalkDemands (walk-in P t quorum ss)
+  pub list : (m : ℕ) → List·Memᴰ m (motifs (walk-in P t quorum ss)) ↔ ((valid-in P t (size t) m ≡ true) × (quorum ≤ counted (P .basis) (parts-in P t (size t) m) ss))
 
+module _ (P : Profile) (proper : Proper P) (t : Template) (sound : SoundTemplate t) (quorum : ℕ) (ss : List (List ℕ)) where
   -- a whole motif is spelled if its letters are allowed
   spelled-whole : (k m : ℕ) → 1 ≤ k → spelled (walk-in P t quorum ss) k m ≡ allowed-in P t k m
   spelled-whole zero m h = absurd (omega arith)
   spelled-whole (suc k) m h = spelled-in P proper t quorum ss k m
 
-  -- its list: the motifs whose letters are allowed and of which enough is counted
-  pub profile-list : (m : ℕ) → List·Memᴰ m (motifs (walk-in P t quorum ss))
-      ↔ ((m < P .base ^ size t) × (allowed-in P t (size t) m ≡ true) × (quorum ≤ counted (P .basis) (parts-in P t (size t) m) ss))
+  profile-list : (m : ℕ) → List·Memᴰ m (motifs (walk-in P t quorum ss)) ↔ ((valid-in P t (size t) m ≡ true) × (quorum ≤ counted (P .basis) (parts-in P t (size t) m) ss))
   unfolding walk-in
   profile-list m =
       let is = motifs-are (walk-in P t quorum ss) m in
       let s = spelled-whole (size t) m (size-some t sound) in
       let g = good-whole P t sound quorum ss m in (
-        λ h. let o = is .0 h in (o .0, rw s at (o .1), leb-true quorum _ (rw g at (o .2))),
-        λ h. is .1 (h .0, rw s (h .1), rw g (le-leb quorum _ (h .2))),
+        λ h. let o = is .0 h in (both _ _ .1 (lt-ltb m _ (o .0), rw s at (o .1)), leb-true quorum _ (rw g at (o .2))),
+        λ h. let v = both (ltb m (P .base ^ size t)) _ .0 (h .0) in is .1 (ltb-true m _ (v .0), rw s (v .1), rw g (le-leb quorum _ (h .1))),
       )
+
+  pub profile-demands : ProfileDemands P t quorum ss
+  profile-demands = record { walk = walk-demands (walk-in P t quorum ss) (lawful-in P proper t quorum ss sound); list = profile-list }
 
 -- exact, mixed letters, repeats, substitutions
 pub each-kind : (f : Component → ℕ) (t : Template) → SoundTemplate t → (quorum : ℕ) (ss : List (List ℕ))
-    → WalkDemands (walk-in exactly t quorum ss) × WalkDemands (walk-in (mixed f) t quorum ss) × WalkDemands (walk-in repeated t quorum ss) × WalkDemands (walk-in (substituted f) t quorum ss)
+    → ProfileDemands exactly t quorum ss × ProfileDemands (mixed f) t quorum ss × ProfileDemands repeated t quorum ss × ProfileDemands (substituted f) t quorum ss
 each-kind f t o quorum ss = (
   profile-demands exactly exactly-proper t o quorum ss,
   profile-demands (mixed f) (mixed-proper f) t o quorum ss,

@@ -124,9 +124,9 @@ module _ (W : Walk) where
     -- T2: the search lists exactly the good motifs
     pub lists : listed W (from W (start W)) ≡ motifs W
     unfolding motifs motif
-    lists = sym (listed-skip (place 0 0) (from W (start W)) (rw (ne-eqb 0 depth (omega (arith, L .deep))))) ∙ (rw (whole W (L .pos) (L .deep) (L .root)) at (listed-under depth 0 0 (omega arith)))
+    lists = sym (listed-skip (place 0 0) (from W (start W)) (rw (ne-eqb 0 depth (omega (arith, L .lettered))))) ∙ (rw (whole W (L .pos) (L .lettered) (L .root)) at (listed-under depth 0 0 (omega arith)))
         ∙ ap (keep (good depth)) (words-spelled depth) ∙ keep-keep (good depth) (spelled W depth) (run 0 (base ^ depth))
 
     -- T3: it tries each candidate once
     pub tried : length (from W (start W)) ≡ tries W depth
-    tried = omega (arith, ap length (whole W (L .pos) (L .deep) (L .root)), tries-under depth)
+    tried = omega (arith, ap length (whole W (L .pos) (L .lettered) (L .root)), tries-under depth)

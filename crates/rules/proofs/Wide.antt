@@ -1,6 +1,6 @@
 -- At 32 letters every 64-bit number is a motif of an exact search, and each keeps the place rule there: 4 to the power of 32 is 2
 -- to the power of 64, which no 64-bit number reaches.
-use mathlib.Core.Path.{_≡_}
+use mathlib.Core.Path.{_≡_, _∙_}
 use mathlib.Core.Bool.{true}
 use Prim.Native.Nat.{ℕ, _^_, _<_}
 use native.Mathlib.Omega.{arith}
@@ -14,7 +14,7 @@ use Rattle.rules.specs.Told.{fine}
 use Rattle.rules.specs.Walk.{place}
 use Rattle.rules.specs.declared.Template.{Template}
 use Rattle.rules.proofs.EachCheck.{check14-fine}
-use Rattle.rules.proofs.Exact.{exact-base, exact-permitted, exact-place}
+use Rattle.rules.proofs.Exact.{exact-valid, exact-place}
 use Rattle.rules.proofs.Tests.{both}
 
 module _ (t : Template) (x : profile-of t ≡ exactly) (m : ℕ) (e : size t ≡ 32) (h : m < 2 ^ 64) where
@@ -24,4 +24,4 @@ module _ (t : Template) (x : profile-of t ≡ exactly) (m : ℕ) (e : size t ≡
 
   -- as a motif it is not refused
   pub wide-motif : check14 t m ≡ fine
-  wide-motif = check14-fine t m .1 (rw (e, exact-base t x) (omega arith), exact-permitted t x (size t) m)
+  wide-motif = check14-fine t m .1 (exact-valid t x (size t) m ∙ lt-ltb m _ (rw e (omega arith)))

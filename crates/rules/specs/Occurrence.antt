@@ -6,7 +6,7 @@ use Prim.Native.Nat.{ℕ, zero, suc, _+_, _-_, _≤_, _<_}
 use lib.Dec.{eqb}
 use lib.ListN.{length, drop, getD}
 use Rattle.rules.specs.Lists.{run, if, each, sum}
-use Rattle.rules.specs.Template.{Part, part, none, cut}
+use Rattle.rules.specs.Template.{Part, part, none, span, cut}
 use Rattle.rules.specs.declared.Component.{Component}
 
 -- one of k less: with none left a, and else what g makes of the others
@@ -38,7 +38,7 @@ found c s p = stands-by (c .fits) (c .slack) (c .word) s p
 
 -- where the next part may start if one starts at p: near to far positions on
 unfoldable pub reach : ℕ → ℕ → ℕ → List ℕ
-reach near far p = run (p + near) (far + 1 - near)
+reach near far p = run (p + near) (span near far)
 
 -- THE LIST. The occurrences of the parts whose first start is p: all later starts under it, rising
 unfoldable pub starts : List Part → List ℕ → ℕ → List (List ℕ)
@@ -87,7 +87,7 @@ nth cs i = getD cs i (part 0 0 [])
 pub record Occurs (cs : List Part) (s ps : List ℕ) : Type 0 where
   pub one-each : length ps ≡ length cs
   pub standing : (i : ℕ) → i < length cs → Found (nth cs i) s (getD ps i 0)
-  pub following : (i : ℕ) → suc i < length cs → Follows (nth cs (suc i) .near) (nth cs (suc i) .far) (getD ps i 0) (getD ps (suc i) 0)
+  pub gaps : (i : ℕ) → suc i < length cs → Follows (nth cs (suc i) .near) (nth cs (suc i) .far) (getD ps i 0) (getD ps (suc i) 0)
 
 -- THE PAPER'S OWN SENTENCE, where letters are read exactly. The letters w stand in s at position p: each is the one there
 pub record Stands (w s : List ℕ) (p : ℕ) : Type 0 where

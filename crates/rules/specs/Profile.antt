@@ -3,13 +3,13 @@
 use mathlib.Core.Bool.{Bool, true, _&&_}
 use mathlib.Core.List.{List, [], _∷_, _++_}
 use mathlib.Core.Path.{_≡_}
-use Prim.Native.Nat.{ℕ, _+_, _-_, _*_, _^_, _≤_}
+use Prim.Native.Nat.{ℕ, _*_, _^_, _≤_}
 use lib.Dec.{leb, ltb, eqb}
 use lib.ListN.{length, take, drop, getD}
 use Rattle.rules.specs.Letters.{A, C, G, T}
 use Rattle.rules.specs.Limits.{Letter-BASES, Letter-SYMBOLS, Letter-DIGITS, Template-LETTERS, Template-MIXED}
 use Rattle.rules.specs.Lists.{keep, all?, member?}
-use Rattle.rules.specs.Template.{Reading, literal}
+use Rattle.rules.specs.Template.{Reading, literal, span}
 use Rattle.rules.specs.declared.Component.{Component}
 use Rattle.rules.specs.declared.Template.{Template}
 
@@ -37,7 +37,7 @@ allowed f (c ∷ cs) (x ∷ w) = f c (take (c .length) (x ∷ w)) && allowed f c
 -- the spans of the gaps still to come after the letters w, multiplied. That of the first component's range, 0 to 0, is 1
 unfoldable pub to-come : List Component → List ℕ → ℕ
 to-come [] w = 1
-to-come (c ∷ cs) [] = (c .high + 1 - c .low) * to-come cs []
+to-come (c ∷ cs) [] = span (c .low) (c .high) * to-come cs []
 to-come (c ∷ cs) (x ∷ w) = to-come cs (drop (c .length) (x ∷ w))
 
 -- what the laws ask of a profile
@@ -86,10 +86,10 @@ several w = length (keep (leb Letter-BASES) w)
 
 -- fourteen letters, of which a component may have so many that do
 unfoldable pub within : (Component → ℕ) → Component → List ℕ → Bool
-within most c w = all? (λ x. ltb x Letter-SYMBOLS) w && leb (several w) (most c)
+within allowance c w = all? (λ x. ltb x Letter-SYMBOLS) w && leb (several w) (allowance c)
 
 unfoldable pub mixed : (Component → ℕ) → Profile
-mixed most = record { base = Letter-DIGITS; most = Template-MIXED; reading = record { fits = stands-for; slack = λ c. 0 }; allows = within most; basis = by-sequence }
+mixed allowance = record { base = Letter-DIGITS; most = Template-MIXED; reading = record { fits = stands-for; slack = λ c. 0 }; allows = within allowance; basis = by-sequence }
 
 -- THE PROFILE of a template: the one place that says which kind of search it asks for
 unfoldable pub profile-of : Template → Profile

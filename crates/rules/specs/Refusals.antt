@@ -1,18 +1,18 @@
 -- What each call refuses: its checks in the paper's order, of which the first that applies is given.
 use mathlib.Core.Bool.{Bool, _&&_, _||_, not}
 use mathlib.Core.List.{List, [], _∷_, _++_}
-use Prim.Native.Nat.{ℕ, suc, _^_}
-use lib.Dec.{leb, ltb, eqb}
+use Prim.Native.Nat.{ℕ, suc}
+use lib.Dec.{ltb, eqb}
 use lib.ListN.{length}
 use Rattle.rules.specs.Join.{rising?}
 use Rattle.rules.specs.Letters.{letter?}
 use Rattle.rules.specs.Limits.{Template-COMPONENTS, Template-LENGTH, Template-GAP, SequenceSet-SEQUENCES, SequenceSet-LETTERS}
 use Rattle.rules.specs.Lists.{if, sum}
-use Rattle.rules.specs.Profile.{profile-of, base-of}
+use Rattle.rules.specs.Profile.{profile-of}
 use Rattle.rules.specs.Recovery.{whole-list}
 use Rattle.rules.specs.Saved.{bytes, sized?, laid-out?, place-rule?, read-search}
 use Rattle.rules.specs.Sequences.{sequences}
-use Rattle.rules.specs.Support.{permitted}
+use Rattle.rules.specs.Support.{valid}
 use Rattle.rules.specs.Template.{components, size}
 use Rattle.rules.specs.Told.{Verdict, fine, refused}
 use Rattle.rules.specs.Walk.{walk-of, candidate}
@@ -112,7 +112,7 @@ check13 letters lengths s = refuse-if (not (passes? letters lengths s)) 13
 
 -- a recovery:
 unfoldable pub check14 : Template → ℕ → Verdict
-check14 t m = refuse-if (leb (base-of t ^ size t) m || not (permitted t (size t) m)) 14
+check14 t m = refuse-if (not (valid t (size t) m)) 14
 
 unfoldable pub check15 : List ℕ → List ℕ → Template → ℕ → ℕ → Verdict
 check15 letters lengths t m f = refuse-if (ltb (length (whole-list t (sequences letters lengths) m)) f) 15

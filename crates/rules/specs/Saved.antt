@@ -2,13 +2,12 @@
 -- are well formed, field by field.
 use mathlib.Core.Bool.{Bool, true, _&&_}
 use mathlib.Core.List.{List, [], _∷_, _++_}
-use Prim.Native.Nat.{ℕ, zero, suc, _+_, _-_, _*_, _/_, _%_, _^_}
-use lib.Dec.{eqb, leb, ltb}
+use Prim.Native.Nat.{ℕ, zero, suc, _+_, _-_, _*_, _/_, _%_}
+use lib.Dec.{eqb, leb}
 use lib.ListN.{length, take, drop, getD, replicate}
 use Rattle.rules.specs.Limits.{Record-BYTES, Record-SIZE, Record-COMPONENT, Record-PLACE, Record-EXTRA}
 use Rattle.rules.specs.Lists.{all?, joined}
-use Rattle.rules.specs.Profile.{base-of}
-use Rattle.rules.specs.Support.{permitted}
+use Rattle.rules.specs.Support.{valid}
 use Rattle.rules.specs.Template.{component, components, kept, size}
 use Rattle.rules.specs.Walk.{place}
 use Rattle.rules.specs.declared.Component.{Component}
@@ -115,9 +114,9 @@ unfoldable pub component-records? : List ℕ → ℕ → ℕ → Bool
 component-records? bs i zero = true
 component-records? bs i (suc n) = component-record? i (record-at bs i) && component-records? bs (suc i) n
 
--- the place rule: a place is 0 to K, the number lies below the base (4) to the power of the place, and its letters are allowed
+-- the place rule: a place is 0 to K, and the number lies below 4 (the base) to the power of the place, of letters that are allowed
 unfoldable pub place-rule? : Template → Place → Bool
-place-rule? t p = leb (p .letters) (size t) && (ltb (p .number) (base-of t ^ p .letters) && permitted t (p .letters) (p .number))
+place-rule? t p = leb (p .letters) (size t) && valid t (p .letters) (p .number)
 
 -- every record keeps its layout, K is the sum of the lengths, and the place keeps its rule
 unfoldable pub laid-out? : List ℕ → Bool

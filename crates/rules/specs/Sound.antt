@@ -32,8 +32,9 @@ pub record SoundComponent (c : Component) : Type 0 where
 pub record SoundTemplate (t : Template) : Type 0 where
   pub some : 1 ≤ t .count
   pub few : t .count ≤ Template-COMPONENTS
+  -- K is no more than a template may have, and than its kind of search takes
   pub deep : size t ≤ Template-LETTERS
-  pub fits : size t ≤ profile-of t .most
+  pub short : size t ≤ profile-of t .most
   pub each : (i : ℕ) → i < t .count → SoundComponent (getD (slots t) i none)
   pub low : t .c1 .low ≡ 0
   pub high : t .c1 .high ≡ 0

@@ -1,8 +1,8 @@
 -- What a set of sequences says of a motif: its support, its weighted support, and the whole list of its occurrences.
-use mathlib.Core.Bool.{Bool, true}
+use mathlib.Core.Bool.{Bool, true, _&&_}
 use mathlib.Core.List.{List, [], _∷_, _++_, map}
-use Prim.Native.Nat.{ℕ, zero, suc, _*_}
-use lib.Dec.{leb}
+use Prim.Native.Nat.{ℕ, zero, suc, _*_, _^_}
+use lib.Dec.{leb, ltb}
 use lib.ListN.{length}
 use Rattle.rules.specs.Lists.{run, keep, some?, sum}
 use Rattle.rules.specs.Motif.{spell}
@@ -41,7 +41,7 @@ abbrev pub counted : Basis → List Part → List (List ℕ) → ℕ
 counted by-sequence cs ss = support cs ss
 counted by-occurrence cs ss = length (occurrence-rows cs ss)
 
--- what a prefix may come to if the gaps still to come have n spans: a sequence is one still, an occurrence may go on in n ways
+-- what a prefix may come to if the gaps still to come can be kept in n ways: a sequence is one still, an occurrence goes on in n
 abbrev pub counted-with : Basis → List Part → ℕ → List (List ℕ) → ℕ
 counted-with by-sequence cs n ss = counted by-sequence cs ss
 counted-with by-occurrence cs n ss = counted by-occurrence cs ss * n
@@ -51,6 +51,10 @@ module _ (P : Profile) (t : Template) where
   -- the letters of a motif, or of a prefix of j letters, with the number m are allowed
   unfoldable pub allowed-in : ℕ → ℕ → Bool
   allowed-in j m = allowed (P .allows) (components t) (spell (P .base) j m)
+
+  -- m is the number of j such letters
+  abbrev pub valid-in : ℕ → ℕ → Bool
+  valid-in j m = ltb m (P .base ^ j) && allowed-in j m
 
   -- its parts
   unfoldable pub parts-in : ℕ → ℕ → List Part
@@ -66,8 +70,8 @@ reaches f quorum zero m = true
 reaches f quorum (suc j) m = leb quorum (f (suc j) m)
 
 -- the same of a template, by the profile that it asks for
-abbrev pub permitted : Template → ℕ → ℕ → Bool
-permitted t j m = allowed-in (profile-of t) t j m
+abbrev pub valid : Template → ℕ → ℕ → Bool
+valid t j m = valid-in (profile-of t) t j m
 
 abbrev pub parts : Template → ℕ → ℕ → List Part
 parts t j m = parts-in (profile-of t) t j m

@@ -1,7 +1,7 @@
 -- Templates: their components, K, and the parts that a prefix of a motif has under one.
 use mathlib.Core.Bool.{Bool}
 use mathlib.Core.List.{List, [], _∷_, map}
-use Prim.Native.Nat.{ℕ, _+_}
+use Prim.Native.Nat.{ℕ, _+_, _-_}
 use lib.Dec.{leb, eqb}
 use lib.ListN.{length, take, drop}
 use Rattle.rules.specs.Lists.{if, sum}
@@ -59,9 +59,17 @@ pub record Reading : Type 0 where
 abbrev pub literal : Reading
 literal = record { fits = eqb; slack = λ c. 0 }
 
--- a component's part with the letters w: it starts after the n letters of the one before and a gap of its range
+-- how far one start lies from the next, over n letters and a gap
+abbrev pub distance : ℕ → ℕ → ℕ
+distance n gap = n + gap
+
+-- how many positions the range from low to high has
+abbrev pub span : ℕ → ℕ → ℕ
+span low high = high + 1 - low
+
+-- a component's part with the letters w, after a component of n letters
 abbrev pub part-of : Reading → ℕ → Component → List ℕ → Part
-part-of R n c w = record { near = n + c .low; far = n + c .high; word = w; fits = R .fits; slack = R .slack c }
+part-of R n c w = record { near = distance n (c .low); far = distance n (c .high); word = w; fits = R .fits; slack = R .slack c }
 
 -- a part that is read exactly
 abbrev pub part : ℕ → ℕ → List ℕ → Part

@@ -52,7 +52,7 @@ walk-of letters lengths s = walk-over (s .template) (s .quorum) (sequences lette
 -- prefix of a good one
 pub record Lawful (W : Walk) : Type 0 where
   pub pos : 1 ≤ W .base
-  pub deep : 1 ≤ W .depth
+  pub lettered : 1 ≤ W .depth
   pub first : W .may 1 0 ≡ true
   pub root : W .good 0 0 ≡ true
   pub anti : (j m : ℕ) → W .good (suc j) m ≡ true → W .good j (m / W .base) ≡ true

@@ -16,15 +16,15 @@ use Rattle.rules.specs.Sequences.{sequences}
 use Rattle.rules.specs.Support.{support, weight, frequent, parts}
 use Rattle.rules.specs.Template.{size}
 use Rattle.rules.specs.Told.{gives, toldAnswer, toldLeg}
-use Rattle.rules.specs.Walk.{walk-in, Walk, place, next, motif}
+use Rattle.rules.specs.Walk.{walk-in, Walk, place, next, motif, walk-of}
 use Rattle.rules.specs.declared.Leg.{Leg}
 use Rattle.rules.specs.declared.LegAnswer.{LegAnswer}
 use Rattle.rules.specs.declared.Place.{Place}
 use Rattle.rules.specs.declared.Search.{Search}
 use Rattle.rules.proofs.Candidates.{Candidate}
-use Rattle.rules.proofs.Exact.{exact-search, exact-base, exact-permitted, exact-frequent}
+use Rattle.rules.proofs.Exact.{exact-search, exact-base, exact-allowed, exact-frequent}
 use Rattle.rules.proofs.Passing.{Passing, passing-next}
-use Rattle.rules.proofs.Places.{walk-of, sound-passing}
+use Rattle.rules.proofs.Places.{sound-passing}
 use Rattle.rules.proofs.Searches.{walk-lawful}
 use Rattle.rules.proofs.Sound.{SoundSearch}
 use Rattle.rules.proofs.Tests.{both}
@@ -134,7 +134,7 @@ walk-four letters lengths s depth d =
     rw d
     (λ i. record {
       base = sym (exact-base t (exact-search t)) i;
-      may = fun-ext (λ j. fun-ext (λ m. sym (exact-permitted t (exact-search t) j m))) i;
+      may = fun-ext (λ j. fun-ext (λ m. sym (exact-allowed t (exact-search t) j m))) i;
       good = frequent (s .template) (s .quorum) (sequences letters lengths);
       depth = size (s .template);
     })

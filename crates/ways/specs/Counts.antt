@@ -8,7 +8,7 @@ use Rattle.rules.specs.Limits.{Template-COMPONENTS, Template-GAP}
 use Rattle.rules.specs.Lists.{run, if, keep, each, sum}
 use Rattle.rules.specs.Occurrence.{stands, reach, ways}
 use Rattle.rules.specs.Sequences.{split}
-use Rattle.rules.specs.Template.{Part, cut}
+use Rattle.rules.specs.Template.{Part, cut, distance}
 use Rattle.rules.specs.declared.Component.{Component}
 
 -- THE COUNTS. For each position of s, the number of occurrences of the parts that start there: those of
@@ -48,7 +48,7 @@ ending w s p = cell w s p 1
 
 -- the ways of a part and those after it, from the counts of those: the sum over all positions where the next may start
 unfoldable pub leading : List ℕ → ℕ → ℕ → List ℕ → List ℕ → ℕ → ℕ
-leading w low high s later p = cell w s p (sum (map (entry later) (reach (length w + low) (length w + high) p)))
+leading w low high s later p = cell w s p (sum (map (entry later) (reach (distance (length w) low) (distance (length w) high) p)))
 
 -- THE LETTERS. How many letters some components take
 unfoldable pub letters-of : List Component → ℕ
