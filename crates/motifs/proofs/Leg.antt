@@ -11,8 +11,7 @@ use Rattle.rules.specs.Lists.{each, put}
 use Rattle.rules.specs.Refusals.{first, search-checks}
 use Rattle.rules.specs.Sequences.{sequences}
 use Rattle.rules.specs.Sound.{SoundTemplate}
-use Rattle.rules.specs.Support.{support, weight, parts}
-use Rattle.rules.specs.Template.{size}
+use Rattle.rules.specs.Support.{support, weight}
 use Rattle.rules.specs.Told.{Verdict, fine, refused, gives}
 use Rattle.rules.specs.Walk.{Walk, listed, motif, walk-of}
 use Rattle.rules.specs.declared.Place.{Place}
@@ -21,7 +20,7 @@ use Rattle.rules.specs.declared.Template.{Template}
 use Rattle.rules.proofs.Legs.{Passed, leg-law, Why, leg-why}
 use Rattle.rules.proofs.Places.{place-deep}
 use Rattle.rules.proofs.Searches.{walk-pos}
-use Rattle.rules.proofs.Lists.{keep-few}
+use Rattle.rules.proofs.Lists.{each-same, keep-few}
 use Rattle.rules.proofs.Tables.{put-front}
 use Rattle.rules.proofs.Sound.{search-sound}
 use Rattle.text.specs.Printed.{row, page, Page}
@@ -38,10 +37,10 @@ unfolding listed
 listed-few W ps = rw length-map (keep-few (motif W) ps)
 
 -- rows whose numbers are worked out from their motifs
-page-each : (t : Template) (f g : ℕ → ℕ) (ms : List ℕ) → page t ms (map f ms) (map g ms) ≡ each (λ m. row (parts t (size t) m) (f m) (g m)) ms
+page-each : (t : Template) (f g : ℕ → ℕ) (ms : List ℕ) → page t ms (map f ms) (map g ms) ≡ each (λ m. row t m (f m) (g m)) ms
 unfolding page each
 page-each t f g [] = refl
-page-each t f g (m ∷ ms) = ap (λ (l : List ℕ). row (parts t (size t) m) (f m) (g m) ++ l) (page-each t f g ms)
+page-each t f g (m ∷ ms) = ap (λ (l : List ℕ). row t m (f m) (g m) ++ l) (page-each t f g ms)
 
 module _ (letters lengths : List ℕ) (s : Search) where
   -- the rows of some motifs, with their supports and weights, printed
@@ -49,7 +48,7 @@ module _ (letters lengths : List ℕ) (s : Search) where
   unfolding supports-of weights-of print-rows
   rows-printed ms =
       page-each (s .template) (λ m. support (motif-parts s m) (sequences letters lengths)) (λ m. weight (motif-parts s m) (sequences letters lengths)) ms
-      ∙ sym (simp print-row-is)
+      ∙ each-same _ _ ms (λ m. sym (print-row-is (sequences letters lengths) (s .template) m))
 
   -- as a leg leaves them at the front of its tables
   fronts : (motifs supports weights ms : List ℕ) → let n = length ms in

@@ -3,7 +3,7 @@ use mathlib.Core.Bool.{Bool, true, false}
 use mathlib.Core.List.{List, [], _∷_, _++_}
 use Prim.Native.Nat.{ℕ, _+_, min}
 use lib.ListN.{length}
-use Rattle.rules.specs.Calls.{on-refusal, leg-rule, motif-parts, stretch}
+use Rattle.rules.specs.Calls.{on-refusal, leg-rule, stretch}
 use Rattle.rules.specs.Legs.{Stop, ended, spent, full, ended?}
 use Rattle.rules.specs.Lists.{if, each}
 use Rattle.rules.specs.Refusals.{first, search-checks}
@@ -19,7 +19,7 @@ room-of motifs supports weights = min (length motifs) (min (length supports) (le
 
 -- some motifs of a search, a line for each
 unfoldable pub print-rows : List ℕ → List ℕ → Search → List ℕ → List ℕ
-print-rows letters lengths s ms = each (λ m. print-row (sequences letters lengths) (motif-parts s m)) ms
+print-rows letters lengths s ms = each (print-row (sequences letters lengths) (s .template)) ms
 
 -- THE PAGE of a leg: a line for each of its rows; a refused leg has none
 unfoldable pub leg-page : List ℕ → List ℕ → Search → ℕ → ℕ → List ℕ

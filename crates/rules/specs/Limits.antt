@@ -9,7 +9,7 @@ Letter-BASES = 4
 abbrev pub Letter-MARK : ℕ
 Letter-MARK = 4
 
--- the letters of a mixed motif, and the base of its number
+-- the letters of a mixed motif, and the base of its number (no code yet)
 abbrev pub Letter-SYMBOLS : ℕ
 Letter-SYMBOLS = 14
 
@@ -26,7 +26,7 @@ Template-LENGTH = 12
 abbrev pub Template-LETTERS : ℕ
 Template-LETTERS = 32
 
--- K of a template for mixed letters
+-- K of a template for mixed letters (no code yet)
 abbrev pub Template-MIXED : ℕ
 Template-MIXED = 16
 

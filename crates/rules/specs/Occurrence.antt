@@ -9,7 +9,7 @@ use Rattle.rules.specs.Lists.{run, if, each, sum}
 use Rattle.rules.specs.Template.{Part, part, none, span, cut}
 use Rattle.rules.specs.declared.Component.{Component}
 
--- one of k less: with none left a, and else what g makes of the others
+-- one of k used up: where there is none, a, and else what g makes of those left
 abbrev pub spare : {A : Type 0} → ℕ → A → (ℕ → A) → A
 spare zero a g = a
 spare (suc k) a g = g k

@@ -20,12 +20,13 @@ pub data Basis : Type 0 where
 pub record Profile : Type 0 where
   -- the base of a motif's number
   pub base : ℕ
-  -- its letters in all
+  -- a motif has at most so many letters
   pub most : ℕ
   -- which letter of a sequence a letter of a motif fits, and how many of a component's may fail to
   pub reading : Reading
-  -- a component may begin with some letters
+  -- some letters may be the first of a component
   pub allows : Component → List ℕ → Bool
+  -- what is counted of it
   pub basis : Basis
 
 -- the letters of a motif, or of a prefix, are allowed, component by component

@@ -17,7 +17,8 @@ use Rattle.rules.specs.Walk.{walk-over}
 use Rattle.rules.specs.declared.Search.{Search}
 use Rattle.rules.specs.declared.Template.{Template}
 
--- THE LIST: the motifs of the search's walk, in letter order, with their supports and weighted supports
+-- THE LIST: the motifs of the search's walk, which are those that reach the quorum, in letter order, with their supports and
+-- weighted supports
 unfoldable pub frequent-motifs : Template → ℕ → List (List ℕ) → List ℕ
 frequent-motifs t quorum ss = walk.motifs (walk-over t quorum ss)
 

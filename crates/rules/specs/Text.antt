@@ -4,16 +4,17 @@ use mathlib.Core.Bool.{Bool, true, false, _&&_, _||_, not}
 use mathlib.Core.List.{List, [], _∷_, _++_, map}
 use Prim.Native.Nat.{ℕ, zero, suc, _+_, _-_, _/_, _%_}
 use lib.Dec.{eqb, leb, ltb}
-use lib.ListN.{length, drop, getD}
-use Rattle.rules.specs.Calls.{begin-rule, motif-parts}
+use lib.ListN.{length, take, drop, getD}
+use Rattle.rules.specs.Calls.{begin-rule}
 use Rattle.rules.specs.Letters.{letter}
 use Rattle.rules.specs.Limits.{Text-BYTES, Text-GAP-DIGITS, Text-QUORUM-DIGITS}
 use Rattle.rules.specs.Lists.{if, all?, each, joined, some?}
-use Rattle.rules.specs.Motif.{number}
+use Rattle.rules.specs.Motif.{number, spell}
+use Rattle.rules.specs.Profile.{base-of}
 use Rattle.rules.specs.Refusals.{first}
 use Rattle.rules.specs.Sequences.{sequences}
-use Rattle.rules.specs.Support.{support, weight}
-use Rattle.rules.specs.Template.{Part, component, none}
+use Rattle.rules.specs.Support.{support, weight, parts}
+use Rattle.rules.specs.Template.{component, none, components, size}
 use Rattle.rules.specs.Told.{Verdict, fine, refused, Told, gives, refuses}
 use Rattle.rules.specs.Walk.{Walk, walk-over, from, start, listed}
 use Rattle.rules.specs.declared.Component.{Component}
@@ -163,18 +164,23 @@ digits-of (suc d) n = let higher = digits-of d (n / 10) in if (ltb n 10) [] high
 unfoldable pub decimal : ℕ → List ℕ
 decimal n = digits-of 20 n
 
--- a motif in the template's shape: A[0,1]G. A part after one of n letters has its distances less n for its range
-unfoldable pub shape-rest : ℕ → List Part → List ℕ
-shape-rest n [] = []
-shape-rest n (c ∷ cs) = 91 ∷ decimal (c .near - n) ++ 44 ∷ decimal (c .far - n) ++ 93 ∷ map letter (c .word) ++ shape-rest (length (c .word)) cs
+-- letters in the shape of some components, each after its range: [0,1]G
+unfoldable pub shape-rest : List Component → List ℕ → List ℕ
+shape-rest [] w = []
+shape-rest (c ∷ cs) w = 91 ∷ decimal (c .low) ++ 44 ∷ decimal (c .high) ++ 93 ∷ map letter (take (c .length) w) ++ shape-rest cs (drop (c .length) w)
 
-unfoldable pub shape : List Part → List ℕ
-shape [] = []
-shape (c ∷ cs) = map letter (c .word) ++ shape-rest (length (c .word)) cs
+-- and of a template's, of which the first has no range before it: A[0,1]G
+unfoldable pub shape : List Component → List ℕ → List ℕ
+shape [] w = []
+shape (c ∷ cs) w = map letter (take (c .length) w) ++ shape-rest cs (drop (c .length) w)
+
+-- a motif in the template's shape
+unfoldable pub print-motif : Template → ℕ → List ℕ
+print-motif t m = shape (components t) (spell (base-of t) (size t) m)
 
 -- a row: the motif, its support and its weighted support
-unfoldable pub print-row : List (List ℕ) → List Part → List ℕ
-print-row ss cs = shape cs ++ 32 ∷ decimal (support cs ss) ++ 32 ∷ decimal (weight cs ss) ++ 10 ∷ []
+unfoldable pub print-row : List (List ℕ) → Template → ℕ → List ℕ
+print-row ss t m = print-motif t m ++ 32 ∷ decimal (support (parts t (size t) m) ss) ++ 32 ∷ decimal (weight (parts t (size t) m) ss) ++ 10 ∷ []
 
 -- "end", the steps, the rows
 unfoldable pub print-end : ℕ → ℕ → List ℕ
@@ -189,7 +195,7 @@ unfoldable pub print-search : List (List ℕ) → Search → List ℕ
 print-search ss s =
     let W : Walk = walk-over (s .template) (s .quorum) ss in
     let ms = listed W (from W (start W)) in
-    each (λ m. print-row ss (motif-parts s m)) ms ++ print-end (length (from W (start W))) (length ms)
+    each (print-row ss (s .template)) ms ++ print-end (length (from W (start W))) (length ms)
 
 abbrev pub print-told : List (List ℕ) → Told Search → List ℕ
 print-told ss (gives s) = print-search ss s

@@ -6,9 +6,10 @@ use native.Mathlib.Nat.{zero-add}
 use native.Mathlib.Omega.{arith}
 use lib.ListN.{length, take, length-append}
 use Rattle.rules.proofs.Tables.{put-front}
-use Rattle.rules.specs.Support.{support, weight}
-use Rattle.rules.specs.Template.{Part}
+use Rattle.rules.specs.Support.{support, weight, parts}
+use Rattle.rules.specs.Template.{size}
 use Rattle.rules.specs.Text.{decimal, print-row}
+use Rattle.rules.specs.declared.Template.{Template}
 use Rattle.text.specs.Printed.{Line-ROOM, Wrote, Line, pair, row}
 use Rattle.text.proofs.Decimal.{decimal-short}
 use Rattle.text.proofs.Printed.{wrote-as, wrote-put, room, length-pair, _then_}
@@ -41,9 +42,9 @@ module _ (head : List ℕ) (x y : ℕ) where
         }
 
 -- a row of the rules is one with its two numbers
-pub print-row-is : (ss : List (List ℕ)) (cs : List Part) → print-row ss cs ≡ row cs (support cs ss) (weight cs ss)
+pub print-row-is : (ss : List (List ℕ)) (t : Template) (m : ℕ) → print-row ss t m ≡ row t m (support (parts t (size t) m) ss) (weight (parts t (size t) m) ss)
 unfolding print-row row
-print-row-is ss cs = refl
+print-row-is ss t m = refl
 
 -- a line stands at the front of its buffer
 pub line-front : {text a b : List ℕ} {r : ℕ} → Line text a b r → take r b ≡ text

@@ -8,8 +8,6 @@ use lib.ListN.{length, take, drop, getD, length-drop, drop-of-length-le}
 use lib.Seq.{sets-eq, drop-drop, take-all}
 use borrow.Rule.Slice.PartMut.{midOf, putMid, post-is}
 use Rattle.rules.specs.Lists.{put}
-use Rattle.rules.specs.Support.{parts}
-use Rattle.rules.specs.Template.{size}
 use Rattle.rules.specs.declared.Template.{Template}
 use Rattle.text.specs.Printed.{Line-ROOM, write, Wrote, Line, row, page, Page}
 use Rattle.text.proofs.Printed.{wrote-none, wrote-put}
@@ -30,15 +28,15 @@ line-at at text xs {ys} {r} h l =
 module _ (t : Template) where
   -- one row more
   pub page-more : (i : ℕ) (ms ss ws : List ℕ) → i < length ms → i < length ss → i < length ws
-      → page t (take i ms) (take i ss) (take i ws) ++ row (parts t (size t) (getD ms i 0)) (getD ss i 0) (getD ws i 0) ≡ page t (take (i + 1) ms) (take (i + 1) ss) (take (i + 1) ws)
+      → page t (take i ms) (take i ss) (take i ws) ++ row t (getD ms i 0) (getD ss i 0) (getD ws i 0) ≡ page t (take (i + 1) ms) (take (i + 1) ss) (take (i + 1) ws)
   unfolding page
   page-more i [] ss ws h k l = absurd (omega arith)
   page-more i (m ∷ ms) [] ws h k l = absurd (omega arith)
   page-more i (m ∷ ms) (s ∷ ss) [] h k l = absurd (omega arith)
-  page-more zero (m ∷ ms) (s ∷ ss) (w ∷ ws) h k l = sym (append-nil (row (parts t (size t) m) s w))
+  page-more zero (m ∷ ms) (s ∷ ss) (w ∷ ws) h k l = sym (append-nil (row t m s w))
   page-more (suc i) (m ∷ ms) (s ∷ ss) (w ∷ ws) h k l =
       let e : suc i + 1 ≡ suc (i + 1) = omega arith in
-      rw (e, append-assoc) (ap (λ (p : List ℕ). row (parts t (size t) m) s w ++ p) (page-more i ms ss ws (omega arith) (omega arith) (omega arith)))
+      rw (e, append-assoc) (ap (λ (p : List ℕ). row t m s w ++ p) (page-more i ms ss ws (omega arith) (omega arith) (omega arith)))
 
   -- no row yet
   pub page-none : (ms ss ws out : List ℕ) → Wrote 0 (page t (take 0 ms) (take 0 ss) (take 0 ws)) out out 0

@@ -4,43 +4,21 @@ use mathlib.Core.List.{List, [], _∷_, _++_, append-assoc}
 use Prim.Native.Nat.{ℕ, zero, suc, _+_, _-_, _*_, _≤_, _<_}
 use native.Mathlib.Numerals.{add-one}
 use native.Mathlib.Omega.{arith}
-use lib.ListN.{length, take, drop, getD, length-append}
-use lib.Seq.{length-take-le}
+use lib.ListN.{length, drop, getD, length-append}
 use Rattle.rules.specs.Lists.{sum}
 use Rattle.rules.specs.Motif.{spell}
 use Rattle.rules.specs.Sound.{SoundTemplate, SoundComponent}
-use Rattle.rules.specs.Support.{parts}
-use Rattle.rules.specs.Template.{deal, part, slots, none, components, size, cut-after, cut}
-use Rattle.rules.specs.Text.{decimal, shape, shape-rest}
+use Rattle.rules.specs.Template.{slots, none, components, size}
+use Rattle.rules.specs.Text.{decimal, shape, shape-rest, print-motif}
 use Rattle.rules.specs.declared.Component.{Component}
 use Rattle.rules.specs.declared.Template.{Template}
-use Rattle.rules.proofs.Components.{components-more, components-none, cut-some}
-use Rattle.rules.proofs.Exact.{exact-search, exact-parts}
-use Rattle.rules.proofs.Spelling.{length-spell, spell-drop}
+use Rattle.rules.proofs.Components.{components-more, components-none}
+use Rattle.rules.proofs.Exact.{exact-search, exact-base}
+use Rattle.rules.proofs.Spelling.{spell-drop}
 use Rattle.text.specs.Printed.{Wrote, pair, letters, ranged-word, size-from, shape-from}
 use Rattle.text.proofs.Decimal.{decimal-short}
 use Rattle.text.proofs.Printed.{length-pair, room}
 use Rattle.text.proofs.Letters.{length-letters}
-
--- a component takes its letters off the front
-cut-more : (c : Component) (cs : List Component) (j m : ℕ) → 1 ≤ c .length
-    → cut (c ∷ cs) (spell 4 (c .length + j) m) ≡ part (0 + c .low) (0 + c .high) (take (c .length) (spell 4 (c .length + j) m)) ∷ cut-after (c .length) cs (spell 4 j m)
-cut-more c cs j m h =
-    cut-some 0 c cs (spell 4 (c .length + j) m) (rw length-spell (omega arith)) ∙ rw (spell-drop 4 (c .length) j m)
-
--- and has so many
-first-letters : (c : Component) (j m : ℕ) → length (take (c .length) (spell 4 (c .length + j) m)) ≡ c .length
-first-letters c j m = length-take-le (c .length) _ (rw length-spell (omega arith))
-
--- a range is printed as it is, however many letters stand before it
-as-it-is : (n x : ℕ) → n + x - n ≡ x
-as-it-is n x = omega arith
-
-shape-after : (n : ℕ) (cs : List Component) (w : List ℕ) → shape-rest n (cut-after n cs w) ≡ shape-rest 0 (cut cs w)
-unfolding shape-rest deal
-shape-after n [] w = refl
-shape-after n (c ∷ cs) [] = refl
-shape-after n (c ∷ cs) (x ∷ w) = rw (as-it-is n (c .low), as-it-is n (c .high), as-it-is 0 (c .low), as-it-is 0 (c .high))
 
 ranged-is : (c : Component) (w rest : List ℕ)
     → 91 ∷ decimal (c .low) ++ 44 ∷ decimal (c .high) ++ 93 ∷ w ++ rest ≡ (pair 91 (c .low) 44 (c .high) 93 ++ w) ++ rest
@@ -52,10 +30,11 @@ pub length-ranged : (c : Component) (j m : ℕ) → c .length ≤ j → length (
 unfolding ranged-word
 length-ranged c j m h = rw (length-append, length-letters (c .length) j m h)
 
-shape-first : (c : Component) {cs rest : List Component} (j m : ℕ) → cs ≡ c ∷ rest → 1 ≤ c .length
-    → shape (cut cs (spell 4 (c .length + j) m)) ≡ letters (c .length) (c .length + j) m ++ shape-rest 0 (cut rest (spell 4 j m))
+-- the first component takes its letters off the front
+shape-first : (c : Component) {cs rest : List Component} (j m : ℕ) → cs ≡ c ∷ rest
+    → shape cs (spell 4 (c .length + j) m) ≡ letters (c .length) (c .length + j) m ++ shape-rest rest (spell 4 j m)
 unfolding shape letters
-shape-first c {cs} {rest} j m e h = rw (e, cut-more c rest j m h, first-letters c j m, shape-after (c .length) rest (spell 4 j m))
+shape-first c j m e = rw (e, spell-drop 4 (c .length) j m)
 
 module _ (t : Template) (S : SoundTemplate t) where
   from-more : (i : ℕ) {c : Component} → i < t .count → c ≡ getD (slots t) i none → drop i (components t) ≡ c ∷ drop (i + 1) (components t)
@@ -82,14 +61,11 @@ module _ (t : Template) (S : SoundTemplate t) where
   shape-from-more : (i m : ℕ) {c : Component} → i < t .count → c ≡ getD (slots t) i none
       → shape-from t i m ≡ ranged-word c (size-from t i) m ++ shape-from t (i + 1) m
   unfolding shape-from shape-rest ranged-word letters
-  shape-from-more i m {c} h e =
-      let j = size-from t (i + 1) in let rest = drop (i + 1) (components t) in
-      rw (from-more i h e, size-from-more i h e, cut-more c rest j m (sound i h e .some), first-letters c j m, shape-after (c .length) rest (spell 4 j m), as-it-is 0 (c .low), as-it-is 0 (c .high))
-      (ranged-is c _ _)
+  shape-from-more i m {c} h e = rw (from-more i h e, size-from-more i h e, spell-drop 4 (c .length) (size-from t (i + 1)) m) (ranged-is c _ _)
 
   -- past the last component nothing is printed
   pub shape-from-end : (i m : ℕ) → t .count ≤ i → shape-from t i m ≡ []
-  unfolding shape-from shape-rest deal
+  unfolding shape-from shape-rest
   shape-from-end i m h = rw (components-none t (S .few) i h)
 
   -- the first component's letters and the others'
@@ -97,10 +73,9 @@ module _ (t : Template) (S : SoundTemplate t) where
   size-is = sym size-from-none ∙ size-from-more 0 (S .some) refl
 
   -- a motif's shape is the first component's letters and the shape of the others
-  pub shape-is : (m : ℕ) → shape (parts t (size t) m) ≡ letters (t .c1 .length) (size t) m ++ shape-from t 1 m
-  unfolding shape-from
-  shape-is m =
-      rw (exact-parts t (exact-search t) (size t) m, size-is) (shape-first (t .c1) (size-from t 1) m (from-more 0 (S .some) refl) (S .each 0 (S .some) .some))
+  pub shape-is : (m : ℕ) → print-motif t m ≡ letters (t .c1 .length) (size t) m ++ shape-from t 1 m
+  unfolding print-motif shape-from
+  shape-is m = rw (exact-base t (exact-search t), size-is) (shape-first (t .c1) (size-from t 1) m (from-more 0 (S .some) refl))
 
   -- no more than nine bytes for each gap range
   ranged-short : (i j m : ℕ) {c : Component} → i < t .count → c ≡ getD (slots t) i none → c .length ≤ j → length (ranged-word c j m) ≤ 9 + c .length
@@ -127,7 +102,7 @@ module _ (t : Template) (S : SoundTemplate t) where
   shape-room m = omega (arith, size-is, shape-short (t .count - 1) 1 m (omega (arith, S .some)), S .few, S .deep)
 
   -- how long it is
-  pub length-shape : (m : ℕ) → length (shape (parts t (size t) m)) ≡ t .c1 .length + length (shape-from t 1 m)
+  pub length-shape : (m : ℕ) → length (print-motif t m) ≡ t .c1 .length + length (shape-from t 1 m)
   length-shape m = rw (shape-is m, length-append, length-letters (t .c1 .length) (size t) m (omega (arith, size-is)))
 
   -- a turn of the loop over the components after the first: `done` is printed, and component i comes next

@@ -8,9 +8,8 @@ use Rattle.rules.specs.Letters.{letter}
 use Rattle.rules.specs.Limits.{Letter-BASES}
 use Rattle.rules.specs.Lists.{put, sum}
 use Rattle.rules.specs.Motif.{spell}
-use Rattle.rules.specs.Support.{parts}
-use Rattle.rules.specs.Template.{Part, components, cut, size}
-use Rattle.rules.specs.Text.{decimal, shape, shape-rest}
+use Rattle.rules.specs.Template.{components}
+use Rattle.rules.specs.Text.{decimal, shape-rest, print-motif}
 use Rattle.rules.specs.declared.Component.{Component}
 use Rattle.rules.specs.declared.Template.{Template}
 
@@ -51,15 +50,15 @@ unfoldable pub size-from : Template → ℕ → ℕ
 size-from t i = sum (map (λ c. c .length) (drop i (components t)))
 
 unfoldable pub shape-from : Template → ℕ → ℕ → List ℕ
-shape-from t i m = shape-rest 0 (cut (drop i (components t)) (spell Letter-BASES (size-from t i) m))
+shape-from t i m = shape-rest (drop i (components t)) (spell Letter-BASES (size-from t i) m)
 
 -- a row: the motif in the template's shape, its support and its weighted support
-unfoldable pub row : List Part → ℕ → ℕ → List ℕ
-row cs support weight = shape cs ++ 32 ∷ decimal support ++ 32 ∷ decimal weight ++ 10 ∷ []
+unfoldable pub row : Template → ℕ → ℕ → ℕ → List ℕ
+row t m support weight = print-motif t m ++ 32 ∷ decimal support ++ 32 ∷ decimal weight ++ 10 ∷ []
 
 -- a page: the lines of the rows of three tables, one after another
 unfoldable pub page : Template → List ℕ → List ℕ → List ℕ → List ℕ
-page t (m ∷ ms) (s ∷ ss) (w ∷ ws) = row (parts t (size t) m) s w ++ page t ms ss ws
+page t (m ∷ ms) (s ∷ ss) (w ∷ ws) = row t m s w ++ page t ms ss ws
 page t [] ss ws = []
 page t (m ∷ ms) [] ws = []
 page t (m ∷ ms) (s ∷ ss) [] = []

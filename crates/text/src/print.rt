@@ -7,9 +7,8 @@ ghost use mathlib.Core.List.{[], _∷_};
 ghost use Prim.Native.Nat.{_+_, _*_, _<_, _≤_};
 ghost use lib.ListN.{length, getD, take};
 ghost use Rattle.rules.specs.Limits.{Template-COMPONENTS, Template-LETTERS};
-ghost use Rattle.rules.specs.Text.{decimal, shape, print-end, print-refused};
-ghost use Rattle.rules.specs.Template.{slots, none, size};
-ghost use Rattle.rules.specs.Support.{parts};
+ghost use Rattle.rules.specs.Text.{decimal, print-motif, print-end, print-refused};
+ghost use Rattle.rules.specs.Template.{slots, none};
 ghost use Rattle.rules.specs.Sound.{SoundTemplate};
 ghost use Rattle.text.specs.Printed.{Line-ROOM, Wrote, Line, pair, letters, ranged-word, size-from, shape-from, row, page, Page};
 
@@ -117,7 +116,7 @@ fn print_rest(template: Template, motif: u64, left: u64, at: usize, out: &mut [u
 // A motif in the template's shape.
 fn print_motif(template: Template, motif: u64, out: &mut [u8]) -> usize
     requires { ⌜ SoundTemplate template × (Line-ROOM ≤ length (now out)) ⌝ }
-    ensures { λ r. ⌜ Wrote 0 (shape (parts template (size template) motif)) (now (out .entry)) (now (out .exit)) r ⌝ }
+    ensures { λ r. ⌜ Wrote 0 (print-motif template motif) (now (out .entry)) (now (out .exit)) r ⌝ }
 {
     let k = template.letters() as u64;
     let c1 = template.c1;
@@ -129,7 +128,7 @@ fn print_motif(template: Template, motif: u64, out: &mut [u8]) -> usize
 // A row: the motif in the template's shape, its support and its weighted support.
 pub fn print_row(template: Template, motif: u64, support: u32, weight: u64, out: &mut [u8]) -> usize
     requires { ⌜ SoundTemplate template × (Line-ROOM ≤ length (now out)) ⌝ }
-    ensures { λ r. ⌜ Line (row (parts template (size template) motif) support weight) (now (out .entry)) (now (out .exit)) r ⌝ }
+    ensures { λ r. ⌜ Line (row template motif support weight) (now (out .entry)) (now (out .exit)) r ⌝ }
 {
     let next = print_motif(template, motif, out);
     let marks = support as u64;
@@ -146,7 +145,7 @@ fn print_row_at(
     out: &mut [u8],
 ) -> usize
     requires { ⌜ SoundTemplate template × (at + Line-ROOM ≤ length (now out)) ⌝ }
-    ensures { λ r. ⌜ Wrote at (row (parts template (size template) motif) support weight) (now (out .entry)) (now (out .exit)) r × (r ≤ at + Line-ROOM) ⌝ }
+    ensures { λ r. ⌜ Wrote at (row template motif support weight) (now (out .entry)) (now (out .exit)) r × (r ≤ at + Line-ROOM) ⌝ }
 {
     at + print_row(template, motif, support, weight, &mut out[at..])
 }

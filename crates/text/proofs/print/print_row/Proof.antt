@@ -3,16 +3,14 @@ use borrow.Author.Needs.{needs}
 use native.Mathlib.Omega.{arith}
 use Prim.Native.Nat.{_≤_}
 use lib.ListN.{length}
-use Rattle.rules.specs.Support.{parts}
-use Rattle.rules.specs.Template.{size}
-use Rattle.rules.specs.Text.{shape}
+use Rattle.rules.specs.Text.{print-motif}
 use Rattle.text.specs.Printed.{row}
 use Rattle.text.proofs.Line.{line-room, line-done}
 use Rattle.text.proofs.Shape.{shape-room, length-shape}
 use Rattle.text.proofs.print.print_row.Statement.{statement}
 use Rattle.text.proofs.print.print_row.Tie as tie
 
-head-short : (c : tie.Start) → length (shape (parts (c .args .template) (size (c .args .template)) (c .args .motif))) ≤ 77
+head-short : (c : tie.Start) → length (print-motif (c .args .template) (c .args .motif)) ≤ 77
 head-short c = omega (arith, length-shape _ (c .pre .0) (c .args .motif), shape-room _ (c .pre .0) (c .args .motif))
 
 print-motif-requires : tie.Need-print-motif-requires
