@@ -18,7 +18,7 @@ use Rattle.rules.specs.Occurrence.{stands-by, front-by, found, reach, starts, o
 use Rattle.rules.specs.Template.{Part}
 use Rattle.matching.specs.Flags.{matched, following, last-starts, left?}
 use Rattle.matching.proofs.Any.{any, both-true, true-both, both-one, same-truth, any-true, true-any, any-same, any-suc, some-if, some-each}
-use Rattle.matching.proofs.Passes.{flagged, flagged-same, before, flagged-all, matched-flagged, after-flagged, left-flagged}
+use Rattle.matching.proofs.Passes.{flagged, flagged-same, before, flagged-all, matched-flagged, reached-flagged, left-flagged}
 
 module _ (s : List ℕ) where
   -- an occurrence of c and the parts cs begins at offset o
@@ -123,7 +123,7 @@ module _ (s : List ℕ) where
       ∙ any-same A _ 0 (length s)
       (λ o. same-truth (A o) _ (λ e. true-both (A o) _ e (begins-one c o ∙ h o e)) (λ e. both-true (A o) _ e .0))
   left-following (d ∷ ds) f x A c h =
-      ap (λ (ks : List ℕ). left? (following ds s (matched (d .word) 0 s ks))) (after-flagged A (length s) (d .near) (d .far))
+      ap (λ (ks : List ℕ). left? (following ds s (matched (d .word) 0 s ks))) (reached-flagged A (length s) (d .near) (d .far))
       ∙ ap (λ (ks : List ℕ). left? (following ds s ks)) (matched-found d (x .0) _)
       ∙ left-following ds (λ i l. f (suc i) (omega arith)) (x .1) (next A d) d (next-stands A d)
       ∙ same-truth _ _ (back A c d ds h) (on A c d ds (f 0 (omega arith)))

@@ -99,9 +99,9 @@ module _ (A : ℕ → Bool) (n : ℕ) where
   near-flagged o h d (suc m) = rw (ago-flagged o h d) (sum-step (before A d o) _ _ (near-flagged o h (suc d) m))
 
   -- so a gap sets those that a set one reaches
-  pub after-flagged : (least most : ℕ) → reached least most (flagged A n) ≡ flagged (λ o. any (λ g. before A g o) least (most + 1 - least)) n
+  pub reached-flagged : (least most : ℕ) → reached least most (flagged A n) ≡ flagged (λ o. any (λ g. before A g o) least (most + 1 - least)) n
   unfolding reached flagged
-  after-flagged least most =
+  reached-flagged least most =
       ap (λ (k : ℕ). map (near (flagged A n) least (most + 1 - least)) (run 0 k)) (length-flagged A n)
       ∙ map-agree _ _ 0 n (λ o _ k. near-flagged o (omega arith) least (most + 1 - least))
 

@@ -45,7 +45,7 @@ reached least most ks = map (near ks least (span least most)) (run 0 (length ks)
 abbrev pub opened : ℕ → ℕ → ℕ → List ℕ → List ℕ
 opened n low high ks = reached (distance n low) (distance n high) ks
 
--- A PREFIX. From the flags ks of a part, those of the last of the parts that follow it
+-- A PREFIX, its letters read exactly. From the flags ks of a part, those of the last of the parts that follow it
 unfoldable pub following : List Part → List ℕ → List ℕ → List ℕ
 following [] s ks = ks
 following (c ∷ cs) s ks = following cs s (matched (c .word) 0 s (reached (c .near) (c .far) ks))
