@@ -9,7 +9,6 @@ use lib.Dec.{leb}
 use lib.ListN.{length, take, drop, length-append, drop-of-length-le}
 use lib.Seq.{take-all, take-append-le, drop-append-le}
 use borrow.Author.Tests.{leb-true, leb-false, le-leb}
-use Rattle.rules.specs.Limits.{Letter-BASES}
 use Rattle.rules.specs.Lists.{keep, all?}
 use Rattle.rules.specs.Motif.{spell}
 use Rattle.rules.specs.Profile.{Basis, by-sequence, by-occurrence, Profile, Proper, allowed, to-come, four-letters, exactly, repeated, substituted, several, within, mixed}
@@ -149,7 +148,7 @@ all-less f (x ∷ xs) ys e = let h = both (f x) _ .0 e in both _ _ .1 (h .0, all
 
 several-less : (w : List ℕ) (y : ℕ) → several w ≤ several (w ++ (y ∷ []))
 unfolding several
-several-less w y = omega (arith, ap length (keep-append (leb Letter-BASES) w (y ∷ [])), length-append (keep (leb Letter-BASES) w) (keep (leb Letter-BASES) (y ∷ [])))
+several-less w y = rw (keep-append, length-append) (omega arith)
 
 none-leb : (n : ℕ) → leb 0 n ≡ true
 none-leb n = le-leb 0 n (omega arith)
