@@ -156,9 +156,9 @@ none-leb n = le-leb 0 n (omega arith)
 leb-less : (a b n : ℕ) → a ≤ b → leb b n ≡ true → leb a n ≡ true
 leb-less a b n l e = le-leb a n (omega (arith, leb-true b n e))
 
-pub mixed-proper : (most : Component → ℕ) → Proper (mixed most)
+pub mixed-proper : (allowance : Component → ℕ) → Proper (mixed allowance)
 unfolding mixed within several all? keep
-mixed-proper most = record {
+mixed-proper allowance = record {
   pos = omega arith;
   short = omega arith;
   wide = omega arith;
