@@ -6,7 +6,7 @@ use Prim.Native.Nat.{ℕ, _≤_}
 use native.Mathlib.Omega.{arith}
 use lib.ListN.{length, take, length-map}
 use Rattle.rules.specs.Calls.{LegRule, on-refusal, leg-rule, stretch, motif-parts, supports-of, weights-of}
-use Rattle.rules.specs.Legs.{Stop, ended, spent, full, Stretch}
+use Rattle.rules.specs.Legs.{Stop, ended, spent, full, ended?, Stretch}
 use Rattle.rules.specs.Lists.{each, put}
 use Rattle.rules.specs.Refusals.{first, search-checks}
 use Rattle.rules.specs.Sequences.{sequences}
@@ -25,7 +25,7 @@ use Rattle.rules.proofs.Tables.{put-front}
 use Rattle.rules.proofs.Sound.{search-sound}
 use Rattle.text.specs.Printed.{row, page, Page}
 use Rattle.text.proofs.Line.{print-row-is}
-use Rattle.motifs.specs.Pages.{room-of, ended-told?, print-rows, leg-page}
+use Rattle.motifs.specs.Pages.{room-of, print-rows, leg-page}
 
 -- what holds of a refused leg and of an accepted one holds of every leg
 by-verdict : (P : LegRule → Type 0) (v : Verdict) (f : ℕ → ℕ → LegRule) (l : LegRule) → ((n p : ℕ) → v ≡ refused n p → P (f n p)) → (v ≡ fine → P l) → P (on-refusal v f l)
@@ -72,22 +72,28 @@ module _ (letters lengths : List ℕ) (s : Search) where
   unfolding stretch
   why budget room = leg-why (walk-of letters lengths s) budget room (s .place)
 
-  module _ (budget : ℕ) (motifs supports weights : List ℕ) where
-    -- it takes no more steps than its budget allows
-    pub steps-fit : (leg-rule letters lengths s budget motifs supports weights) .told .steps ≤ budget
-    unfolding leg-rule
-    steps-fit = by-verdict (λ l. l .told .steps ≤ budget) (first (search-checks letters lengths s)) _ _ (λ n p e. omega arith) (λ e. why budget _ .steps-fit)
+  -- its rows are no more than its steps
+  pub rows-few : first (search-checks letters lengths s) ≡ fine → (budget room : ℕ) → let l = stretch letters lengths s budget room in length (l .motifs) ≤ l .steps
+  rows-few e budget room = let p = accepted e budget room in omega (arith, p .counts, ap length (p .lists), listed-few (walk-of letters lengths s) (p .taken))
 
-    -- its rows have room, and are no more than its steps
+  -- one that has a budget and room, and does not end, takes a step
+  pub moves : first (search-checks letters lengths s) ≡ fine → (budget room : ℕ) → 1 ≤ budget → 1 ≤ room
+      → let l = stretch letters lengths s budget room in ended? (l .stop) ≡ false → 1 ≤ l .steps
+  moves e budget room b r = go (l .stop) refl
+    where
+      l : Stretch
+      l = stretch letters lengths s budget room
+
+      go : (a : Stop) → l .stop ≡ a → ended? a ≡ false → 1 ≤ l .steps
+      go ended q n = absurd (false≢true (sym n))
+      go spent q n = omega (arith, why budget room .if-spent q)
+      go full q n = omega (arith, why budget room .if-full q .0, rows-few e budget room)
+
+  module _ (budget : ℕ) (motifs supports weights : List ℕ) where
+    -- its rows have room
     pub rows-fit : (leg-rule letters lengths s budget motifs supports weights) .told .rows ≤ room-of motifs supports weights
     unfolding leg-rule
     rows-fit = by-verdict (λ l. l .told .rows ≤ room-of motifs supports weights) (first (search-checks letters lengths s)) _ _ (λ n p e. omega arith) (λ e. why budget _ .listed-fit)
-
-    pub rows-few : (leg-rule letters lengths s budget motifs supports weights) .told .rows ≤ (leg-rule letters lengths s budget motifs supports weights) .told .steps
-    unfolding leg-rule
-    rows-few =
-        by-verdict (λ l. l .told .rows ≤ l .told .steps) (first (search-checks letters lengths s)) _ _ (λ n p e. omega arith)
-        (λ e. let r = accepted e budget (room-of motifs supports weights) in omega (arith, r .counts, ap length (r .lists), listed-few (walk-of letters lengths s) (r .taken)))
 
     -- a leg with rows was accepted
     pub rows-sound : 1 ≤ (leg-rule letters lengths s budget motifs supports weights) .told .rows → SoundTemplate (s .template)
@@ -107,19 +113,3 @@ module _ (letters lengths : List ℕ) (s : Search) where
         n ≡ l .told .rows → ms ≡ l .motifs → ss ≡ l .supports → ws ≡ l .weights → Page k (page (s .template) (take n ms) (take n ss) (take n ws)) before after r
         → Page k (leg-page letters lengths s budget (room-of motifs supports weights)) before after r
     page-left a b c d p = rw (a, b, c, d, page-is) at p
-
-    -- one that has a budget and room, and does not end, takes a step
-    pub moves : first (search-checks letters lengths s) ≡ fine → 1 ≤ budget → 1 ≤ room-of motifs supports weights
-        → ended-told? ((leg-rule letters lengths s budget motifs supports weights) .told .answer) ≡ false → 1 ≤ (leg-rule letters lengths s budget motifs supports weights) .told .steps
-    unfolding leg-rule
-    moves e b r = rw e (go ((stretch letters lengths s budget (room-of motifs supports weights)) .stop) refl)
-      where
-        l : Stretch
-        l = stretch letters lengths s budget (room-of motifs supports weights)
-
-        go : (a : Stop) → l .stop ≡ a → ended-told? (gives a) ≡ false → 1 ≤ l .steps
-        go ended q n = absurd (false≢true (sym n))
-        go spent q n = omega (arith, why budget (room-of motifs supports weights) .if-spent q)
-        go full q n =
-            let p = accepted e budget (room-of motifs supports weights) in
-            omega (arith, why budget (room-of motifs supports weights) .if-full q .0, p .counts, ap length (p .lists), listed-few (walk-of letters lengths s) (p .taken))

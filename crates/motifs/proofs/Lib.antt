@@ -1,6 +1,7 @@
 -- The laws of this crate, in the order in which they build on each other. `Program` is the file to read first.
+pub mod Counted
 pub mod Leg
-pub mod Passage
-pub mod Onward
-pub mod Program
+pub mod Laid
 pub mod Reading
+pub mod Next
+pub mod Program

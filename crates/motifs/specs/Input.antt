@@ -17,12 +17,17 @@ pub record InputRule : Type 0 where
   pub letters : List ℕ
   pub lengths : List ℕ
 
+-- what an input is told
+unfoldable pub input-told : List ℕ → Told Search
+input-told input = on-refusal (first (text-checks input)) refuses (begin-rule (parse-letters input) (parse-lengths input) (parse-template input) (parse-quorum input))
+
+-- and what is read of it; of a refused text nothing
 unfoldable pub input-rule : List ℕ → List ℕ → List ℕ → InputRule
 input-rule input letters lengths =
     on-refusal (first (text-checks input))
-    (λ n p. record { told = refuses n p; count = 0; sequences = 0; letters = letters; lengths = lengths })
+    (λ n p. record { told = input-told input; count = 0; sequences = 0; letters = letters; lengths = lengths })
     (record {
-      told = begin-rule (parse-letters input) (parse-lengths input) (parse-template input) (parse-quorum input);
+      told = input-told input;
       count = length (parse-letters input);
       sequences = length (parse-lengths input);
       letters = put (parse-letters input) letters;
