@@ -8,7 +8,7 @@ use Prim.Native.Nat.{ℕ, suc, _+_, _*_, _≤_, _<_, _^_, min}
 use lib.Dec.{leb}
 use lib.ListN.{length, take, getD, replicate}
 use native.Mathlib.Omega.{arith}
-use Rattle.rules.specs.Calls.{unless, on-refusal, begin-rule, LegRule, stretch, leg-rule, written-unless, save-rule, restore-rule, recover-rule, join-rule}
+use Rattle.rules.specs.Calls.{begin-rule, LegRule, stretch, leg-rule, written-unless, save-rule, restore-rule, recover-rule, join-rule}
 use Rattle.rules.specs.Legs.{Stop, ended, leg}
 use Rattle.rules.specs.Limits.{Letter-BASES, Record-BYTES, Record-EXTRA, Template-COMPONENTS}
 use Rattle.rules.specs.Lists.{joined, keep, put, some?}
@@ -18,6 +18,7 @@ use Rattle.rules.specs.Order.{InOrder, Rising}
 use Rattle.rules.specs.Profile.{exactly, profile-of, base-of}
 use Rattle.rules.specs.Recovery.{whole-list, page}
 use Rattle.rules.specs.Refusals.{first, new-checks, restore-checks, search-checks, save-checks, recover-checks, join-checks}
+use Rattle.rules.specs.Refused.{FirstOf}
 use Rattle.rules.specs.Relay.{frequent-motifs, whole-steps, Complete, Lent, Roomy, Ample, after, alone, relay, Relayed}
 use Rattle.rules.specs.Saved.{bytes, sized?, laid-out?, read-search}
 use Rattle.rules.specs.Sequences.{sequences}
@@ -32,6 +33,7 @@ use Rattle.rules.specs.declared.Template.{Template}
 use Rattle.rules.proofs.Bound.{list-bound}
 use Rattle.rules.proofs.Completes.{relay-complete, relay-ends, relay-answers}
 use Rattle.rules.proofs.Exact.{exact-search, exact-occurs, exact-motifs, exact-frequent, exact-steps}
+use Rattle.rules.proofs.First.{first-applies, unless-refuses, written-refuses, leg-refused}
 use Rattle.rules.proofs.Sentence.{follows-gap}
 use Rattle.rules.proofs.Legs.{Passed, leg-law}
 use Rattle.rules.proofs.LowFirst.{Bytes}
@@ -40,6 +42,7 @@ use Rattle.rules.proofs.Occurs.{parts-worded, parts-some, rows-are}
 use Rattle.rules.proofs.Passing.{passing-from, from-passing}
 use Rattle.rules.proofs.Places.{sound-passing, passing-rule, passing-passes, place-deep}
 use Rattle.rules.proofs.Prefix.{size-some}
+use Rattle.rules.proofs.Refused.{EachRefusal, each-refusal}
 use Rattle.rules.proofs.Searches.{walk-lawful, list-rises, list-holds}
 use Rattle.rules.proofs.Saves.{restore-exactly, restore-saved, save-restored, cut-refused}
 use Rattle.rules.proofs.Sound.{SoundSearch, SoundBytes, search-sound}
@@ -50,6 +53,11 @@ use Rattle.rules.proofs.Ways.{support-counts, support-sequences}
 -- leg has counts of 0, hands back the search that it was given and leaves its tables; a refused save, recovery or join leaves
 -- its buffer.
 pub record Demand1 : Type 0 where
+  -- of a call's checks, in their order, the first that applies is told, all before it being fine; so a call is refused only if one
+  -- of its checks applies
+  pub first-applies : (vs : List Verdict) (n p : ℕ) → (first vs ≡ refused n p) ↔ FirstOf vs n p
+  -- and each of 1 to 17 applies exactly if the paper's sentence holds, and tells the place that the paper names
+  pub each : EachRefusal
   pub begin : (letters lengths : List ℕ) (t : Template) (quorum n p : ℕ)
       → (begin-rule letters lengths t quorum ≡ refuses n p) ↔ (first (new-checks letters lengths t quorum) ≡ refused n p)
   pub restore : (letters lengths bs : List ℕ) (n p : ℕ)
@@ -166,23 +174,12 @@ pub record Demand3 : Type 0 where
 
 -- ---- THE PROOFS
 
-unless-refuses : {A : Type 0} (v : Verdict) (a : A) (n p : ℕ) → (unless v a ≡ refuses n p) ↔ (v ≡ refused n p)
-unless-refuses fine a n p = (λ e. cc, λ e. cc)
-unless-refuses (refused m q) a n p = (λ e. cc, λ e. cc)
-
-written-refuses : {A : Type 0} (v : Verdict) (a : A) (xs out : List ℕ) (n p : ℕ) → ((written-unless v a xs out) .told ≡ refuses n p) ↔ (v ≡ refused n p)
-written-refuses fine a xs out n p = (λ e. cc, λ e. cc)
-written-refuses (refused m q) a xs out n p = (λ e. cc, λ e. cc)
-
-leg-refused : (v : Verdict) (f : ℕ → ℕ → LegRule) (l : LegRule) (n p : ℕ) (a : Stop) → ((n p : ℕ) → (f n p) .told .answer ≡ refuses n p) → l .told .answer ≡ gives a
-    → ((on-refusal v f l) .told .answer ≡ refuses n p) ↔ (v ≡ refused n p)
-leg-refused fine f l n p a h e = (λ q. cc, λ q. cc)
-leg-refused (refused m k) f l n p a h e = (λ q. let r = h m k in cc, λ q. let r = h m k in cc)
-
 pub demand1 : Demand1
 unfolding begin-rule restore-rule leg-rule save-rule recover-rule join-rule
 demand1 =
     record {
+      first-applies = first-applies;
+      each = each-refusal;
       begin = λ letters lengths t quorum n p. unless-refuses _ _ n p;
       restore = λ letters lengths bs n p. unless-refuses _ _ n p;
       leg = λ letters lengths s budget motifs supports weights n p. leg-refused (first (search-checks letters lengths s)) _ _ n p _ (λ n p. refl) refl;

@@ -24,18 +24,15 @@ use Rattle.rules.specs.Told.{fine}
 use Rattle.rules.specs.declared.Component.{Component}
 use Rattle.rules.specs.declared.Search.{Search}
 use Rattle.rules.specs.declared.Template.{Template}
-use Rattle.rules.proofs.Tests.{neither, both, not-false}
+use Rattle.rules.proofs.Tests.{neither, both, not-false, two}
 use Rattle.rules.proofs.Verdicts.{inside, refuse-if-fine, refuse-at-fine, none-bad, all-good, none-bad-in, all-good-in}
 
 not-less : (a b : ℕ) → (ltb a b ≡ false) ↔ (b ≤ a)
 not-less a b = (ltb-false a b, le-ltb a b)
 
-same : (a b : ℕ) → (eqb a b ≡ true) ↔ (a ≡ b)
+-- numbers are the same exactly if the test says so
+pub same : (a b : ℕ) → (eqb a b ≡ true) ↔ (a ≡ b)
 same a b = (eqb-true a b, eq-eqb a b)
-
--- two tests, of which each says something
-two : {P Q : Type 0} (a b : Bool) → (a ≡ true) ↔ P → (b ≡ true) ↔ Q → (a && b ≡ true) ↔ (P × Q)
-two a b p q = (λ e. let h = both a b .0 e in (p .0 (h .0), q .0 (h .1)), λ h. both a b .1 (p .1 (h .0), q .1 (h .1)))
 
 -- a check whose test says nothing against P
 says : {P : Type 0} (b : Bool) (n : ℕ) → (b ≡ false) ↔ P → (refuse-if b n ≡ fine) ↔ P

@@ -29,6 +29,7 @@ pub mod Exact
 pub mod Few
 pub mod Lower
 pub mod Verdicts
+pub mod First
 pub mod EachCheck
 pub mod LaidOut
 pub mod Sound
@@ -38,9 +39,11 @@ pub mod LowFirst
 pub mod Records
 pub mod RoundTrip
 pub mod Rewritten
+pub mod Laid
 pub mod Truncated
 pub mod Saves
 pub mod Places
+pub mod Refused
 pub mod Begins
 pub mod Relayed
 pub mod Completes

@@ -28,7 +28,8 @@ use Rattle.rules.proofs.Searches.{walk-lawful}
 use Rattle.rules.proofs.Sound.{SoundSearch}
 use Rattle.rules.proofs.Tests.{both, or-cases, or-true}
 
-same-place : (p q : Place) → p .letters ≡ q .letters → p .number ≡ q .number → p ≡ q
+-- places of as many letters with the same number are one
+pub same-place : (p q : Place) → p .letters ≡ q .letters → p .number ≡ q .number → p ≡ q
 same-place p q a b = λ i. record { letters = a i; number = b i }
 
 -- the place rule holds wherever the search passes

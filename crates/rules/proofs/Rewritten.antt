@@ -116,7 +116,7 @@ map-first f g i (suc n) zero h e = absurd (omega arith)
 map-first f g i (suc n) (suc m) h e = rw (e i (omega arith), map-first f g (suc i) n m (omega arith) (λ k l. e k (omega arith)))
 
 -- and its components are those that the records hold
-read-components : (bs : List ℕ) → component-count bs ≤ Template-COMPONENTS
+pub read-components : (bs : List ℕ) → component-count bs ≤ Template-COMPONENTS
     → components (read-template bs) ≡ map (λ i. read-component (record-at bs i)) (run 1 (component-count bs))
 unfolding components read-template run
 read-components bs h =

@@ -16,6 +16,7 @@ pub mod Saved
 pub mod Join
 pub mod Recovery
 pub mod Refusals
+pub mod Refused
 pub mod Sound
 pub mod Calls
 pub mod Relay

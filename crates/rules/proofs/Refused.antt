@@ -1,0 +1,281 @@
+-- WHAT EACH REFUSAL SAYS: a check refuses, with its number, exactly if the paper's sentence holds of what it is given, and tells
+-- the place that the paper names, or 0. The statements stand in front, the proofs behind them: each check is a test, and a test
+-- that applies says what it tests.
+use mathlib.Core.Path.{_≡_, refl, sym, ap, _∙_}
+use mathlib.Core.Logic.{_↔_, Iff·trans, Iff·rfl, _⊎_, inl, inr, ⊎-elim, ⊎-swap}
+use mathlib.Core.Bool.{Bool, true, false, _&&_, not, false≢true}
+use mathlib.Core.List.{List, [], _∷_}
+use Prim.Native.Nat.{ℕ, zero, suc, _-_, _*_, _/_, _^_, _≤_, _<_}
+use native.Mathlib.Omega.{arith}
+use lib.Dec.{eqb, leb, ltb}
+use lib.ListN.{length, getD}
+use borrow.Author.Tests.{ltb-true, ltb-false, leb-true, leb-false, lt-ltb, le-ltb, lt-leb, le-leb}
+use Rattle.rules.specs.Join.{rising?}
+use Rattle.rules.specs.Letters.{value, letter?}
+use Rattle.rules.specs.Limits.{Letter-BASES, Record-BYTES, Record-EXTRA, Template-COMPONENTS, Template-LENGTH, Template-LETTERS, Template-GAP, SequenceSet-SEQUENCES, SequenceSet-LETTERS}
+use Rattle.rules.specs.Lists.{if, sum}
+use Rattle.rules.specs.Profile.{exactly, profile-of}
+use Rattle.rules.specs.Recovery.{whole-list}
+use Rattle.rules.specs.Refusals.{refuse-if, outside, bad-byte, bad-length, bad-range, bad-gap, check1, check2, check3, check4, check5, check6, check7, check8, check9, check10, check11, check11-place, check12, passes?, check13, check14, check15, check6-head, check8-range, check16, check17}
+use Rattle.rules.specs.Refused.{FirstBad, RefusesAt, RefusesIf, Outside, IsLetter, numbered, BadRange, BadGap, RecordsLaid, saved-size, saved-lengths, saved-place, PlaceRule, Frequent, CandidateIn, BadList}
+use Rattle.rules.specs.Saved.{record-count, component-count, read-template, sized?}
+use Rattle.rules.specs.Sequences.{sequences}
+use Rattle.rules.specs.Support.{frequent, reaches}
+use Rattle.rules.specs.Template.{components, size, none}
+use Rattle.rules.specs.Told.{Verdict, fine, refused}
+use Rattle.rules.specs.Walk.{ended-place, walk-in, walk-over, walk-of, candidate}
+use Rattle.rules.specs.declared.Component.{Component}
+use Rattle.rules.specs.declared.Search.{Search}
+use Rattle.rules.specs.declared.Template.{Template}
+use Rattle.rules.proofs.EachCheck.{same, check11-fine, check13-fine}
+use Rattle.rules.proofs.Exact.{exact-base, exact-most, exact-valid, exact-may, exact-frequent}
+use Rattle.rules.proofs.First.{first-bad-at}
+use Rattle.rules.proofs.Laid.{place-rule-says, laid-says, laid-fails}
+use Rattle.rules.proofs.Places.{same-place}
+use Rattle.rules.proofs.Plain.{candidate-plain}
+use Rattle.rules.proofs.Tests.{neither, and-false, two, either, denied, one-fails, of-three-fails}
+use Rattle.rules.proofs.Verdicts.{never}
+
+-- What the paper says of K, places and motif numbers it says of an exact search, and every template asks for one (`Demand2.exact`)
+pub record EachRefusal : Type 0 where
+  -- 1: number of sequences
+  pub one : (lengths : List ℕ) → RefusesIf (check1 lengths) 1 (Outside 1 SequenceSet-SEQUENCES (length lengths))
+  -- 2: letter buffer above 65,536 bytes
+  pub two : (letters : List ℕ) → RefusesIf (check2 letters) 2 (SequenceSet-LETTERS < length letters)
+  -- 3: lengths do not add up to the buffer
+  pub three : (letters lengths : List ℕ) → RefusesIf (check3 letters lengths) 3 (sum lengths ≡ length letters → ⊥)
+  -- 4: byte that is no letter, with the offset of the first
+  pub four : (letters : List ℕ) → RefusesAt (check4 letters) 4 (FirstBad 0 (length letters) (λ o. IsLetter (getD letters o 0) → ⊥))
+  -- 5: number of components
+  pub five : (t : Template) → RefusesIf (check5 t) 5 (Outside 1 Template-COMPONENTS (t .count))
+  -- 6: component length, with the first such component; and of a join's head, with place 1
+  pub six : (t : Template) → RefusesAt (check6 t) 6 (FirstBad 1 (length (components t)) (λ i. Outside 1 Template-LENGTH (numbered t i .length)))
+  pub six-head : (head : ℕ) → RefusesAt (check6-head head) 6 (λ p. (p ≡ 1) × Outside 1 Template-LENGTH head)
+  -- 7: K above 32
+  pub seven : (t : Template) → profile-of t ≡ exactly → RefusesIf (check7 t) 7 (Template-LETTERS < size t)
+  -- 8: gap range, also a first component's that is not 0, 0, with the first such component; in a join only l <= u, 0 to 255, with place 1
+  pub eight : (t : Template) → RefusesAt (check8 t) 8 (FirstBad 1 (length (components t)) (λ i. BadGap i (numbered t i)))
+  pub eight-range : (low high : ℕ) → RefusesAt (check8-range low high) 8 (λ p. (p ≡ 1) × BadRange low high)
+  -- 9: quorum
+  pub nine : (lengths : List ℕ) (quorum : ℕ) → RefusesIf (check9 lengths quorum) 9 (Outside 1 (length lengths) quorum)
+  -- 10: saved bytes fewer than 16, record count below 2, or length not 16 times the count
+  pub ten : (bs : List ℕ) → RefusesIf (check10 bs) 10 ((length bs < Record-BYTES) ⊎ (record-count bs < Record-EXTRA) ⊎ (length bs ≡ Record-BYTES * record-count bs → ⊥))
+  -- 11: a record breaks its layout, K is not the sum of lengths, or the place breaks its rule. By then 5 has been fine, and so
+  -- there are no more components than a template has
+  pub eleven : (bs : List ℕ) → component-count bs ≤ Template-COMPONENTS → profile-of (read-template bs) ≡ exactly
+      → RefusesIf (check11 bs) 11 ((RecordsLaid bs → ⊥) ⊎ (saved-size bs ≡ sum (saved-lengths bs) → ⊥) ⊎ (PlaceRule (sum (saved-lengths bs)) (saved-place bs) → ⊥))
+  pub eleven-fine : (bs : List ℕ) → component-count bs ≤ Template-COMPONENTS → profile-of (read-template bs) ≡ exactly
+      → (check11 bs ≡ fine) ↔ (RecordsLaid bs × (saved-size bs ≡ sum (saved-lengths bs)) × PlaceRule (sum (saved-lengths bs)) (saved-place bs))
+  -- of a search value, the place breaks its rule
+  pub eleven-place : (s : Search) → profile-of (s .template) ≡ exactly → RefusesIf (check11-place s) 11 (PlaceRule (size (s .template)) (s .place) → ⊥)
+  -- 12: sequence or letter count differs from the lent ones
+  pub twelve : (letters lengths : List ℕ) (s : Search)
+      → RefusesIf (check12 letters lengths s) 12 ((s .set .sequences ≡ length lengths → ⊥) ⊎ (s .set .letters ≡ length letters → ⊥))
+  -- 13: place is neither a candidate of this search nor the ended place. By then 11 has been fine, and so the place keeps its rule
+  pub thirteen : (letters lengths : List ℕ) (s : Search) → profile-of (s .template) ≡ exactly → PlaceRule (size (s .template)) (s .place)
+      → RefusesIf (check13 letters lengths s) 13 ((CandidateIn (s .template) (s .quorum) (sequences letters lengths) (s .place) → ⊥) × (s .place ≡ ended-place → ⊥))
+  pub thirteen-fine : (letters lengths : List ℕ) (s : Search) → profile-of (s .template) ≡ exactly → PlaceRule (size (s .template)) (s .place)
+      → (check13 letters lengths s ≡ fine) ↔ (CandidateIn (s .template) (s .quorum) (sequences letters lengths) (s .place) ⊎ (s .place ≡ ended-place))
+  -- 14: motif number not below 4^K
+  pub fourteen : (t : Template) → profile-of t ≡ exactly → (m : ℕ) → RefusesIf (check14 t m) 14 (Letter-BASES ^ size t ≤ m)
+  -- 15: first row above the list's length
+  pub fifteen : (letters lengths : List ℕ) (t : Template) (m f : ℕ)
+      → RefusesIf (check15 letters lengths t m f) 15 (length (whole-list t (sequences letters lengths) m) < f)
+  -- 16: join list not strictly rising, or a position outside 1 to 65,536
+  pub sixteen : (xs ys : List ℕ) → RefusesIf (check16 xs ys) 16 (BadList xs ⊎ BadList ys)
+  -- 17: save buffer shorter than the save, or join table shorter than the first list
+  pub seventeen : (needed : ℕ) (out : List ℕ) → RefusesIf (check17 needed out) 17 (length out < needed)
+
+-- ---- one check
+
+-- a test that applies makes a check refuse, at the place k
+refuses-at : {P : Type 0} (b : Bool) (n k : ℕ) → (b ≡ true) ↔ P → RefusesAt (if b (refused n k) fine) n (λ p. (p ≡ k) × P)
+refuses-at true n k s m p = (λ e. let q : m ≡ n = cc in let z : p ≡ k = cc in (q, (z, s .0 refl)), λ h. rw (h .0, h .1 .0))
+refuses-at false n k s m p = (λ e. never m p (sym e), λ h. absurd (false≢true (s .1 (h .1 .1))))
+
+-- or at none
+refuses-if : {P : Type 0} (b : Bool) (n : ℕ) → (b ≡ true) ↔ P → RefusesIf (refuse-if b n) n P
+refuses-if b n = refuses-at b n 0
+
+-- a check that wants a test to pass refuses if it fails
+not-says : {P : Type 0} (b : Bool) → (b ≡ false) ↔ P → (not b ≡ true) ↔ P
+not-says true s = (λ e. absurd (false≢true e), λ x. absurd (false≢true (sym (s .1 x))))
+not-says false s = (λ e. s .0 refl, λ x. refl)
+
+refuses-unless : {P : Type 0} (b : Bool) (n : ℕ) → (b ≡ false) ↔ P → RefusesIf (refuse-if (not b) n) n P
+refuses-unless b n s = refuses-if (not b) n (not-says b s)
+
+-- ---- numbers
+
+-- a test of numbers that applies, or fails
+less : (a b : ℕ) → (ltb a b ≡ true) ↔ (a < b)
+less a b = (ltb-true a b, lt-ltb a b)
+
+above : (a b : ℕ) → (leb a b ≡ false) ↔ (b < a)
+above a b = (leb-false a b, lt-leb a b)
+
+-- a number lies outside its limits
+outside-says : (low high x : ℕ) → (outside low high x ≡ true) ↔ Outside low high x
+outside-says low high x = either _ _ (less x low) (less high x)
+
+-- two numbers differ
+differ : (a b : ℕ) → (eqb a b ≡ false) ↔ (a ≡ b → ⊥)
+differ a b = denied (eqb a b) (same a b)
+
+-- ---- the first bad one
+
+-- two ways to be bad that say the same have the same first one
+first-same : {P Q : ℕ → Type 0} {v : Verdict} {n k l : ℕ} → ((p : ℕ) → P p ↔ Q p) → RefusesAt v n (FirstBad k l P) → RefusesAt v n (FirstBad k l Q)
+first-same {P} {Q} s r m p = (
+  λ e. let h = r m p .0 e in let f = h .1 in (h .0, record { least = f .least; most = f .most; bad = s p .0 (f .bad); before = λ q a b c. f .before q a b (s q .1 c) }),
+  λ h. let f = h .1 in r m p .1 (h .0, record { least = f .least; most = f .most; bad = s p .1 (f .bad); before = λ q a b c. f .before q a b (s q .0 c) }),
+)
+
+-- a byte is a letter exactly if it is one of the four
+letter-says : (b : ℕ) → (letter? b ≡ true) ↔ IsLetter b
+unfolding letter? value
+letter-says b = (go (eqb b 65) (eqb b 67) (eqb b 71) (eqb b 84) (same b 65 .0) (same b 67 .0) (same b 71 .0) (same b 84 .0), back)
+  where
+    go : (a c g t : Bool) → (a ≡ true → b ≡ 65) → (c ≡ true → b ≡ 67) → (g ≡ true → b ≡ 71) → (t ≡ true → b ≡ 84) → not (eqb (if a 0 (if c 1 (if g 2 (if t 3 4)))) 4) ≡ true → IsLetter b
+    go true c g t A C G T e = inl (A refl)
+    go false true g t A C G T e = inr (inl (C refl))
+    go false false true t A C G T e = inr (inr (inl (G refl)))
+    go false false false true A C G T e = inr (inr (inr (T refl)))
+    go false false false false A C G T e = absurd (false≢true e)
+
+    back : IsLetter b → letter? b ≡ true
+    back (inl e) = rw e
+    back (inr (inl e)) = rw e
+    back (inr (inr (inl e))) = rw e
+    back (inr (inr (inr e))) = rw e
+
+-- a range is bad
+range-says : (low high : ℕ) → (bad-range low high ≡ true) ↔ BadRange low high
+range-says low high = either _ _ (less high low) (less Template-GAP high)
+
+-- or a component's, where the first one's must be 0, 0
+gap-says : (i : ℕ) (c : Component) → (bad-gap i c ≡ true) ↔ BadGap i c
+gap-says i c = either _ _ (range-says (c .low) (c .high)) (two _ _ (same i 1) (not-says _ (denied _ (two _ _ (same (c .low) 0) (same (c .high) 0)))))
+
+-- ---- candidates
+
+module _ (t : Template) (e : profile-of t ≡ exactly) (quorum : ℕ) (ss : List (List ℕ)) where
+  -- a prefix is frequent by its support, and the empty one always
+  frequent-says : (j m : ℕ) → (frequent t quorum ss j m ≡ true) ↔ Frequent t quorum ss j m
+  unfolding reaches
+  frequent-says zero m = (λ q. inl refl, λ h. refl)
+  frequent-says (suc j) m = rw (exact-frequent t e quorum ss (suc j) m (omega arith)) (λ h. inr (leb-true _ _ h), ⊎-elim (λ q. absurd (omega arith)) (le-leb _ _))
+
+  -- a prefix is a candidate exactly if it has a letter and the one that is a letter shorter is frequent
+  candidate-says : (j m : ℕ) → (candidate (walk-over t quorum ss) j m ≡ true) ↔ ((1 ≤ j) × Frequent t quorum ss (j - 1) (m / Letter-BASES))
+  unfolding candidate walk-in
+  candidate-says zero m = (λ q. absurd (false≢true q), λ h. absurd (omega arith))
+  candidate-says (suc j) m =
+      let z : suc j - 1 ≡ j = omega arith in
+      let c : candidate (walk-over t quorum ss) (suc j) m ≡ frequent t quorum ss j (m / Letter-BASES) =
+      candidate-plain (walk-over t quorum ss) (exact-may t e quorum ss) j m ∙ ap (λ b. frequent t quorum ss j (m / b)) (exact-base t e) in
+      rw (c, z)
+      (Iff·trans (frequent-says j (m / Letter-BASES)) (λ h. (omega arith, h), λ h. h .1))
+
+module _ (letters lengths : List ℕ) (s : Search) (e : profile-of (s .template) ≡ exactly) (rule : PlaceRule (size (s .template)) (s .place)) where
+  -- the place of a search is a candidate
+  abbrev Here : Type 0
+  Here = CandidateIn (s .template) (s .quorum) (sequences letters lengths) (s .place)
+
+  here-says : (candidate (walk-of letters lengths s) (s .place .letters) (s .place .number) ≡ true) ↔ Here
+  here-says =
+      Iff·trans (candidate-says (s .template) e (s .quorum) (sequences letters lengths) (s .place .letters) (s .place .number))
+      (λ h. record { some = h .0; most = rule .most; below = rule .below; shorter = h .1 }, λ h. (h .some, h .shorter))
+
+  -- or the ended place
+  ended-says : (eqb (s .place .letters) 0 && eqb (s .place .number) 0 ≡ true) ↔ (s .place ≡ ended-place)
+  ended-says = Iff·trans (two _ _ (same (s .place .letters) 0) (same (s .place .number) 0)) (λ h. same-place (s .place) ended-place (h .0) (h .1), λ q. (ap (λ p. p .letters) q, ap (λ p. p .number) q))
+
+  -- the test of 13 passes a candidate and the ended place
+  passes-says : (passes? letters lengths s ≡ true) ↔ (Here ⊎ (s .place ≡ ended-place))
+  unfolding passes?
+  passes-says = Iff·trans (either _ _ ended-says here-says) (⊎-swap, ⊎-swap)
+
+  -- and nothing else
+  passes-not : (passes? letters lengths s ≡ false) ↔ ((Here → ⊥) × (s .place ≡ ended-place → ⊥))
+  unfolding passes?
+  passes-not = Iff·trans (neither _ _) (λ h. (denied _ here-says .0 (h .1), denied _ ended-says .0 (h .0)), λ h. (denied _ ended-says .1 (h .1), denied _ here-says .1 (h .0)))
+
+-- ---- a join's list
+
+-- a list that does not rise from above l begins at l or below it, or is bad
+not-rising : (l : ℕ) (xs : List ℕ) → rising? l xs ≡ false → ((0 < length xs) × (getD xs 0 0 ≤ l)) ⊎ BadList xs
+unfolding rising?
+not-rising l [] e = absurd (false≢true (sym e))
+not-rising l (x ∷ xs) e = go (of-three-fails _ _ _ Iff·rfl Iff·rfl Iff·rfl .0 e) (not-rising x xs)
+  where
+    later : ((0 < length xs) × (getD xs 0 0 ≤ x)) ⊎ BadList xs → BadList (x ∷ xs)
+    later (inl h) = inl (0, omega (arith, h .0), h .1)
+    later (inr (inl (i, h, b))) = inl (suc i, omega arith, b)
+    later (inr (inr (i, h, b))) = inr (suc i, omega arith, b)
+
+    go : (ltb l x ≡ false) ⊎ (leb x SequenceSet-LETTERS ≡ false) ⊎ (rising? x xs ≡ false) → (rising? x xs ≡ false → ((0 < length xs) × (getD xs 0 0 ≤ x)) ⊎ BadList xs)
+        → ((0 < suc (length xs)) × (x ≤ l)) ⊎ BadList (x ∷ xs)
+    go (inl q) ih = inl (omega arith, ltb-false l x q)
+    go (inr (inl q)) ih = inr (inr (0, omega arith, inr (leb-false x SequenceSet-LETTERS q)))
+    go (inr (inr q)) ih = inr (later (ih q))
+
+-- a list with two positions that do not rise does not rise
+pair-falls : (l : ℕ) (xs : List ℕ) (i : ℕ) → suc i < length xs → getD xs (suc i) 0 ≤ getD xs i 0 → rising? l xs ≡ false
+unfolding rising?
+pair-falls l [] i h b = absurd (omega arith)
+pair-falls l (x ∷ []) i h b = absurd (omega arith)
+pair-falls l (x ∷ y ∷ ys) zero h b = rw (le-ltb x y b) (and-false (ltb l x && leb x SequenceSet-LETTERS))
+pair-falls l (x ∷ y ∷ ys) (suc i) h b = rw (pair-falls x (y ∷ ys) i (omega arith) b) (and-false (ltb l x && leb x SequenceSet-LETTERS))
+
+-- nor does one with a position outside 1 to 65,536
+one-misplaced : (l : ℕ) (xs : List ℕ) (i : ℕ) → i < length xs → Outside 1 SequenceSet-LETTERS (getD xs i 0) → rising? l xs ≡ false
+unfolding rising?
+one-misplaced l [] i h b = absurd (omega arith)
+one-misplaced l (x ∷ xs) zero h (inl b) = rw (le-ltb l x (omega arith))
+one-misplaced l (x ∷ xs) zero h (inr b) = rw (lt-leb x SequenceSet-LETTERS b, and-false (ltb l x))
+one-misplaced l (x ∷ xs) (suc i) h b = rw (one-misplaced x xs i (omega arith) b) (and-false (ltb l x && leb x SequenceSet-LETTERS))
+
+-- so a list rises from above 0 exactly if it is not bad
+rising-says : (xs : List ℕ) → (rising? 0 xs ≡ false) ↔ BadList xs
+rising-says xs = (
+  λ e. ⊎-elim (λ h. inr (0, h .0, inl (omega (arith, h .1)))) (λ b. b) (not-rising 0 xs e),
+  ⊎-elim (λ h. pair-falls 0 xs (h .0) (h .1) (h .2)) (λ h. one-misplaced 0 xs (h .0) (h .1) (h .2)),
+)
+
+-- ---- saved bytes
+
+-- bytes have not the length that they say
+sized-fails : (bs : List ℕ) → (sized? bs ≡ false) ↔ ((length bs < Record-BYTES) ⊎ (record-count bs < Record-EXTRA) ⊎ (length bs ≡ Record-BYTES * record-count bs → ⊥))
+unfolding sized?
+sized-fails bs = of-three-fails _ _ _ (above Record-BYTES (length bs)) (above Record-EXTRA (record-count bs)) (differ _ _)
+
+-- ---- all of them
+
+pub each-refusal : EachRefusal
+unfolding check1 check2 check3 check4 check5 check6 check6-head check7 check8 check8-range check9 check10 check11 check11-place check12 check13 check14 check15 check16 check17
+each-refusal =
+    record {
+      one = λ lengths. refuses-if _ 1 (outside-says 1 SequenceSet-SEQUENCES (length lengths));
+      two = λ letters. refuses-if _ 2 (less SequenceSet-LETTERS (length letters));
+      three = λ letters lengths. refuses-unless _ 3 (differ (sum lengths) (length letters));
+      four = λ letters. first-same (λ o. let z : o - 0 ≡ o = omega arith in rw z (not-says _ (denied _ (letter-says (getD letters o 0))))) (first-bad-at 4 bad-byte 0 0 letters);
+      five = λ t. refuses-if _ 5 (outside-says 1 Template-COMPONENTS (t .count));
+      six = λ t. first-same (λ i. outside-says 1 Template-LENGTH (numbered t i .length)) (first-bad-at 6 bad-length none 1 (components t));
+      six-head = λ head. refuses-at _ 6 1 (outside-says 1 Template-LENGTH head);
+      seven = λ t e. rw (exact-most t e) (refuses-if _ 7 (less Template-LETTERS (size t)));
+      eight = λ t. first-same (λ i. gap-says i (numbered t i)) (first-bad-at 8 bad-gap none 1 (components t));
+      eight-range = λ low high. refuses-at _ 8 1 (range-says low high);
+      nine = λ lengths quorum. refuses-if _ 9 (outside-says 1 (length lengths) quorum);
+      ten = λ bs. refuses-unless _ 10 (sized-fails bs);
+      eleven = λ bs few e. refuses-unless _ 11 (laid-fails bs few e);
+      eleven-fine = λ bs few e. Iff·trans (check11-fine bs) (laid-says bs few e);
+      eleven-place = λ s e. refuses-unless _ 11 (denied _ (place-rule-says (s .template) e (s .place)));
+      twelve = λ letters lengths s. refuses-unless _ 12 (one-fails _ _ (differ (s .set .sequences) (length lengths)) (differ (s .set .letters) (length letters)));
+      thirteen = λ letters lengths s e r. refuses-unless _ 13 (passes-not letters lengths s e r);
+      thirteen-fine = λ letters lengths s e r. Iff·trans (check13-fine letters lengths s) (passes-says letters lengths s e r);
+      fourteen = λ t e m. rw (exact-valid t e (size t) m) (refuses-unless _ 14 (ltb-false m _, le-ltb m _));
+      fifteen = λ letters lengths t m f. refuses-if _ 15 (less _ f);
+      sixteen = λ xs ys. refuses-unless _ 16 (one-fails _ _ (rising-says xs) (rising-says ys));
+      seventeen = λ needed out. refuses-if _ 17 (less (length out) needed);
+    }
