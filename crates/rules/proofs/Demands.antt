@@ -18,7 +18,7 @@ use Rattle.rules.specs.Order.{InOrder, Rising}
 use Rattle.rules.specs.Profile.{exactly, profile-of, base-of}
 use Rattle.rules.specs.Recovery.{whole-list, page}
 use Rattle.rules.specs.Refusals.{first, new-checks, restore-checks, search-checks, save-checks, recover-checks, join-checks}
-use Rattle.rules.specs.Refused.{FirstOf}
+use Rattle.rules.specs.Refused.{FirstOf, Stays}
 use Rattle.rules.specs.Relay.{frequent-motifs, whole-steps, Complete, Lent, Roomy, Ample, after, alone, relay, Relayed}
 use Rattle.rules.specs.Saved.{bytes, sized?, laid-out?, read-search}
 use Rattle.rules.specs.Sequences.{sequences}
@@ -46,6 +46,7 @@ use Rattle.rules.proofs.Refused.{EachRefusal, each-refusal}
 use Rattle.rules.proofs.Searches.{walk-lawful, list-rises, list-holds}
 use Rattle.rules.proofs.Saves.{restore-exactly, restore-saved, save-restored, cut-refused}
 use Rattle.rules.proofs.Sound.{SoundSearch, SoundBytes, search-sound}
+use Rattle.rules.proofs.Stays.{save-stays, recover-stays, join-stays, leg-stays}
 use Rattle.rules.proofs.Tables.{put-front}
 use Rattle.rules.proofs.Ways.{support-counts, support-sequences}
 
@@ -68,18 +69,29 @@ pub record Demand1 : Type 0 where
       → first (search-checks letters lengths s) ≡ refused n p
       → leg-rule letters lengths s budget motifs supports weights
       ≡ record { told = record { answer = refuses n p; steps = 0; rows = 0; search = s }; motifs = motifs; supports = supports; weights = weights }
+  -- past its rows each of a leg's tables stays
+  pub leg-stays : (letters lengths : List ℕ) (s : Search) (budget : ℕ) (motifs supports weights : List ℕ)
+      → let l = leg-rule letters lengths s budget motifs supports weights in let n = l .told .rows in
+      Stays n motifs (l .motifs) × Stays n supports (l .supports) × Stays n weights (l .weights)
   pub save : (letters lengths : List ℕ) (s : Search) (out : List ℕ) (n p : ℕ)
       → ((save-rule letters lengths s out) .told ≡ refuses n p) ↔ (first (save-checks letters lengths s out) ≡ refused n p)
   pub save-leaves : (letters lengths : List ℕ) (s : Search) (out : List ℕ) (n p : ℕ)
       → first (save-checks letters lengths s out) ≡ refused n p → save-rule letters lengths s out ≡ record { told = refuses n p; out = out }
+  -- past the last thing that a save, a recovery or a join writes, its buffer stays
+  pub save-stays : (letters lengths : List ℕ) (s : Search) (out : List ℕ) (k : ℕ) → (save-rule letters lengths s out) .told ≡ gives k
+      → Stays k out ((save-rule letters lengths s out) .out)
   pub recover : (letters lengths : List ℕ) (t : Template) (m f : ℕ) (out : List ℕ) (n p : ℕ)
       → ((recover-rule letters lengths t m f out) .told ≡ refuses n p) ↔ (first (recover-checks letters lengths t m f) ≡ refused n p)
   pub recover-leaves : (letters lengths : List ℕ) (t : Template) (m f : ℕ) (out : List ℕ) (n p : ℕ)
       → first (recover-checks letters lengths t m f) ≡ refused n p → recover-rule letters lengths t m f out ≡ record { told = refuses n p; out = out }
+  pub recover-stays : (letters lengths : List ℕ) (t : Template) (m f : ℕ) (out : List ℕ) (c : Counts) → (recover-rule letters lengths t m f out) .told ≡ gives c
+      → Stays (c .rows * suc (t .count)) out ((recover-rule letters lengths t m f out) .out)
   pub join : (xs ys : List ℕ) (head low high : ℕ) (out : List ℕ) (n p : ℕ)
       → ((join-rule xs ys head low high out) .told ≡ refuses n p) ↔ (first (join-checks xs ys head low high out) ≡ refused n p)
   pub join-leaves : (xs ys : List ℕ) (head low high : ℕ) (out : List ℕ) (n p : ℕ)
       → first (join-checks xs ys head low high out) ≡ refused n p → join-rule xs ys head low high out ≡ record { told = refuses n p; out = out }
+  pub join-stays : (xs ys : List ℕ) (head low high : ℕ) (out : List ℕ) (k : ℕ) → (join-rule xs ys head low high out) .told ≡ gives k
+      → Stays k out ((join-rule xs ys head low high out) .out)
 
 -- ---- DEMAND 2: the list
 
@@ -184,12 +196,16 @@ demand1 =
       restore = λ letters lengths bs n p. unless-refuses _ _ n p;
       leg = λ letters lengths s budget motifs supports weights n p. leg-refused (first (search-checks letters lengths s)) _ _ n p _ (λ n p. refl) refl;
       leg-leaves = λ letters lengths s budget motifs supports weights n p e. rw e;
+      leg-stays = leg-stays;
       save = λ letters lengths s out n p. written-refuses _ _ _ out n p;
       save-leaves = λ letters lengths s out n p e. rw e;
+      save-stays = save-stays;
       recover = λ letters lengths t m f out n p. written-refuses _ _ _ out n p;
       recover-leaves = λ letters lengths t m f out n p e. rw e;
+      recover-stays = recover-stays;
       join = λ xs ys head low high out n p. written-refuses _ _ _ out n p;
       join-leaves = λ xs ys head low high out n p e. rw e;
+      join-stays = join-stays;
     }
 
 -- a leg that ended is a relay of one leg

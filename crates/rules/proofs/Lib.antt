@@ -44,6 +44,7 @@ pub mod Truncated
 pub mod Saves
 pub mod Places
 pub mod Refused
+pub mod Stays
 pub mod Begins
 pub mod Relayed
 pub mod Completes

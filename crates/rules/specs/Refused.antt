@@ -121,3 +121,8 @@ Misplaced xs = (i : ℕ) × (i < length xs) × Outside 1 SequenceSet-LETTERS (ge
 
 abbrev pub BadList : List ℕ → Type 0
 BadList xs = NotRising xs ⊎ Misplaced xs
+
+-- WHAT STAYS of a table past the first n: it is as long as before, and holds what it held there
+pub record Stays (n : ℕ) (before after : List ℕ) : Type 0 where
+  pub long : length after ≡ length before
+  pub past : (i : ℕ) → n ≤ i → getD after i 0 ≡ getD before i 0
