@@ -15,8 +15,9 @@ use Rattle.rules.specs.Limits.{Record-SIZE, Record-COMPONENT, Record-PLA
 use Rattle.rules.specs.Lists.{all?, run, sum}
 use Rattle.rules.specs.Profile.{profile-of, exactly}
 use Rattle.rules.specs.Refused.{byte, Blank, SizeLaid, ComponentLaid, PlaceLaid, RecordsLaid, saved-size, saved-lengths, saved-place, PlaceRule}
-use Rattle.rules.specs.Saved.{read-low, record-at, field, component-count, read-component, read-place, read-template, blank?, size-record?, component-record?, place-record?, component-records?, place-rule?, laid-out?}
+use Rattle.rules.specs.Saved.{read-low, record-at, field, component-count, read-component, read-place, read-template, read-search, blank?, size-record?, component-record?, place-record?, component-records?, place-rule?, laid-out?}
 use Rattle.rules.specs.Template.{size}
+use Rattle.rules.specs.Walk.{place}
 use Rattle.rules.specs.declared.Place.{Place}
 use Rattle.rules.specs.declared.Template.{Template}
 use Rattle.rules.proofs.EachCheck.{same}
@@ -113,6 +114,11 @@ saved-sum bs few = rw (read-components bs few) (ap sum (lengths (run 1 (componen
     lengths : (is : List ℕ) → map (λ c. c .length) (map (λ i. read-component (record-at bs i)) is) ≡ map (λ i. byte bs i 2) is
     lengths [] = refl
     lengths (i ∷ is) = rw (field-byte (record-at bs i) 2, lengths is)
+
+-- so the search that is read has the saved K and stands at the saved place
+pub saved-read : (bs : List ℕ) → component-count bs ≤ Template-COMPONENTS → (size (read-search bs .template) ≡ sum (saved-lengths bs)) × (read-search bs .place ≡ saved-place bs)
+unfolding read-search read-place
+saved-read bs few = (saved-sum bs few, ap (λ j. place j (field (record-at bs (suc (component-count bs))) 8 8)) (field-byte (record-at bs (suc (component-count bs))) 1))
 
 module _ (bs : List ℕ) (few : component-count bs ≤ Template-COMPONENTS) (exact : profile-of (read-template bs) ≡ exactly) where
   -- K is the sum of the lengths

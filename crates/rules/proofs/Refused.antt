@@ -18,7 +18,7 @@ use Rattle.rules.specs.Profile.{exactly, profile-of}
 use Rattle.rules.specs.Recovery.{whole-list}
 use Rattle.rules.specs.Refusals.{refuse-if, outside, bad-byte, bad-length, bad-range, bad-gap, check1, check2, check3, check4, check5, check6, check7, check8, check9, check10, check11, check11-place, check12, passes?, check13, check14, check15, check6-head, check8-range, check16, check17}
 use Rattle.rules.specs.Refused.{FirstBad, RefusesAt, RefusesIf, Outside, IsLetter, numbered, BadRange, BadGap, RecordsLaid, saved-size, saved-lengths, saved-place, PlaceRule, Frequent, CandidateIn, BadList}
-use Rattle.rules.specs.Saved.{record-count, component-count, read-template, sized?}
+use Rattle.rules.specs.Saved.{record-count, component-count, read-template, read-search, sized?}
 use Rattle.rules.specs.Sequences.{sequences}
 use Rattle.rules.specs.Support.{frequent, reaches}
 use Rattle.rules.specs.Template.{components, size, none}
@@ -30,7 +30,7 @@ use Rattle.rules.specs.declared.Template.{Template}
 use Rattle.rules.proofs.EachCheck.{same, check11-fine, check13-fine}
 use Rattle.rules.proofs.Exact.{exact-base, exact-most, exact-valid, exact-may, exact-frequent}
 use Rattle.rules.proofs.First.{first-bad-at}
-use Rattle.rules.proofs.Laid.{place-rule-says, laid-says, laid-fails}
+use Rattle.rules.proofs.Laid.{place-rule-says, saved-read, laid-says, laid-fails}
 use Rattle.rules.proofs.Places.{same-place}
 use Rattle.rules.proofs.Plain.{candidate-plain}
 use Rattle.rules.proofs.Tests.{neither, and-false, two, either, denied, one-fails, of-three-fails}
@@ -66,6 +66,9 @@ pub record EachRefusal : Type 0 where
       → RefusesIf (check11 bs) 11 ((RecordsLaid bs → ⊥) ⊎ (saved-size bs ≡ sum (saved-lengths bs) → ⊥) ⊎ (PlaceRule (sum (saved-lengths bs)) (saved-place bs) → ⊥))
   pub eleven-fine : (bs : List ℕ) → component-count bs ≤ Template-COMPONENTS → profile-of (read-template bs) ≡ exactly
       → (check11 bs ≡ fine) ↔ (RecordsLaid bs × (saved-size bs ≡ sum (saved-lengths bs)) × PlaceRule (sum (saved-lengths bs)) (saved-place bs))
+  -- the search that is read from them has that K and stands at that place
+  pub eleven-read : (bs : List ℕ) → component-count bs ≤ Template-COMPONENTS
+      → (size (read-search bs .template) ≡ sum (saved-lengths bs)) × (read-search bs .place ≡ saved-place bs)
   -- of a search value, the place breaks its rule
   pub eleven-place : (s : Search) → profile-of (s .template) ≡ exactly → RefusesIf (check11-place s) 11 (PlaceRule (size (s .template)) (s .place) → ⊥)
   -- 12: sequence or letter count differs from the lent ones
@@ -270,6 +273,7 @@ each-refusal =
       ten = λ bs. refuses-unless _ 10 (sized-fails bs);
       eleven = λ bs few e. refuses-unless _ 11 (laid-fails bs few e);
       eleven-fine = λ bs few e. Iff·trans (check11-fine bs) (laid-says bs few e);
+      eleven-read = saved-read;
       eleven-place = λ s e. refuses-unless _ 11 (denied _ (place-rule-says (s .template) e (s .place)));
       twelve = λ letters lengths s. refuses-unless _ 12 (one-fails _ _ (differ (s .set .sequences) (length lengths)) (differ (s .set .letters) (length letters)));
       thirteen = λ letters lengths s e r. refuses-unless _ 13 (passes-not letters lengths s e r);
