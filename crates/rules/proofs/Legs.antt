@@ -220,3 +220,27 @@ module _ (W : Walk) where
         go true e ih = ended-true (t .stop) e
         go false e ih = ih (omega (arith, eqb-false (t .at .letters) 0 (sym (r .says) ∙ e))) (r .fits)
             (omega (arith, r .counts, simp length-append at (ap length (r .split)), moves (g .budget) (g .room) p (a .0) (a .1) h))
+
+    -- one leg is enough, with a budget of as many and room for all that are listed: else a candidate is left, and for it a step of
+    -- the budget, or it is a motif and there is a row for it
+    pub leg-end : (b r : ℕ) (p : Place) → p .letters ≤ depth → length (from W p) ≤ b → length (listed W (from W p)) ≤ r → (leg W b r p) .stop ≡ ended
+    leg-end b r p k h l = go (t .stop) refl
+      where
+        t : Stretch
+        t = leg W b r p
+
+        q : Passed W p t
+        q = leg-law b r p k
+
+        left : ended? (t .stop) ≡ false → from W p ≡ q .taken ++ (t .at ∷ from W (next W (t .at)))
+        left e = q .split ∙ ap (λ ps. q .taken ++ ps) (step-at W pos (t .at) (omega (arith, eqb-false (t .at .letters) 0 (sym (q .says) ∙ e))) (q .fits))
+
+        rows : motif W (t .at) ≡ true → listed W (q .taken ++ (t .at ∷ from W (next W (t .at)))) ≡ t .motifs ++ (t .at .number ∷ listed W (from W (next W (t .at))))
+        rows m = listed-append W (q .taken) _ ∙ rw (q .lists, listed-take (t .at) (from W (next W (t .at))) m)
+
+        go : (a : Stop) → t .stop ≡ a → t .stop ≡ ended
+        go ended e = e
+        go spent e = absurd (omega (arith, leg-why b r p .if-spent e, q .counts, simp length-append at (ap length (left (ap ended? e)))))
+        go full e =
+            let w = leg-why b r p .if-full e in
+            absurd (omega (arith, w .0, simp length-append at (ap length (ap (listed W) (left (ap ended? e)) ∙ rows (w .1)))))

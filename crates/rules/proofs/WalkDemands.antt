@@ -24,17 +24,18 @@ use Rattle.rules.proofs.OccurrenceOrder.{keep-run-rising}
 use Rattle.rules.proofs.Passing.{Passing, passing-leg, passing-from, from-passing}
 use Rattle.rules.proofs.Prefix.{size-some}
 use Rattle.rules.proofs.Profiles.{lawful-in, spelled-in, good-whole, exactly-proper, mixed-proper, repeated-proper, substituted-proper}
-use Rattle.rules.proofs.Relay.{all-listed, all-tried, legs-enough}
+use Rattle.rules.proofs.Relay.{all-listed, all-tried, legs-enough, leg-enough}
 use Rattle.rules.proofs.Tests.{both}
 use Rattle.rules.proofs.Whole.{lists, tried}
 
 pub record WalkDemands (W : Walk) : Type 0 where
   -- 2: the list holds exactly the good motifs, each once, in letter order; the search lists it in as many steps as there are
-  -- candidates
+  -- candidates; and so does one leg that has budget and room for it
   pub holds : (m : ℕ) → List·Memᴰ m (motifs W) ↔ ((m < W .base ^ W .depth) × (spelled W (W .depth) m ≡ true) × (W .good (W .depth) m ≡ true))
   pub rises : Rising (motifs W)
   pub lists-it : listed W (from W (start W)) ≡ motifs W
   pub steps : length (from W (start W)) ≡ tries W (W .depth)
+  pub one-leg : (b r : ℕ) → tries W (W .depth) ≤ b → length (motifs W) ≤ r → (leg W b r (start W)) .stop ≡ ended
   -- 3: legs laid end to end are that list once one answers ended; they end; and each passes what lies between its places
   pub end-to-end : (gs : List Grant) → (legs W gs (start W)) .stop ≡ ended → ((legs W gs (start W)) .motifs ≡ motifs W) × ((legs W gs (start W)) .steps ≡ tries W (W .depth))
   pub ends : (gs : List Grant) → Ample gs → tries W (W .depth) ≤ length gs → (legs W gs (start W)) .stop ≡ ended
@@ -62,6 +63,7 @@ walk-demands W L =
       rises = motifs-rise W;
       lists-it = lists W L;
       steps = tried W L;
+      one-leg = leg-enough W L;
       end-to-end = λ gs e. (all-listed W L gs e, all-tried W L gs e);
       ends = legs-enough W L;
       between = leg-law W (L .pos);
