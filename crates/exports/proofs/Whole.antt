@@ -1,6 +1,6 @@
 -- What the exported calls that are made of two refuse: a begin what a new search refuses, and then 17; a leg what a restore
 -- refuses, and nothing else.
-use mathlib.Core.Path.{_≡_, refl}
+use mathlib.Core.Path.{_≡_, refl, ap, _∙_}
 use mathlib.Core.List.{List, [], _∷_, _++_}
 use Prim.Native.Nat.{ℕ}
 use lib.ListN.{length}
@@ -13,6 +13,7 @@ use Rattle.rules.specs.declared.Template.{Template}
 use Rattle.rules.proofs.Begins.{begins}
 use Rattle.rules.proofs.Saves.{restore-saved, restored-passes, restored-trimmed}
 use Rattle.rules.proofs.Sound.{search-fine}
+use Rattle.rules.proofs.Trimmed.{trimmed-same}
 use Rattle.rules.proofs.Verdicts.{first-append}
 use Rattle.exports.specs.Exported.{save-begun, leg-of, leg-from, leg-outcome}
 use Rattle.exports.specs.Numbers.{stopped, leg-told}
@@ -58,4 +59,6 @@ module _ (letters lengths : List ℕ) where
       leg-restores =
           let p = restored-passes letters lengths bs s e in
           let t = after-template letters lengths s budget motifs supports weights p in
-          rw e (restore-saved letters lengths _ (search-fine letters lengths _ (after-sound letters lengths s budget motifs supports weights p)) (rw t (restored-trimmed letters lengths bs s e)))
+          rw e
+          (restore-saved letters lengths _ (search-fine letters lengths _ (after-sound letters lengths s budget motifs supports weights p))
+          ∙ ap gives (trimmed-same _ (rw t (restored-trimmed letters lengths bs s e))))

@@ -2,16 +2,16 @@
 -- whose template reads as the one given.
 use mathlib.Core.Path.{_≡_, refl}
 use mathlib.Core.Logic.{inr}
-use mathlib.Core.List.{List}
+use mathlib.Core.List.{List, [], _∷_}
 use Prim.Native.Nat.{ℕ}
 use Rattle.rules.specs.Calls.{begun, begin-rule}
 use Rattle.rules.specs.Refusals.{first, new-checks}
+use Rattle.rules.specs.Relay.{Lent, Roomy}
 use Rattle.rules.specs.Sequences.{sequences}
 use Rattle.rules.specs.Sound.{SoundTemplate}
-use Rattle.rules.specs.Profile.{profile-of}
 use Rattle.rules.specs.Template.{trimmed}
 use Rattle.rules.specs.Told.{gives}
-use Rattle.rules.specs.Walk.{walk-in, walk-over, walk-of, first-place}
+use Rattle.rules.specs.Walk.{walk-over, walk-of, first-place}
 use Rattle.rules.specs.declared.Search.{Search}
 use Rattle.rules.specs.declared.Template.{Template}
 use Rattle.rules.proofs.Candidates.{first-candidate}
@@ -19,12 +19,13 @@ use Rattle.rules.proofs.Places.{passing-rule, passing-passes}
 use Rattle.rules.proofs.Searches.{walk-lawful}
 use Rattle.rules.proofs.Saves.{unless-gives}
 use Rattle.rules.proofs.Sound.{SoundNew, SoundSearch, new-sound}
-use Rattle.rules.proofs.Trimmed.{trimmed-twice, trimmed-sound, trimmed-size, trimmed-profile, trimmed-allowed, trimmed-measure}
+use Rattle.rules.proofs.Trimmed.{trimmed-twice, trimmed-sound, walk-trimmed}
 
--- the walk of a trimmed template is the walk of the template
-pub walk-trimmed : (t : Template) (quorum : ℕ) (ss : List (List ℕ)) → walk-over (trimmed t) quorum ss ≡ walk-over t quorum ss
-unfolding walk-in
-walk-trimmed t quorum ss = rw (trimmed-profile t, trimmed-allowed (profile-of t) t, trimmed-measure (profile-of t) t ss, trimmed-size t)
+-- buffers with room for a search's save have room for that of the search that is trimmed
+roomy-trimmed : (t : Template) (gs : List Lent) → Roomy t gs → Roomy (trimmed t) gs
+unfolding trimmed
+roomy-trimmed t [] h = tt
+roomy-trimmed t (g ∷ gs) h = (h .0, roomy-trimmed t gs (h .1))
 
 -- what begins
 pub record Beginning (letters lengths : List ℕ) (t : Template) (quorum : ℕ) (s : Search) : Type 0 where
@@ -34,6 +35,7 @@ pub record Beginning (letters lengths : List ℕ) (t : Template) (quorum : ℕ) 
   pub at : s .place ≡ first-place
   pub walk : walk-of letters lengths s ≡ walk-over t quorum (sequences letters lengths)
   pub template : SoundTemplate t
+  pub roomy : (gs : List Lent) → Roomy t gs → Roomy (s .template) gs
 
 module _ (letters lengths : List ℕ) (t : Template) (quorum : ℕ) where
   begun-sound : SoundNew letters lengths t quorum → SoundSearch letters lengths (begun letters lengths t quorum)
@@ -69,4 +71,5 @@ module _ (letters lengths : List ℕ) (t : Template) (quorum : ℕ) where
             at = refl;
             walk = walk-trimmed t quorum (sequences letters lengths);
             template = o .template;
+            roomy = roomy-trimmed t;
           }

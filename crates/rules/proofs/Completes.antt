@@ -2,25 +2,27 @@
 -- laws, read of the search that begins.
 use mathlib.Core.Path.{_≡_, sym, ap, _∙_, fun-ext}
 use mathlib.Core.List.{List, [], _∷_, map}
-use Prim.Native.Nat.{ℕ, _≤_}
+use Prim.Native.Nat.{ℕ, _+_, _*_, _≤_}
 use native.Mathlib.Omega.{arith}
-use lib.ListN.{length, length-map}
-use Rattle.rules.specs.Calls.{begun, motif-parts, supports-of, weights-of, begin-rule}
-use Rattle.rules.specs.Legs.{Stop, ended, Stretch, legs}
-use Rattle.rules.specs.Relay.{frequent-motifs, their-supports, their-weights, whole-steps, Complete, Lent, Roomy, Ample, relay}
+use lib.ListN.{length, take, replicate, length-map, length-replicate}
+use Rattle.rules.specs.Calls.{begun, motif-parts, supports-of, weights-of, begin-rule, LegRule, leg-rule}
+use Rattle.rules.specs.Legs.{Stop, ended, Stretch, leg, legs}
+use Rattle.rules.specs.Limits.{Record-BYTES, Record-EXTRA}
+use Rattle.rules.specs.Relay.{frequent-motifs, their-supports, their-weights, whole-steps, Complete, Lent, Roomy, Ample, Relayed, alone, after, relay}
 use Rattle.rules.specs.Sequences.{sequences}
 use Rattle.rules.specs.Support.{support, weight, parts}
 use Rattle.rules.specs.Template.{Part, size}
-use Rattle.rules.specs.Told.{gives}
-use Rattle.rules.specs.Walk.{Walk, Lawful, walk-in, walk-over, start, motifs, tries}
+use Rattle.rules.specs.Told.{Told, gives}
+use Rattle.rules.specs.Walk.{Walk, Lawful, walk-in, walk-over, walk-of, start, motifs, tries}
 use Rattle.rules.specs.declared.Search.{Search}
 use Rattle.rules.specs.declared.Template.{Template}
 use Rattle.rules.proofs.Begins.{Beginning, begins}
 use Rattle.rules.proofs.Candidates.{start-first}
 use Rattle.rules.proofs.Legs as walked
 use Rattle.rules.proofs.Searches.{walk-lawful}
-use Rattle.rules.proofs.Relay.{all-listed, all-tried, legs-enough}
-use Rattle.rules.proofs.Relayed.{granted, rows-of, relay-legs}
+use Rattle.rules.proofs.Relay.{all-listed, all-tried, legs-enough, leg-enough}
+use Rattle.rules.proofs.Relayed.{granted, rows-of, leg-answers, relay-legs}
+use Rattle.rules.proofs.Sound.{search-fine}
 use Rattle.rules.proofs.Trimmed.{trimmed-size, trimmed-parts}
 
 gives-same : {A : Type 0} (a b : A) → gives a ≡ gives b → a ≡ b
@@ -29,6 +31,10 @@ gives-same a b e = cc
 ample-granted : (gs : List Lent) → Ample gs → walked.Ample (map granted gs)
 ample-granted [] a = tt
 ample-granted (g ∷ gs) a = (a .0, omega arith, ample-granted gs (a .4))
+
+-- after a leg that ended nothing comes
+ended-alone : (a : Told Stop) (k m : Relayed) → a ≡ gives ended → after a k m ≡ k
+ended-alone a k m e = rw e
 
 module _ (letters lengths : List ℕ) (t : Template) (quorum : ℕ) (s : Search) (e : begin-rule letters lengths t quorum ≡ gives s) where
   b : Beginning letters lengths t quorum s
@@ -45,9 +51,9 @@ module _ (letters lengths : List ℕ) (t : Template) (quorum : ℕ) (s : Search)
   L = walk-lawful t quorum ss (b .template)
 
   -- the relay of a new search is legs of the walk from its start
-  from-start : (gs : List Lent) → Roomy gs → relay letters lengths gs s ≡ rows-of letters lengths s (legs W (map granted gs) (start W))
+  from-start : (gs : List Lent) → Roomy t gs → relay letters lengths gs s ≡ rows-of letters lengths s (legs W (map granted gs) (start W))
   unfolding W ss
-  from-start gs h = relay-legs letters lengths gs s (b .sound) (b .trim) h ∙ rw (b .walk, b .at, start-first W L)
+  from-start gs h = relay-legs letters lengths gs s (b .sound) (b .trim) (b .roomy gs h) ∙ rw (b .walk, b .at, start-first W L)
 
   -- the search's template reads as the one given
   parts-same : (m : ℕ) → parts (s .template) (size (s .template)) m ≡ parts t (size t) m
@@ -70,7 +76,7 @@ module _ (letters lengths : List ℕ) (t : Template) (quorum : ℕ) (s : Search)
       }
 
   -- legs that end have listed exactly the walk's motifs, in as many steps as it has candidates
-  pub relay-complete : (gs : List Lent) → Roomy gs → (relay letters lengths gs s) .answer ≡ gives ended
+  pub relay-complete : (gs : List Lent) → Roomy t gs → (relay letters lengths gs s) .answer ≡ gives ended
       → let r = relay letters lengths gs s in Complete t quorum (sequences letters lengths) (r .steps) (r .motifs) (r .supports) (r .weights)
   unfolding W ss
   relay-complete gs h a =
@@ -79,11 +85,35 @@ module _ (letters lengths : List ℕ) (t : Template) (quorum : ℕ) (s : Search)
       rw (from-start gs h) (complete l (all-listed W L (map granted gs) q) (all-tried W L (map granted gs) q))
 
   -- legs with budget and room end, if there are as many as the whole search has steps
-  pub relay-ends : (gs : List Lent) → Roomy gs → Ample gs → whole-steps t quorum (sequences letters lengths) ≤ length gs → (relay letters lengths gs s) .answer ≡ gives ended
+  pub relay-ends : (gs : List Lent) → Roomy t gs → Ample gs → whole-steps t quorum (sequences letters lengths) ≤ length gs → (relay letters lengths gs s) .answer ≡ gives ended
   unfolding W ss whole-steps walk-in
   relay-ends gs h a k =
       ap (λ r. r .answer) (from-start gs h) ∙ ap gives (legs-enough W L (map granted gs) (ample-granted gs a) (omega (arith, k, length-map gs granted)))
 
   -- and no call on the way is refused
-  pub relay-answers : (gs : List Lent) → Roomy gs → (a : Stop) × ((relay letters lengths gs s) .answer ≡ gives a)
+  pub relay-answers : (gs : List Lent) → Roomy t gs → (a : Stop) × ((relay letters lengths gs s) .answer ≡ gives a)
   relay-answers gs h = ((legs W (map granted gs) (start W)) .stop, ap (λ r. r .answer) (from-start gs h))
+
+  -- ONE LEG, with any buffer that holds a save
+  module _ (budget : ℕ) (motifs supports weights : List ℕ) where
+    lent : Lent
+    lent = record { budget = budget; motifs = motifs; supports = supports; weights = weights; buffer = replicate (Record-BYTES * (t .count + Record-EXTRA)) 0 }
+
+    -- where it ends it is all there is of the relay, and so complete
+    pub leg-complete : (leg-rule letters lengths s budget motifs supports weights) .told .answer ≡ gives ended
+        → let l = leg-rule letters lengths s budget motifs supports weights in let n = l .told .rows in
+        Complete t quorum (sequences letters lengths) (l .told .steps) (take n (l .motifs)) (take n (l .supports)) (take n (l .weights))
+    unfolding relay lent
+    leg-complete a =
+        let l : LegRule = leg-rule letters lengths s budget motifs supports weights in
+        let q : relay letters lengths (lent ∷ []) s ≡ alone l = ended-alone (l .told .answer) (alone l) _ a in
+        rw q at (relay-complete (lent ∷ []) (omega (arith, length-replicate {A = ℕ} (Record-BYTES * (t .count + Record-EXTRA)) 0), tt) (ap (λ r. r .answer) q ∙ a))
+
+    -- and it ends, if it has the budget and the room for all
+    pub leg-ends : whole-steps t quorum (sequences letters lengths) ≤ budget → let n = length (frequent-motifs t quorum (sequences letters lengths)) in
+        n ≤ length motifs → n ≤ length supports → n ≤ length weights → (leg-rule letters lengths s budget motifs supports weights) .told .answer ≡ gives ended
+    unfolding W ss lent whole-steps frequent-motifs walk-in
+    leg-ends h i j k =
+        let q : leg (walk-of letters lengths s) budget (granted lent .room) (s .place) ≡ leg W budget (granted lent .room) (start W) = rw (b .walk, b .at, start-first W L) in
+        leg-answers letters lengths s lent (search-fine letters lengths s (b .sound))
+        ∙ ap gives (ap (λ l. l .stop) q ∙ leg-enough W L budget (granted lent .room) h (omega (arith, i, j, k)))

@@ -1,16 +1,15 @@
 -- THE USER'S THREE DEMANDS, of the rules of the public calls (specs/Calls.antt), which the calls promise to keep. The
 -- statements stand in front, the proofs behind them.
-use mathlib.Core.Path.{_≡_, refl, ap, _∙_}
+use mathlib.Core.Path.{_≡_, refl, ap}
 use mathlib.Core.Logic.{_⊎_, _↔_}
 use mathlib.Core.Bool.{true}
 use mathlib.Core.List.{List, [], _∷_, _++_, List·Memᴰ}
-use Prim.Native.Nat.{ℕ, suc, _+_, _*_, _≤_, _<_, _^_, min}
+use Prim.Native.Nat.{ℕ, suc, _*_, _≤_, _<_, _^_}
 use lib.Dec.{leb}
-use lib.ListN.{length, take, getD, replicate}
-use native.Mathlib.Omega.{arith}
-use Rattle.rules.specs.Calls.{begin-rule, LegRule, stretch, leg-rule, written-unless, save-rule, restore-rule, recover-rule, join-rule}
-use Rattle.rules.specs.Legs.{Stop, ended, leg}
-use Rattle.rules.specs.Limits.{Letter-BASES, Record-BYTES, Record-EXTRA, Template-COMPONENTS}
+use lib.ListN.{length, take, getD}
+use Rattle.rules.specs.Calls.{begin-rule, trimmed-search, leg-rule, save-rule, restore-rule, recover-rule, join-rule}
+use Rattle.rules.specs.Legs.{Stop, ended}
+use Rattle.rules.specs.Limits.{Letter-BASES}
 use Rattle.rules.specs.Lists.{joined, keep, put, some?}
 use Rattle.rules.specs.Occurrence.{occurrences, nth, Follows, Occurs, Gap, OccursExactly}
 use Rattle.rules.specs.Motif.{spell}
@@ -19,35 +18,34 @@ use Rattle.rules.specs.Profile.{exactly, profile-of, base-of}
 use Rattle.rules.specs.Recovery.{whole-list, page}
 use Rattle.rules.specs.Refusals.{first, new-checks, restore-checks, search-checks, save-checks, recover-checks, join-checks}
 use Rattle.rules.specs.Refused.{FirstOf, Stays}
-use Rattle.rules.specs.Relay.{frequent-motifs, whole-steps, Complete, Lent, Roomy, Ample, after, alone, relay, Relayed}
+use Rattle.rules.specs.Relay.{frequent-motifs, whole-steps, Complete, Lent, Roomy, Ample, relay, RefusedAsCut}
 use Rattle.rules.specs.Saved.{bytes, sized?, laid-out?, read-search}
 use Rattle.rules.specs.Sequences.{sequences}
 use Rattle.rules.specs.Sound.{SoundSet, SoundTemplate}
 use Rattle.rules.specs.Support.{support, counted, valid, parts, parts-in}
-use Rattle.rules.specs.Template.{none, components, size, trimmed}
-use Rattle.rules.specs.Told.{Told, gives, refuses, Verdict, fine, refused, Counts}
-use Rattle.rules.specs.Walk.{Walk, ended-place, walk-in, walk-over, walk-of, from, start, listed, goods}
+use Rattle.rules.specs.Template.{none, components, size}
+use Rattle.rules.specs.Told.{gives, refuses, Verdict, fine, refused, Counts}
+use Rattle.rules.specs.Walk.{ended-place, walk-in, walk-over, walk-of, from, start, listed, goods}
 use Rattle.rules.specs.declared.Place.{Place}
 use Rattle.rules.specs.declared.Search.{Search}
 use Rattle.rules.specs.declared.Template.{Template}
 use Rattle.rules.proofs.Bound.{list-bound}
-use Rattle.rules.proofs.Completes.{relay-complete, relay-ends, relay-answers}
+use Rattle.rules.proofs.Completes.{relay-complete, relay-ends, relay-answers, leg-complete, leg-ends}
 use Rattle.rules.proofs.Exact.{exact-search, exact-occurs, exact-motifs, exact-frequent, exact-steps}
 use Rattle.rules.proofs.First.{first-applies, unless-refuses, written-refuses, leg-refused}
 use Rattle.rules.proofs.Sentence.{follows-gap}
-use Rattle.rules.proofs.Legs.{Passed, leg-law}
 use Rattle.rules.proofs.LowFirst.{Bytes}
 use Rattle.rules.proofs.OccurrenceOrder.{rows-in-order}
 use Rattle.rules.proofs.Occurs.{parts-worded, parts-some, rows-are}
 use Rattle.rules.proofs.Passing.{passing-from, from-passing}
-use Rattle.rules.proofs.Places.{sound-passing, passing-rule, passing-passes, place-deep}
+use Rattle.rules.proofs.Places.{sound-passing, passing-rule, passing-passes}
 use Rattle.rules.proofs.Prefix.{size-some}
 use Rattle.rules.proofs.Refused.{EachRefusal, each-refusal}
+use Rattle.rules.proofs.Relayed.{leg-between}
 use Rattle.rules.proofs.Searches.{walk-lawful, list-rises, list-holds}
-use Rattle.rules.proofs.Saves.{restore-exactly, restore-saved, save-restored, cut-refused}
-use Rattle.rules.proofs.Sound.{SoundSearch, SoundBytes, search-sound}
+use Rattle.rules.proofs.Saves.{written-gives, restore-exactly, restore-saved, ended-restores, save-restored, restored-cut, saved-cut}
+use Rattle.rules.proofs.Sound.{SoundBytes}
 use Rattle.rules.proofs.Stays.{save-stays, recover-stays, join-stays, leg-stays}
-use Rattle.rules.proofs.Tables.{put-front}
 use Rattle.rules.proofs.Ways.{support-counts, support-sequences}
 
 -- ---- DEMAND 1: a call refuses exactly what its checks refuse, with the number and place of the first that applies. A refused
@@ -127,6 +125,12 @@ pub record Demand2 : Type 0 where
       → (leg-rule letters lengths s budget motifs supports weights) .told .answer ≡ gives ended
       → let l = leg-rule letters lengths s budget motifs supports weights in let n = l .told .rows in
       Complete t quorum (sequences letters lengths) (l .told .steps) (take n (l .motifs)) (take n (l .supports)) (take n (l .weights))
+  -- and it does answer ended, if it has budget and room for all of it
+  pub one-leg-ends : (letters lengths : List ℕ) (t : Template) (quorum : ℕ) (s : Search) (budget : ℕ) (motifs supports weights : List ℕ)
+      → begin-rule letters lengths t quorum ≡ gives s
+      → whole-steps t quorum (sequences letters lengths) ≤ budget
+      → let n = length (frequent-motifs t quorum (sequences letters lengths)) in n ≤ length motifs → n ≤ length supports → n ≤ length weights
+      → (leg-rule letters lengths s budget motifs supports weights) .told .answer ≡ gives ended
   -- recovery's list holds every occurrence that respects the gaps, once, in order, and nothing else
   pub recovered : (t : Template) → SoundTemplate t → (ss : List (List ℕ)) (m : ℕ) (row : List ℕ)
       → List·Memᴰ row (whole-list t ss m)
@@ -159,14 +163,14 @@ Through letters lengths s = (s .place ≡ ended-place) ⊎ List·Memᴰ (s .plac
 
 pub record Demand3 : Type 0 where
   -- the lists of a new search's legs, laid end to end, are demand 2's list once one answers ended, and the steps add up
-  pub end-to-end : (letters lengths : List ℕ) (t : Template) (quorum : ℕ) (s : Search) (gs : List Lent) → begin-rule letters lengths t quorum ≡ gives s → Roomy gs
+  pub end-to-end : (letters lengths : List ℕ) (t : Template) (quorum : ℕ) (s : Search) (gs : List Lent) → begin-rule letters lengths t quorum ≡ gives s → Roomy t gs
       → (relay letters lengths gs s) .answer ≡ gives ended
       → let r = relay letters lengths gs s in Complete t quorum (sequences letters lengths) (r .steps) (r .motifs) (r .supports) (r .weights)
   -- it ends within that many legs, if each has a budget and room of at least one
-  pub ends : (letters lengths : List ℕ) (t : Template) (quorum : ℕ) (s : Search) (gs : List Lent) → begin-rule letters lengths t quorum ≡ gives s → Roomy gs → Ample gs
+  pub ends : (letters lengths : List ℕ) (t : Template) (quorum : ℕ) (s : Search) (gs : List Lent) → begin-rule letters lengths t quorum ≡ gives s → Roomy t gs → Ample gs
       → whole-steps t quorum (sequences letters lengths) ≤ length gs → (relay letters lengths gs s) .answer ≡ gives ended
   -- nothing on the way is refused
-  pub answers : (letters lengths : List ℕ) (t : Template) (quorum : ℕ) (s : Search) (gs : List Lent) → begin-rule letters lengths t quorum ≡ gives s → Roomy gs
+  pub answers : (letters lengths : List ℕ) (t : Template) (quorum : ℕ) (s : Search) (gs : List Lent) → begin-rule letters lengths t quorum ≡ gives s → Roomy t gs
       → (a : Stop) × ((relay letters lengths gs s) .answer ≡ gives a)
   -- a leg's steps and rows are those of the candidates between its old place and its new
   pub between : (letters lengths : List ℕ) (s : Search) (budget : ℕ) (motifs supports weights : List ℕ) → first (search-checks letters lengths s) ≡ fine
@@ -175,14 +179,16 @@ pub record Demand3 : Type 0 where
   -- restore accepts bytes exactly if they are well formed and the uninterrupted search passes through their place
   pub accepts : (letters lengths bs : List ℕ) (s : Search)
       → (restore-rule letters lengths bs ≡ gives s) ↔ (WellFormed letters lengths bs × Through letters lengths (read-search bs) × (s ≡ read-search bs))
-  -- what was saved restores to the same search, an ended one as ended
-  pub restores : (letters lengths : List ℕ) (s : Search) → first (search-checks letters lengths s) ≡ fine → trimmed (s .template) ≡ s .template
-      → restore-rule letters lengths (bytes s) ≡ gives s
+  -- what was saved restores to the same search, with nothing in the slots that its template does not count; an ended one as ended
+  pub restores : (letters lengths : List ℕ) (s : Search) → first (search-checks letters lengths s) ≡ fine → restore-rule letters lengths (bytes s) ≡ gives (trimmed-search s)
+  pub ended-restores : (letters lengths : List ℕ) (s r : Search) → first (search-checks letters lengths s) ≡ fine → s .place ≡ ended-place
+      → restore-rule letters lengths (bytes s) ≡ gives r → r .place ≡ ended-place
   -- saving a restored search gives the same bytes
   pub same-bytes : (letters lengths bs : List ℕ) (s : Search) → Bytes bs → restore-rule letters lengths bs ≡ gives s → bytes s ≡ bs
-  -- a save cut short at any byte is refused
-  pub cut-short : (letters lengths : List ℕ) (s : Search) (n : ℕ) → first (search-checks letters lengths s) ≡ fine → n < length (bytes s)
-      → restore-rule letters lengths (take n (bytes s)) ≡ refuses 10 0
+  -- what a save wrote, cut short at any byte, is refused, whatever sequences are lent; and so are any bytes that restore accepts
+  pub cut-short : (letters lengths : List ℕ) (s : Search) (out : List ℕ) (k n : ℕ) → (save-rule letters lengths s out) .told ≡ gives k → n < k
+      → RefusedAsCut (take n ((save-rule letters lengths s out) .out))
+  pub cut-accepted : (letters lengths bs : List ℕ) (s : Search) (n : ℕ) → restore-rule letters lengths bs ≡ gives s → n < length bs → RefusedAsCut (take n bs)
 
 -- ---- THE PROOFS
 
@@ -208,29 +214,6 @@ demand1 =
       join-stays = join-stays;
     }
 
--- a leg that ended is a relay of one leg
-one-leg-ended : (a : Told Stop) (k m : Relayed) → a ≡ gives ended → after a k m ≡ k
-one-leg-ended a k m e = rw e
-
-lent : ℕ → List ℕ → List ℕ → List ℕ → Lent
-lent budget motifs supports weights = record { budget = budget; motifs = motifs; supports = supports; weights = weights; buffer = replicate (Record-BYTES * (Template-COMPONENTS + Record-EXTRA)) 0 }
-
-one-leg-complete : (letters lengths : List ℕ) (t : Template) (quorum : ℕ) (s : Search) (budget : ℕ) (motifs supports weights : List ℕ)
-    → begin-rule letters lengths t quorum ≡ gives s
-    → (leg-rule letters lengths s budget motifs supports weights) .told .answer ≡ gives ended
-    → let l = leg-rule letters lengths s budget motifs supports weights in let n = l .told .rows in
-    Complete t quorum (sequences letters lengths) (l .told .steps) (take n (l .motifs)) (take n (l .supports)) (take n (l .weights))
-unfolding relay lent
-one-leg-complete letters lengths t quorum s budget motifs supports weights b e =
-    let g : Lent = lent budget motifs supports weights in
-    let l : LegRule = leg-rule letters lengths s budget motifs supports weights in
-    let q : relay letters lengths (g ∷ []) s ≡ alone l = one-leg-ended (l .told .answer) (alone l) _ e in
-    rw q at (relay-complete letters lengths t quorum s b (g ∷ []) (omega arith, tt) (ap (λ r. r .answer) q ∙ e))
-
-recovered-page : {A : Type 0} (v : Verdict) (a c : A) (xs out : List ℕ) → (written-unless v a xs out) .told ≡ gives c → (c ≡ a) × ((written-unless v a xs out) .out ≡ put xs out)
-recovered-page fine a c xs out e = (cc, refl)
-recovered-page (refused n p) a c xs out e = (cc, cc)
-
 pub demand2 : Demand2
 unfolding parts-in walk-in whole-list recover-rule
 demand2 =
@@ -245,24 +228,13 @@ demand2 =
       exact-occurrence = exact-occurs;
       exact-prefix = exact-frequent;
       exact-count = exact-steps;
-      one-leg = one-leg-complete;
+      one-leg = λ letters lengths t quorum s budget motifs supports weights b. leg-complete letters lengths t quorum s b budget motifs supports weights;
+      one-leg-ends = λ letters lengths t quorum s budget motifs supports weights b. leg-ends letters lengths t quorum s b budget motifs supports weights;
       recovered = λ t o ss m row. rows-are (parts t (size t) m) ss (parts-worded t o (size t) m) (parts-some t o (size t) m (size-some t o)) row;
       recovered-in-order = λ t ss m. rows-in-order (parts t (size t) m) ss;
       recovered-length = λ letters lengths t m set o. list-bound t o letters lengths set m;
-      recovery = λ letters lengths t m f out c e. let r = recovered-page (first (recover-checks letters lengths t m f)) _ c _ out e in (ap (λ c. c .rows) (r .0), ap (λ c. c .length) (r .0), r .1);
+      recovery = λ letters lengths t m f out c e. let r = written-gives (first (recover-checks letters lengths t m f)) _ c _ out e in (ap (λ c. c .rows) (r .1), ap (λ c. c .length) (r .1), r .2);
     }
-
--- what a leg passes lies between its two places
-leg-between : (letters lengths : List ℕ) (s : Search) (budget : ℕ) (motifs supports weights : List ℕ) → first (search-checks letters lengths s) ≡ fine
-    → let l = leg-rule letters lengths s budget motifs supports weights in let W = walk-of letters lengths s in
-    (taken : List Place) × (from W (s .place) ≡ taken ++ from W (l .told .search .place)) × (l .told .steps ≡ length taken) × (take (l .told .rows) (l .motifs) ≡ listed W taken)
-unfolding leg-rule stretch
-leg-between letters lengths s budget motifs supports weights e =
-    let W : Walk = walk-of letters lengths s in
-    let room : ℕ = min (length motifs) (min (length supports) (length weights)) in
-    let o : SoundSearch letters lengths s = search-sound letters lengths s e in
-    let r : Passed W (s .place) (leg W budget room (s .place)) = leg-law W (walk-lawful (s .template) (s .quorum) (sequences letters lengths) (o .template) .pos) budget room (s .place) (place-deep letters lengths s o) in
-    rw e (r .taken, r .split, r .counts, put-front (length ((leg W budget room (s .place)) .motifs)) ((leg W budget room (s .place)) .motifs) motifs refl ∙ r .lists)
 
 -- bytes that are well formed, with a place that the search passes through, pass the checks, and back
 well-formed : (letters lengths bs : List ℕ) → SoundBytes letters lengths bs → WellFormed letters lengths bs × Through letters lengths (read-search bs)
@@ -304,6 +276,8 @@ demand3 =
         λ h. restore-exactly letters lengths bs s .1 (passes-checks letters lengths bs (h .0) (h .1), h .2),
       );
       restores = restore-saved;
+      ended-restores = ended-restores;
       same-bytes = λ letters lengths bs s b e. save-restored letters lengths bs s e b;
-      cut-short = cut-refused;
+      cut-short = saved-cut;
+      cut-accepted = λ letters lengths bs s n e. restored-cut letters lengths bs s e n;
     }

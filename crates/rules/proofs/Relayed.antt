@@ -2,13 +2,13 @@
 -- to it. So the laws of `Relay` hold of them.
 use mathlib.Core.Path.{_≡_, refl, ap, _∙_}
 use mathlib.Core.Bool.{Bool, true, false}
-use mathlib.Core.List.{List, [], _∷_, map, map-append}
+use mathlib.Core.List.{List, [], _∷_, _++_, map, map-append}
 use Prim.Native.Nat.{ℕ, _+_, _*_, _≤_, min}
 use native.Mathlib.Omega.{arith}
-use lib.ListN.{length, length-map}
+use lib.ListN.{length, take, length-map}
 use Rattle.rules.specs.Calls.{LegRule, moved, stretch, supports-of, weights-of, leg-rule, Written, save-rule}
 use Rattle.rules.specs.Legs.{Stop, ended, spent, full, ended?, Stretch, on, Grant, grant, leg, legs}
-use Rattle.rules.specs.Limits.{Record-BYTES, Record-EXTRA, Template-COMPONENTS}
+use Rattle.rules.specs.Limits.{Record-BYTES, Record-EXTRA}
 use Rattle.rules.specs.Lists.{if}
 use Rattle.rules.specs.Refusals.{first, search-checks}
 use Rattle.rules.specs.Relay.{Lent, Roomy, Relayed, alone, followed, go-on, restored, after, relay}
@@ -16,16 +16,18 @@ use Rattle.rules.specs.Saved.{bytes}
 use Rattle.rules.specs.Sequences.{sequences}
 use Rattle.rules.specs.Template.{trimmed}
 use Rattle.rules.specs.Told.{Told, gives, fine}
-use Rattle.rules.specs.Walk.{walk-of}
+use Rattle.rules.specs.Walk.{Walk, walk-of, from, listed}
 use Rattle.rules.specs.declared.Place.{Place}
 use Rattle.rules.specs.declared.Search.{Search}
+use Rattle.rules.proofs.Legs.{Passed, leg-law}
 use Rattle.rules.proofs.Passing.{Passing, passing-leg}
-use Rattle.rules.proofs.Places.{sound-passing, moved-sound}
+use Rattle.rules.proofs.Places.{sound-passing, moved-sound, place-deep}
 use Rattle.rules.proofs.Searches.{walk-lawful}
 use Rattle.rules.proofs.Records.{bytes-counted}
 use Rattle.rules.proofs.Saves.{restore-saved}
-use Rattle.rules.proofs.Sound.{SoundSearch, search-fine, save-fine}
+use Rattle.rules.proofs.Sound.{SoundSearch, search-sound, search-fine, save-fine}
 use Rattle.rules.proofs.Tables.{put-front}
+use Rattle.rules.proofs.Trimmed.{trimmed-same}
 
 -- what a leg may use of what it is lent
 abbrev pub granted : Lent → Grant
@@ -71,27 +73,35 @@ module _ (letters lengths : List ℕ) where
   unfolding leg-rule stretch
   leg-leaves s g e = rw e
 
-  leg-answers : (s : Search) (g : Lent) → first (search-checks letters lengths s) ≡ fine
+  pub leg-answers : (s : Search) (g : Lent) → first (search-checks letters lengths s) ≡ fine
       → ((leg-rule letters lengths s (g .budget) (g .motifs) (g .supports) (g .weights)) .told .answer
       ≡ gives ((leg (walk-of letters lengths s) (granted g .budget) (granted g .room) (s .place)) .stop))
   unfolding leg-rule stretch
   leg-answers s g e = rw e
 
-  -- a save is never longer than eight records
-  save-short : (s : Search) → SoundSearch letters lengths s → length (bytes s) ≤ Record-BYTES * (Template-COMPONENTS + Record-EXTRA)
-  save-short s o = omega (arith, bytes-counted s (o .template .few), o .template .few)
+  -- what it passes lies between its two places
+  pub leg-between : (s : Search) (budget : ℕ) (motifs supports weights : List ℕ) → first (search-checks letters lengths s) ≡ fine
+      → let l = leg-rule letters lengths s budget motifs supports weights in let W = walk-of letters lengths s in
+      (taken : List Place) × (from W (s .place) ≡ taken ++ from W (l .told .search .place)) × (l .told .steps ≡ length taken) × (take (l .told .rows) (l .motifs) ≡ listed W taken)
+  unfolding leg-rule stretch
+  leg-between s budget motifs supports weights e =
+      let W : Walk = walk-of letters lengths s in
+      let room : ℕ = min (length motifs) (min (length supports) (length weights)) in
+      let o : SoundSearch letters lengths s = search-sound letters lengths s e in
+      let r : Passed W (s .place) (leg W budget room (s .place)) = leg-law W (walk-lawful (s .template) (s .quorum) (sequences letters lengths) (o .template) .pos) budget room (s .place) (place-deep letters lengths s o) in
+      rw e (r .taken, r .split, r .counts, put-front (length ((leg W budget room (s .place)) .motifs)) ((leg W budget room (s .place)) .motifs) motifs refl ∙ r .lists)
 
   -- a leg leads from a place that the search passes through to another
   pub leg-passing : (s : Search) → SoundSearch letters lengths s → (b r : ℕ) (p : Place) → Passing (walk-of letters lengths s) p → Passing (walk-of letters lengths s) ((leg (walk-of letters lengths s) b r p) .at)
   leg-passing s o = passing-leg (walk-of letters lengths s) (walk-lawful (s .template) (s .quorum) (sequences letters lengths) (o .template))
 
   -- what is saved into a buffer with room restores to the search
-  pub saved-restores : (s : Search) (buffer : List ℕ) → SoundSearch letters lengths s → trimmed (s .template) ≡ s .template → Record-BYTES * (Template-COMPONENTS + Record-EXTRA) ≤ length buffer
+  saved-restores : (s : Search) (buffer : List ℕ) → SoundSearch letters lengths s → trimmed (s .template) ≡ s .template → Record-BYTES * (s .template .count + Record-EXTRA) ≤ length buffer
       → restored letters lengths ((save-rule letters lengths s buffer) .told) ((save-rule letters lengths s buffer) .out) ≡ gives s
   unfolding save-rule
   saved-restores s buffer o t h =
-      rw (save-fine letters lengths s buffer o (omega (arith, save-short s o)), put-front (length (bytes s)) (bytes s) buffer refl)
-      (restore-saved letters lengths s (search-fine letters lengths s o) t)
+      rw (save-fine letters lengths s buffer o (omega (arith, bytes-counted s (o .template .few))), put-front (length (bytes s)) (bytes s) buffer refl)
+      (restore-saved letters lengths s (search-fine letters lengths s o) ∙ ap gives (trimmed-same s t))
 
   -- one stretch after another, with their rows
   rows-on : (s : Search) (k l : Stretch) → followed (rows-of letters lengths s k) (rows-of letters lengths s l) ≡ rows-of letters lengths s (on k l)
@@ -99,7 +109,7 @@ module _ (letters lengths : List ℕ) where
   rows-on s k l = rw (map-append _ (k .motifs) (l .motifs), map-append _ (k .motifs) (l .motifs))
 
   -- legs with saves and restores between them are legs laid end to end
-  pub relay-legs : (gs : List Lent) (s : Search) → SoundSearch letters lengths s → trimmed (s .template) ≡ s .template → Roomy gs
+  pub relay-legs : (gs : List Lent) (s : Search) → SoundSearch letters lengths s → trimmed (s .template) ≡ s .template → Roomy (s .template) gs
       → relay letters lengths gs s ≡ rows-of letters lengths s (legs (walk-of letters lengths s) (map granted gs) (s .place))
   unfolding relay legs supports-of weights-of
   relay-legs [] s o t h = refl

@@ -9,6 +9,7 @@ use native.Mathlib.Omega.{arith}
 use lib.Dec.{leb, ltb}
 use lib.ListN.{length, getD, drop}
 use borrow.Author.Tests.{leb-true, ltb-true, le-leb, eq-eqb}
+use Rattle.rules.specs.Calls.{trimmed-search}
 use Rattle.rules.specs.Limits.{Record-BYTES, Record-EXTRA, Template-COMPONENTS, Template-LETTERS}
 use Rattle.rules.specs.Lists.{if, all?, joined}
 use Rattle.rules.specs.Profile.{profile-of, base-of}
@@ -23,6 +24,7 @@ use Rattle.rules.proofs.Searches.{profile-proper}
 use Rattle.rules.proofs.Tests.{both}
 use Rattle.rules.proofs.Components.{components-length, components-at}
 use Rattle.rules.proofs.Records.{All, all-at, all-joined, records-are, bytes-counted, size-at, component-at, place-at}
+use Rattle.rules.proofs.Trimmed.{trimmed-size, trimmed-rule}
 
 -- a component fits the fields of its record
 pub record FitsComponent (c : Component) : Type 0 where
@@ -143,20 +145,19 @@ module _ (s : Search) (f : Fits s) where
   template-back = rw (count-back s, slot-back 0, slot-back 1, slot-back 2, slot-back 3, slot-back 4, slot-back 5)
 
   -- the place that it holds is the search's
-  pub place-back : read-place (record-at (bytes s) (suc (component-count (bytes s)))) ≡ place
+  place-back : read-place (record-at (bytes s) (suc (component-count (bytes s)))) ≡ place
   place-back = rw (count-back s, place-at s (f .count)) (place-record-back place (f .number))
 
   -- a number of n bytes at byte k of the size record
   size-field : (k n x : ℕ) → drop k (size-record s) ≡ low-first n x ++ drop (k + n) (size-record s) → x < 256 ^ n → field (record-at (bytes s) 0) k n ≡ x
   size-field k n x e h = rw (size-at s) (field-back (size-record s) k n x e h)
 
-  -- a saved search holds the search
-  pub search-back : trimmed template ≡ template → read-search (bytes s) ≡ s
+  -- a saved search holds the search, so trimmed
+  pub search-back : read-search (bytes s) ≡ trimmed-search s
   unfolding read-search size-record low-first
-  search-back t =
+  search-back =
       rw (
         template-back,
-        t,
         size-field 2 2 quorum refl (f .quorum),
         size-field 4 2 (set .sequences) refl (f .sequences),
         size-field 8 4 (set .letters) refl (f .letters),
@@ -170,13 +171,14 @@ module _ (s : Search) (f : Fits s) where
   components-laid-out k (suc n) e = rw (component-at s (f .count) k (omega arith), component-laid-out (suc k) (getD (slots template) k none)) (components-laid-out (suc k) n (omega arith))
 
   -- and so do all its records, if the place keeps its rule
-  pub saved-laid-out : trimmed template ≡ template → place-rule? template place ≡ true → laid-out? (bytes s) ≡ true
+  pub saved-laid-out : place-rule? template place ≡ true → laid-out? (bytes s) ≡ true
   unfolding laid-out? size-record low-first
-  saved-laid-out t r =
+  saved-laid-out r =
       rw (
         template-back,
-        t,
+        trimmed-size template,
         place-back,
+        trimmed-rule template place,
         r,
         count-back s,
         place-at s (f .count),

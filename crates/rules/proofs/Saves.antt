@@ -3,27 +3,37 @@
 use mathlib.Core.Path.{_≡_, refl, sym, ap, _∙_}
 use mathlib.Core.Logic.{_↔_}
 use mathlib.Core.List.{List}
-use Prim.Native.Nat.{ℕ, _<_}
+use Prim.Native.Nat.{ℕ, _≤_, _<_}
 use native.Mathlib.Omega.{arith}
 use lib.ListN.{length, take}
-use Rattle.rules.specs.Calls.{unless, restore-rule}
-use Rattle.rules.specs.Refusals.{_else_, first, check10, search-checks, restore-checks}
+use lib.Seq.{take-append-le}
+use Rattle.rules.specs.Calls.{unless, trimmed-search, written-unless, save-rule, restore-rule}
+use Rattle.rules.specs.Lists.{put}
+use Rattle.rules.specs.Refusals.{first, passes?, search-checks, restore-checks, save-checks}
+use Rattle.rules.specs.Relay.{RefusedAsCut}
 use Rattle.rules.specs.Saved.{bytes, read-search, read-template}
+use Rattle.rules.specs.Sequences.{sequences}
 use Rattle.rules.specs.Template.{trimmed}
-use Rattle.rules.specs.Told.{Verdict, fine, refused, gives, refuses}
+use Rattle.rules.specs.Told.{Verdict, fine, refused, gives}
 use Rattle.rules.specs.Walk.{ended-place}
 use Rattle.rules.specs.declared.Search.{Search}
 use Rattle.rules.proofs.LowFirst.{Bytes}
 use Rattle.rules.proofs.Rewritten.{bytes-again, read-trimmed}
-use Rattle.rules.proofs.RoundTrip.{Fits, sound-fits, place-back, search-back, saved-sized, saved-laid-out}
-use Rattle.rules.proofs.Sound.{SoundSearch, SoundBytes, set-fine, search-sound, search-fine, restore-sound, restore-fine}
-use Rattle.rules.proofs.Truncated.{saved-cut}
-use Rattle.rules.proofs.Verdicts.{first-append}
+use Rattle.rules.proofs.RoundTrip.{Fits, sound-fits, search-back, saved-sized, saved-laid-out}
+use Rattle.rules.proofs.Sound.{SoundSearch, SoundBytes, search-sound, search-fine, save-sound, restore-sound, restore-fine}
+use Rattle.rules.proofs.Trimmed.{trimmed-sound, trimmed-rule, walk-trimmed}
+use Rattle.rules.proofs.Truncated.{cut-refused}
 
 -- where something is given, the checks found nothing, and it is what follows them
 pub unless-gives : {A : Type 0} (v : Verdict) (a s : A) → unless v a ≡ gives s → (v ≡ fine) × (s ≡ a)
 unless-gives fine a s e = (refl, cc)
 unless-gives (refused n p) a s e = let z : _≡_ {A = ℕ} 0 1 = cc in absurd (omega arith)
+
+-- and where something is told of what was written, that was put to the front of the buffer
+pub written-gives : {A : Type 0} (v : Verdict) (a c : A) (xs out : List ℕ) → (written-unless v a xs out) .told ≡ gives c
+    → (v ≡ fine) × (c ≡ a) × ((written-unless v a xs out) .out ≡ put xs out)
+written-gives fine a c xs out e = (refl, cc, refl)
+written-gives (refused n p) a c xs out e = let z : _≡_ {A = ℕ} 0 1 = cc in absurd (omega arith)
 
 module _ (letters lengths : List ℕ) where
   -- bytes restore exactly if they are well formed and hold a search that passes its checks, and give that search
@@ -38,20 +48,33 @@ module _ (letters lengths : List ℕ) where
   pub checked-fits : (s : Search) → SoundSearch letters lengths s → Fits s
   checked-fits s o = sound-fits letters lengths s (o .set) (o .template) (o .count) (o .total) (o .most) (o .place)
 
-  -- such a search, saved and restored over the same sequences, is the search again
-  pub restore-saved : (s : Search) → first (search-checks letters lengths s) ≡ fine → trimmed (s .template) ≡ s .template
-      → restore-rule letters lengths (bytes s) ≡ gives s
-  restore-saved s e t =
+  -- and passes them with nothing in the slots that it does not count
+  trimmed-passes : (s : Search) → SoundSearch letters lengths s → SoundSearch letters lengths (trimmed-search s)
+  unfolding passes?
+  trimmed-passes s o =
+      record {
+        set = o .set;
+        template = trimmed-sound (s .template) (o .template);
+        place = trimmed-rule (s .template) (s .place) ∙ o .place;
+        count = o .count;
+        total = o .total;
+        some = o .some;
+        most = o .most;
+        passes = rw (walk-trimmed (s .template) (s .quorum) (sequences letters lengths)) (o .passes);
+      }
+
+  -- such a search, saved and restored over the same sequences, is the search again, so trimmed
+  pub restore-saved : (s : Search) → first (search-checks letters lengths s) ≡ fine → restore-rule letters lengths (bytes s) ≡ gives (trimmed-search s)
+  restore-saved s e =
       let o = search-sound letters lengths s e in
       let f = checked-fits s o in
-      let q : read-search (bytes s) ≡ s = search-back s f t in
-      restore-exactly (bytes s) s .1 (record { sized = saved-sized s (f .count); laid-out = saved-laid-out s f t (o .place); search = rw q o }, sym q)
+      let q : read-search (bytes s) ≡ trimmed-search s = search-back s f in
+      restore-exactly (bytes s) (trimmed-search s) .1 (record { sized = saved-sized s (f .count); laid-out = saved-laid-out s f (o .place); search = rw q (trimmed-passes s o) }, sym q)
 
   -- and an ended search is restored as ended
   pub ended-restores : (s r : Search) → first (search-checks letters lengths s) ≡ fine → s .place ≡ ended-place → restore-rule letters lengths (bytes s) ≡ gives r
       → r .place ≡ ended-place
-  unfolding read-search
-  ended-restores s r e p q = rw (restore-exactly (bytes s) r .0 q .1) (place-back s (checked-fits s (search-sound letters lengths s e)) ∙ p)
+  ended-restores s r e p q = let h : gives (trimmed-search s) ≡ gives r = sym (restore-saved s e) ∙ q in cc
 
   module _ (bs : List ℕ) (s : Search) (e : restore-rule letters lengths bs ≡ gives s) where
     -- a restored search passes its checks,
@@ -68,10 +91,15 @@ module _ (letters lengths : List ℕ) where
     unfolding read-search read-template
     save-restored b = let h = restore-exactly bs s .0 e in ap bytes (h .1) ∙ bytes-again bs b (h .0 .sized) (h .0 .search .template .few) (h .0 .laid-out)
 
-  -- a save that was cut short is refused, wherever it was cut
-  pub cut-refused : (s : Search) (n : ℕ) → first (search-checks letters lengths s) ≡ fine → n < length (bytes s)
-      → restore-rule letters lengths (take n (bytes s)) ≡ refuses 10 0
-  unfolding restore-rule restore-checks check10 first _else_
-  cut-refused s n e h =
-      let o = search-sound letters lengths s e in
-      rw (first-append, set-fine letters lengths (o .set), saved-cut s n (o .template .few) h)
+    -- which, cut short anywhere, are refused over any sequences
+    pub restored-cut : (n : ℕ) → n < length bs → RefusedAsCut (take n bs)
+    restored-cut n h = cut-refused bs n (restore-exactly bs s .0 e .0 .sized) h
+
+  -- and so is what a save wrote
+  pub saved-cut : (s : Search) (out : List ℕ) (k n : ℕ) → (save-rule letters lengths s out) .told ≡ gives k → n < k → RefusedAsCut (take n ((save-rule letters lengths s out) .out))
+  unfolding save-rule put
+  saved-cut s out k n e h =
+      let w = written-gives (first (save-checks letters lengths s out)) (length (bytes s)) k (bytes s) out e in
+      let o = save-sound letters lengths s out (w .0) .0 in
+      let q : n ≤ length (bytes s) = omega (arith, w .1) in
+      rw (w .2, take-append-le n (bytes s) _ q) (cut-refused (bytes s) n (saved-sized s (o .template .few)) (omega (arith, w .1)))

@@ -48,12 +48,12 @@ module _ (letters lengths : List ℕ) (t : Template) (quorum : ℕ) (s : Search)
   begun-steps-few = whole-steps-few t (exact-search t) quorum letters lengths (b .template) (b .sound .set) (omega (arith, b .sound .some, ap (λ (s : Search). s .quorum) (b .is)))
 
   -- the steps of its legs, with a save and a restore between them, are never more
-  pub steps-so-far : (gs : List Lent) → Roomy gs → (relay letters lengths gs s) .steps ≤ whole-steps t quorum (sequences letters lengths)
+  pub steps-so-far : (gs : List Lent) → Roomy t gs → (relay letters lengths gs s) .steps ≤ whole-steps t quorum (sequences letters lengths)
   steps-so-far gs h =
       let W : Walk = walk-over t quorum (sequences letters lengths) in
       let L = walk-lawful t quorum (sequences letters lengths) (b .template) in
       let r = passed-most W first-place (legs W (map granted gs) first-place) (legs-law W (L .pos) (map granted gs) first-place (L .lettered)) in
-      rw (relay-legs letters lengths gs s (b .sound) (b .trim) h, b .walk, b .at)
+      rw (relay-legs letters lengths gs s (b .sound) (b .trim) (b .roomy gs h), b .walk, b .at)
       (omega (arith, r, from-first t quorum (sequences letters lengths) (b .template)))
 
   -- so a leg of it never uses up a budget of 2 ^ 63

@@ -7,12 +7,17 @@ use native.Mathlib.Omega.{arith}
 use lib.Dec.{leb}
 use lib.ListN.{length, take, getD}
 use borrow.Author.Tests.{le-leb}
+use Rattle.rules.specs.Calls.{trimmed-search}
 use Rattle.rules.specs.Lists.{if}
 use Rattle.rules.specs.Sound.{SoundTemplate}
 use Rattle.rules.specs.Profile.{Profile, profile-of}
+use Rattle.rules.specs.Saved.{place-rule?}
 use Rattle.rules.specs.Support.{allowed-in, parts, parts-in, measure}
 use Rattle.rules.specs.Template.{none, slots, components, size, kept, trimmed}
+use Rattle.rules.specs.Walk.{walk-in, walk-over}
 use Rattle.rules.specs.declared.Component.{Component}
+use Rattle.rules.specs.declared.Place.{Place}
+use Rattle.rules.specs.declared.Search.{Search}
 use Rattle.rules.specs.declared.Template.{Template}
 
 -- emptying a slot twice is emptying it once
@@ -27,6 +32,10 @@ kept-twice n i c = go (leb i n)
 pub trimmed-twice : (t : Template) → trimmed (trimmed t) ≡ trimmed t
 unfolding trimmed
 trimmed-twice t = simp kept-twice
+
+-- and a search that has one is as it is
+pub trimmed-same : (s : Search) → trimmed (s .template) ≡ s .template → trimmed-search s ≡ s
+trimmed-same s e = rw e
 
 kept-counted : (n i : ℕ) (c : Component) → i ≤ n → kept n i c ≡ c
 kept-counted n i c h = rw (le-leb i n h)
@@ -75,6 +84,16 @@ pub trimmed-measure : (P : Profile) (t : Template) (ss : List (List ℕ)) → me
 unfolding measure parts-in
 trimmed-measure P t ss = fun-ext (λ j. fun-ext (λ m. rw (trimmed-components t)))
 
+-- so its walk is the same, and its places keep the same rule
+pub walk-trimmed : (t : Template) (quorum : ℕ) (ss : List (List ℕ)) → walk-over (trimmed t) quorum ss ≡ walk-over t quorum ss
+unfolding walk-in
+walk-trimmed t quorum ss = rw (trimmed-profile t, trimmed-allowed (profile-of t) t, trimmed-measure (profile-of t) t ss, trimmed-size t)
+
+pub trimmed-rule : (t : Template) (p : Place) → place-rule? (trimmed t) p ≡ place-rule? t p
+unfolding place-rule?
+trimmed-rule t p = rw (trimmed-profile t, trimmed-allowed (profile-of t) t, trimmed-size t)
+
+-- and it is sound where the template is
 pub trimmed-sound : (t : Template) → SoundTemplate t → SoundTemplate (trimmed t)
 unfolding trimmed
 trimmed-sound t o =

@@ -8,11 +8,14 @@ use lib.Dec.{eqb, leb}
 use lib.ListN.{length, take}
 use lib.Seq.{getD-take, length-take-le}
 use borrow.Author.Tests.{leb-true, ne-eqb}
-use Rattle.rules.specs.Limits.{Record-BYTES, Record-EXTRA, Template-COMPONENTS}
-use Rattle.rules.specs.Saved.{bytes, record-count, sized?}
-use Rattle.rules.specs.declared.Search.{Search}
+use Rattle.rules.specs.Calls.{unless, on-refusal, restore-rule}
+use Rattle.rules.specs.Limits.{Record-BYTES, Record-EXTRA}
+use Rattle.rules.specs.Refusals.{_else_, first, check10, set-checks, restore-checks}
+use Rattle.rules.specs.Relay.{RefusedAsCut}
+use Rattle.rules.specs.Saved.{record-count, read-search, sized?}
+use Rattle.rules.specs.Told.{Verdict, fine, refused, refuses}
 use Rattle.rules.proofs.Records.{sized-says}
-use Rattle.rules.proofs.RoundTrip.{saved-sized}
+use Rattle.rules.proofs.Verdicts.{first-append}
 
 and-false : (a b c : Bool) → (a ≡ true → c ≡ false) → a && b && c ≡ false
 and-false false b c h = refl
@@ -20,7 +23,7 @@ and-false true true c h = h refl
 and-false true false c h = refl
 
 -- of bytes that are as long as the records that they count, the first n are not
-pub cut-sized : (bs : List ℕ) (n : ℕ) → sized? bs ≡ true → n < length bs → sized? (take n bs) ≡ false
+cut-sized : (bs : List ℕ) (n : ℕ) → sized? bs ≡ true → n < length bs → sized? (take n bs) ≡ false
 unfolding sized? record-count
 cut-sized bs n e h =
     let d = sized-says bs e in
@@ -31,6 +34,11 @@ cut-sized bs n e h =
     let c : record-count (take n bs) ≡ record-count bs = getD-take n bs 1 0 (omega arith) in
     ne-eqb n (Record-BYTES * record-count (take n bs)) (λ q. omega arith)))
 
--- and so a save that was cut short is not as long as the records that it counts
-pub saved-cut : (s : Search) (n : ℕ) → s .template .count ≤ Template-COMPONENTS → n < length (bytes s) → sized? (take n (bytes s)) ≡ false
-saved-cut s n few h = cut-sized (bytes s) n (saved-sized s few) h
+-- and so they are refused, over any sequences
+pub cut-refused : (bs : List ℕ) (n : ℕ) → sized? bs ≡ true → n < length bs → RefusedAsCut (take n bs)
+unfolding restore-rule restore-checks check10 first _else_
+cut-refused bs n e h letters lengths = rw (first-append, cut-sized bs n e h) (go (first (set-checks letters lengths)))
+  where
+    go : (v : Verdict) → unless (v else refused 10 0) (read-search (take n bs)) ≡ on-refusal v refuses (refuses 10 0)
+    go fine = refl
+    go (refused m p) = refl

@@ -47,6 +47,10 @@ pub record LegRule : Type 0 where
 abbrev pub moved : Search → Place → Search
 moved s p = record { template = s .template; quorum = s .quorum; set = s .set; place = p }
 
+-- a search with nothing in the slots that its template does not count: as it comes back from a save
+abbrev pub trimmed-search : Search → Search
+trimmed-search s = record { template = trimmed (s .template); quorum = s .quorum; set = s .set; place = s .place }
+
 -- the stretch of the walk that a leg covers: its room is the shortest table
 unfoldable pub stretch : List ℕ → List ℕ → Search → ℕ → ℕ → Stretch
 stretch letters lengths s budget room = leg (walk-of letters lengths s) budget room (s .place)

@@ -5,10 +5,11 @@ use mathlib.Core.Path.{_≡_}
 use Prim.Native.Nat.{ℕ, _+_, _*_, _≤_}
 use lib.Dec.{eqb}
 use lib.ListN.{length, take}
-use Rattle.rules.specs.Calls.{LegRule, leg-rule, save-rule, restore-rule}
+use Rattle.rules.specs.Calls.{on-refusal, LegRule, leg-rule, save-rule, restore-rule}
 use Rattle.rules.specs.Legs.{Stop, ended, spent, full}
-use Rattle.rules.specs.Limits.{Record-BYTES, Record-EXTRA, Template-COMPONENTS}
+use Rattle.rules.specs.Limits.{Record-BYTES, Record-EXTRA}
 use Rattle.rules.specs.Lists.{if}
+use Rattle.rules.specs.Refusals.{first, set-checks}
 use Rattle.rules.specs.Support.{support, weight, parts}
 use Rattle.rules.specs.Template.{size}
 use Rattle.rules.specs.Told.{Told, gives, refuses}
@@ -47,10 +48,10 @@ pub record Lent : Type 0 where
   pub weights : List ℕ
   pub buffer : List ℕ
 
--- each leg's buffer has room for the save of any search, which has at most eight records
-abbrev pub Roomy : List Lent → Type 0
-Roomy [] = Unit {0}
-Roomy (g ∷ gs) = (Record-BYTES * (Template-COMPONENTS + Record-EXTRA) ≤ length (g .buffer)) × Roomy gs
+-- each leg's buffer has room for a save of a search with this template: 16 bytes for each component, and 32
+abbrev pub Roomy : Template → List Lent → Type 0
+Roomy t [] = Unit {0}
+Roomy t (g ∷ gs) = (Record-BYTES * (t .count + Record-EXTRA) ≤ length (g .buffer)) × Roomy t gs
 
 -- each leg has a budget and room of at least one
 abbrev pub Ample : List Lent → Type 0
@@ -121,3 +122,7 @@ module _ (letters lengths : List ℕ) where
       let w = save-rule letters lengths (l .told .search) (g .buffer) in
       let more = go-on (restored letters lengths (w .told) (w .out)) (relay gs) in
       after (l .told .answer) (alone l) more
+
+-- HOW BYTES THAT WERE CUT SHORT ARE REFUSED, whatever sequences are lent: as 1 to 4 refuse these, and with 10 where they pass
+abbrev pub RefusedAsCut : List ℕ → Type 0
+RefusedAsCut bs = (letters lengths : List ℕ) → restore-rule letters lengths bs ≡ on-refusal (first (set-checks letters lengths)) refuses (refuses 10 0)

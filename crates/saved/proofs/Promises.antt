@@ -1,18 +1,16 @@
 -- What the promises of `save` and `restore` come to for whoever calls them, from the two promises alone: a search that was
 -- saved is restored, a search that was restored is saved as the same bytes, and a save that was cut short is refused. The
 -- promises fix each answer and what stands in the buffer, so that these are the laws of the rules, read off the answers.
-use mathlib.Core.Path.{_≡_, refl, sym, _∙_}
+use mathlib.Core.Path.{_≡_, sym, _∙_}
 use mathlib.Core.List.{List, [], _∷_}
 use Prim.Native.Nat.{ℕ, _≤_, _<_}
-use native.Mathlib.Omega.{arith}
 use lib.ListN.{length, take}
-use lib.Seq.{take-at, take-append-le}
-use Rattle.rules.specs.Calls.{written-unless, save-rule, restore-rule}
+use lib.Seq.{take-at}
+use Rattle.rules.specs.Calls.{trimmed-search, save-rule, restore-rule}
 use Rattle.rules.specs.Lists.{put}
-use Rattle.rules.specs.Refusals.{first, check17, search-checks, save-checks}
+use Rattle.rules.specs.Refusals.{first, check17, set-checks, search-checks, save-checks}
 use Rattle.rules.specs.Saved.{bytes}
-use Rattle.rules.specs.Template.{trimmed}
-use Rattle.rules.specs.Told.{Verdict, fine, refused, gives, toldSaved, toldBegun}
+use Rattle.rules.specs.Told.{fine, toldSaved, toldBegun}
 use Rattle.rules.specs.declared.Begun.{Begun}
 use Rattle.rules.specs.declared.Begun.the-variants as begun
 use Rattle.rules.specs.declared.Refusal.the-variants.{SavedSize}
@@ -21,15 +19,9 @@ use Rattle.rules.specs.declared.Saved.the-variants as saved
 use Rattle.rules.specs.declared.Search.{Search}
 use Rattle.rules.proofs.LowFirst.{Bytes}
 use Rattle.rules.proofs.OneAnswer.{Keeps, same-saved, same-begun}
-use Rattle.rules.proofs.Saves.{restore-saved, restored-passes, save-restored, cut-refused}
+use Rattle.rules.proofs.Saves.{written-gives, restore-saved, restored-passes, save-restored, saved-cut}
 use Rattle.rules.proofs.Sound.{search-sound, save-fine}
 use Rattle.rules.proofs.Verdicts.{first-both}
-
--- where something was written, the checks found nothing
-written-gives : {A : Type 0} (v : Verdict) (a : A) (xs out after : List ℕ) (b : A) → gives b ≡ (written-unless v a xs out) .told → after ≡ (written-unless v a xs out) .out
-    → (v ≡ fine) × (b ≡ a) × (after ≡ put xs out)
-written-gives fine a xs out after b e f = (refl, cc, f)
-written-gives (refused n p) a xs out after b e f = let z : _≡_ {A = ℕ} 0 1 = cc in absurd (omega arith)
 
 module _ (letters lengths : List ℕ) where
   -- `save` answered n bytes and left `after` in the buffer
@@ -37,24 +29,22 @@ module _ (letters lengths : List ℕ) where
     wrote : (first (search-checks letters lengths s) ≡ fine) × (n ≡ length (bytes s)) × (after ≡ put (bytes s) out)
     unfolding save-rule save-checks
     wrote =
-        let w = written-gives (first (save-checks letters lengths s out)) (length (bytes s)) (bytes s) out after n (saves .0) (saves .1) in
-        (first-both (search-checks letters lengths s) (check17 (length (bytes s)) out ∷ []) .0 (w .0) .0, w .1, w .2)
+        let w = written-gives (first (save-checks letters lengths s out)) (length (bytes s)) n (bytes s) out (sym (saves .0)) in
+        (first-both (search-checks letters lengths s) (check17 (length (bytes s)) out ∷ []) .0 (w .0) .0, w .1, saves .1 ∙ w .2)
 
-    -- then `restore` of those n bytes, over the same sequences, answers the search
-    pub saved-restores : trimmed (s .template) ≡ s .template → (b : Begun) → toldBegun b ≡ restore-rule letters lengths (take n after) → b ≡ begun.Search s
+    -- then `restore` of those n bytes, over the same sequences, answers the search, with nothing in the slots that it does not count
+    pub saved-restores : (b : Begun) → toldBegun b ≡ restore-rule letters lengths (take n after) → b ≡ begun.Search (trimmed-search s)
     unfolding put
-    saved-restores t b e =
+    saved-restores b e =
         let w = wrote in
         let q : take n after ≡ bytes s = rw (w .2) (take-at (bytes s) _ n (sym (w .1))) in
-        same-begun b (begun.Search s) (rw q at e ∙ restore-saved letters lengths s (w .0) t)
+        same-begun b (begun.Search (trimmed-search s)) (rw q at e ∙ restore-saved letters lengths s (w .0))
 
-    -- and of fewer of them is refused
-    pub cut-short : (k : ℕ) → k < n → (b : Begun) → toldBegun b ≡ restore-rule letters lengths (take k after) → b ≡ begun.Refused SavedSize
-    unfolding put
-    cut-short k h b e =
-        let w = wrote in
-        let q : take k after ≡ take k (bytes s) = rw (w .2) (take-append-le k (bytes s) _ (omega arith)) in
-        same-begun b (begun.Refused SavedSize) (rw q at e ∙ cut-refused letters lengths s k (w .0) (omega arith))
+    -- and of fewer of them, over any sequences that pass 1 to 4, is refused
+    pub cut-short : (k : ℕ) → k < n → (letters′ lengths′ : List ℕ) → first (set-checks letters′ lengths′) ≡ fine
+        → (b : Begun) → toldBegun b ≡ restore-rule letters′ lengths′ (take k after) → b ≡ begun.Refused SavedSize
+    cut-short k h letters′ lengths′ f b e =
+        same-begun b (begun.Refused SavedSize) (rw (saves .1) at e ∙ saved-cut letters lengths s out n k (sym (saves .0)) h letters′ lengths′ ∙ rw f)
 
   -- `restore` answered a search; `save` of it, where there is room, answers their length and writes the bytes
   pub restored-saves : (bs : List ℕ) → Bytes bs → (s : Search) → toldBegun (begun.Search s) ≡ restore-rule letters lengths bs
