@@ -13,6 +13,7 @@ use Rattle.rules.specs.Occurrence.{front-by, stands-by, reach, starts, o
 use Rattle.rules.specs.Profile.{allowed, to-come, exactly, profile-of}
 use Rattle.rules.specs.Recovery.{whole-list, page}
 use Rattle.rules.specs.Refusals.{_else_, first, first-bad, check1, check2, check3, check4, check5, check6, check7, check8, check9, check10, check11, check11-place, check12, passes?, check13, check14, check15, check6-head, check8-range, check16, check17, new-checks, restore-checks, search-checks, save-checks, recover-checks, join-checks}
+use Rattle.rules.specs.Relay.{Lent, relay}
 use Rattle.rules.specs.Saved.{low-first, read-low, size-record, component-record, place-record, component-records, records, bytes, record-at, field, record-count, component-count, read-component, read-place, read-template, read-search, sized?, blank?, size-record?, component-record?, place-record?, component-records?, place-rule?, laid-out?}
 use Rattle.rules.specs.Sequences.{split, sequences}
 use Rattle.rules.specs.Support.{marks, support, firsts, weight, rows-from, occurrence-rows, allowed-in, parts-in, measure, reaches}
@@ -94,6 +95,12 @@ saved = let l = run-leg 4 (at 2 first-place) in (save-rule letters lengths (l .t
 moved-to-CA : List ℕ
 moved-to-CA = bytes (at 3 (place 2 4))
 
+-- five legs of 4 steps over E, with 64 bytes for the save after each: their steps, then their rows
+in-legs : List ℕ
+in-legs =
+    let g : Lent = record { budget = 4; motifs = replicate 2 0; supports = replicate 2 0; weights = replicate 2 0; buffer = replicate 64 9 } in
+    let r = relay letters lengths (replicate 5 g) (at 2 first-place) in r .steps ∷ r .motifs
+
 -- the input of the paper's printing program, and what it prints
 input : List ℕ
 input =
@@ -139,6 +146,8 @@ facts =
     ∷ is (search-told (restore-rule letters lengths (take 63 saved))) (10 ∷ 0 ∷ [])
     -- an ended search restores as ended
     ∷ is (search-told (restore-rule letters lengths (bytes (at 2 ended-place)))) (0 ∷ 0 ∷ [])
+    -- E, quorum 2, in legs: the same steps and rows
+    ∷ is in-legs (20 ∷ 2 ∷ 6 ∷ 11 ∷ [])
     -- p11: quorum 3 with place CA: refusal 13
     ∷ is (search-told (restore-rule letters lengths moved-to-CA)) (13 ∷ 0 ∷ [])
     -- the printing program on E
@@ -146,5 +155,5 @@ facts =
     ∷ []
 
 the-facts : map (λ f. f .computed) facts ≡ map (λ f. f .paper) facts
-unfolding facts letters lengths pair AA AG CG GT AT in-E search-told counts-told number-told at run-leg whole saved moved-to-CA input printout run keep each joined some? all? member? sum put value letter? letter split sequences components size trimmed deal number spell front-by stands-by reach starts occurrences marks support firsts weight rows-from occurrence-rows allowed to-come exactly profile-of allowed-in parts-in measure reaches walk-in children later under onward from up next start motif listed spelled candidate leg low-first read-low size-record component-record place-record component-records records bytes record-at field record-count component-count read-component read-place read-template read-search sized? blank? size-record? component-record? place-record? component-records? place-rule? laid-out? partners partnered rising? whole-list page _else_ first first-bad check1 check2 check3 check4 check5 check6 check7 check8 check9 check10 check11 check11-place check12 passes? check13 check14 check15 check6-head check8-range check16 check17 new-checks restore-checks search-checks save-checks recover-checks join-checks begun begin-rule stretch supports-of weights-of leg-rule save-rule restore-rule recover-rule join-rule text.pieces text.parse-number text.run? text.parse-component text.parse-first text.parse-rest text.parse-components text.template-of text.but-last text.last text.lines text.unended text.text-checks text.parse-template text.parse-quorum text.parse-letters text.parse-lengths text.digits-of text.decimal text.shape-rest text.shape text.print-motif text.print-row text.print-end text.print-refused text.print-search text.print-rule
+unfolding facts letters lengths pair AA AG CG GT AT in-E search-told counts-told number-told at run-leg whole saved moved-to-CA in-legs input printout run keep each joined some? all? member? sum put value letter? letter split sequences components size trimmed deal number spell front-by stands-by reach starts occurrences marks support firsts weight rows-from occurrence-rows allowed to-come exactly profile-of allowed-in parts-in measure reaches walk-in children later under onward from up next start motif listed spelled candidate leg low-first read-low size-record component-record place-record component-records records bytes record-at field record-count component-count read-component read-place read-template read-search sized? blank? size-record? component-record? place-record? component-records? place-rule? laid-out? partners partnered rising? whole-list page _else_ first first-bad check1 check2 check3 check4 check5 check6 check7 check8 check9 check10 check11 check11-place check12 passes? check13 check14 check15 check6-head check8-range check16 check17 new-checks restore-checks search-checks save-checks recover-checks join-checks begun begin-rule stretch supports-of weights-of leg-rule save-rule restore-rule recover-rule join-rule relay text.pieces text.parse-number text.run? text.parse-component text.parse-first text.parse-rest text.parse-components text.template-of text.but-last text.last text.lines text.unended text.text-checks text.parse-template text.parse-quorum text.parse-letters text.parse-lengths text.digits-of text.decimal text.shape-rest text.shape text.print-motif text.print-row text.print-end text.print-refused text.print-search text.print-rule
 the-facts = refl
