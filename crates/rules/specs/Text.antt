@@ -4,11 +4,11 @@ use mathlib.Core.Bool.{Bool, true, false, _&&_, _||_, not}
 use mathlib.Core.List.{List, [], _∷_, _++_, map}
 use Prim.Native.Nat.{ℕ, zero, suc, _+_, _-_, _/_, _%_}
 use lib.Dec.{eqb, leb, ltb}
-use lib.ListN.{length, take, drop, getD}
+use lib.ListN.{length, take, drop, getD, replicate}
 use Rattle.rules.specs.Calls.{begin-rule}
 use Rattle.rules.specs.Letters.{letter}
 use Rattle.rules.specs.Limits.{Text-BYTES, Text-GAP-DIGITS, Text-QUORUM-DIGITS}
-use Rattle.rules.specs.Lists.{if, all?, each, joined, some?}
+use Rattle.rules.specs.Lists.{if, all?, each, joined, some?, sum}
 use Rattle.rules.specs.Motif.{number, spell}
 use Rattle.rules.specs.Profile.{base-of}
 use Rattle.rules.specs.Refusals.{first}
@@ -39,11 +39,18 @@ unfoldable pub pieces : ℕ → List ℕ → List (List ℕ)
 pieces b [] = [] ∷ []
 pieces b (x ∷ xs) = let rest = pieces b xs in if (eqb x b) ([] ∷ rest) (onto x rest)
 
--- a number of 1 to `most` digits, with no leading zero but 0 itself
+-- a number of 1 to `most` digits, with no leading zero but 0 itself: whether a text is one, and which
+abbrev pub between : ℕ → ℕ → ℕ → Bool
+between low high b = leb low b && leb b high
+
+unfoldable pub number? : ℕ → List ℕ → Bool
+number? most ds = leb 1 (length ds) && leb (length ds) most && all? (between 48 57) ds && (eqb (length ds) 1 || not (eqb (getD ds 0 0) 48))
+
+unfoldable pub digits : List ℕ → ℕ
+digits ds = number 10 (map (λ b. b - 48) ds)
+
 unfoldable pub parse-number : ℕ → List ℕ → Parsed ℕ
-parse-number most ds =
-    let ok = leb 1 (length ds) && leb (length ds) most && all? (λ b. leb 48 b && leb b 57) ds && (eqb (length ds) 1 || not (eqb (getD ds 0 0) 48)) in
-    if ok (parsed (number 10 (map (λ b. b - 48) ds))) malformed
+parse-number most ds = if (number? most ds) (parsed (digits ds)) malformed
 
 -- a run of at least one N
 unfoldable pub run? : List ℕ → Bool
@@ -164,19 +171,23 @@ digits-of (suc d) n = let higher = digits-of d (n / 10) in if (ltb n 10) [] high
 unfoldable pub decimal : ℕ → List ℕ
 decimal n = digits-of 20 n
 
--- letters in the shape of some components, each after its range: [0,1]G
+-- a text in the shape of some components, each after its range: [0,1]G
 unfoldable pub shape-rest : List Component → List ℕ → List ℕ
-shape-rest [] w = []
-shape-rest (c ∷ cs) w = 91 ∷ decimal (c .low) ++ 44 ∷ decimal (c .high) ++ 93 ∷ map letter (take (c .length) w) ++ shape-rest cs (drop (c .length) w)
+shape-rest [] text = []
+shape-rest (c ∷ cs) text = 91 ∷ decimal (c .low) ++ 44 ∷ decimal (c .high) ++ 93 ∷ take (c .length) text ++ shape-rest cs (drop (c .length) text)
 
 -- and of a template's, of which the first has no range before it: A[0,1]G
 unfoldable pub shape : List Component → List ℕ → List ℕ
-shape [] w = []
-shape (c ∷ cs) w = map letter (take (c .length) w) ++ shape-rest cs (drop (c .length) w)
+shape [] text = []
+shape (c ∷ cs) text = take (c .length) text ++ shape-rest cs (drop (c .length) text)
+
+-- the template's own text has an N for every letter: N[0,1]N
+unfoldable pub template-text : List Component → List ℕ
+template-text cs = shape cs (replicate (sum (map (λ c. c .length) cs)) 78)
 
 -- a motif in the template's shape
 unfoldable pub print-motif : Template → ℕ → List ℕ
-print-motif t m = shape (components t) (spell (base-of t) (size t) m)
+print-motif t m = shape (components t) (map letter (spell (base-of t) (size t) m))
 
 -- a row: the motif, its support and its weighted support
 unfoldable pub print-row : List (List ℕ) → Template → ℕ → List ℕ

@@ -13,8 +13,7 @@ use borrow.Author.Tests.{leb-true, leb-false, eq-eqb, ne-eqb, lt-ltb}
 use Rattle.rules.proofs.Tests.{both}
 use Rattle.rules.specs.Lists.{all?, some?}
 use Rattle.rules.specs.Motif.{number}
-use Rattle.rules.specs.Text.{run?, parsed, malformed, well-formed?, parse-number}
-use Rattle.text.specs.Parsed.{between, number?, digits}
+use Rattle.rules.specs.Text.{between, number?, digits, run?, parsed, malformed, well-formed?, parse-number}
 
 -- ---- every byte
 

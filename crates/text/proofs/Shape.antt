@@ -1,10 +1,11 @@
 -- A motif in a template's shape, component by component: its letters are dealt out in order, and no line outgrows its room.
 use mathlib.Core.Path.{_≡_, refl, sym, ap, _∙_}
-use mathlib.Core.List.{List, [], _∷_, _++_, append-assoc}
+use mathlib.Core.List.{List, [], _∷_, _++_, map, append-assoc}
 use Prim.Native.Nat.{ℕ, zero, suc, _+_, _-_, _*_, _≤_, _<_}
 use native.Mathlib.Numerals.{add-one}
 use native.Mathlib.Omega.{arith}
 use lib.ListN.{length, drop, getD, length-append}
+use Rattle.rules.specs.Letters.{letter}
 use Rattle.rules.specs.Lists.{sum}
 use Rattle.rules.specs.Motif.{spell}
 use Rattle.rules.specs.Sound.{SoundTemplate, SoundComponent}
@@ -15,6 +16,7 @@ use Rattle.rules.specs.declared.Template.{Template}
 use Rattle.rules.proofs.Components.{components-more, components-none}
 use Rattle.rules.proofs.Exact.{exact-search, exact-base}
 use Rattle.rules.proofs.Spelling.{spell-drop}
+use Rattle.rules.proofs.Tables.{map-take, map-drop}
 use Rattle.text.specs.Printed.{Wrote, pair, letters, ranged-word, size-from, shape-from}
 use Rattle.text.proofs.Decimal.{decimal-short}
 use Rattle.text.proofs.Printed.{length-pair, room}
@@ -32,9 +34,9 @@ length-ranged c j m h = rw (length-append, length-letters (c .length) j m h)
 
 -- the first component takes its letters off the front
 shape-first : (c : Component) {cs rest : List Component} (j m : ℕ) → cs ≡ c ∷ rest
-    → shape cs (spell 4 (c .length + j) m) ≡ letters (c .length) (c .length + j) m ++ shape-rest rest (spell 4 j m)
+    → shape cs (map letter (spell 4 (c .length + j) m)) ≡ letters (c .length) (c .length + j) m ++ shape-rest rest (map letter (spell 4 j m))
 unfolding shape letters
-shape-first c j m e = rw (e, spell-drop 4 (c .length) j m)
+shape-first c j m e = rw (e, map-take, map-drop, spell-drop 4 (c .length) j m)
 
 module _ (t : Template) (S : SoundTemplate t) where
   from-more : (i : ℕ) {c : Component} → i < t .count → c ≡ getD (slots t) i none → drop i (components t) ≡ c ∷ drop (i + 1) (components t)
@@ -61,7 +63,7 @@ module _ (t : Template) (S : SoundTemplate t) where
   shape-from-more : (i m : ℕ) {c : Component} → i < t .count → c ≡ getD (slots t) i none
       → shape-from t i m ≡ ranged-word c (size-from t i) m ++ shape-from t (i + 1) m
   unfolding shape-from shape-rest ranged-word letters
-  shape-from-more i m {c} h e = rw (from-more i h e, size-from-more i h e, spell-drop 4 (c .length) (size-from t (i + 1)) m) (ranged-is c _ _)
+  shape-from-more i m {c} h e = rw (from-more i h e, size-from-more i h e, map-take, map-drop, spell-drop 4 (c .length) (size-from t (i + 1)) m) (ranged-is c _ _)
 
   -- past the last component nothing is printed
   pub shape-from-end : (i m : ℕ) → t .count ≤ i → shape-from t i m ≡ []

@@ -50,7 +50,7 @@ unfoldable pub size-from : Template → ℕ → ℕ
 size-from t i = sum (map (λ c. c .length) (drop i (components t)))
 
 unfoldable pub shape-from : Template → ℕ → ℕ → List ℕ
-shape-from t i m = shape-rest (drop i (components t)) (spell Letter-BASES (size-from t i) m)
+shape-from t i m = shape-rest (drop i (components t)) (map letter (spell Letter-BASES (size-from t i) m))
 
 -- a row: the motif in the template's shape, its support and its weighted support
 unfoldable pub row : Template → ℕ → ℕ → ℕ → List ℕ

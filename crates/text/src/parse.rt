@@ -14,8 +14,8 @@ ghost use lib.ListN.{length, getD, take, drop};
 ghost use Rattle.rules.specs.Limits.{Text-BYTES, Text-QUORUM-DIGITS};
 ghost use Rattle.rules.specs.Lists.{all?};
 ghost use Rattle.rules.specs.Template.{none};
-ghost use Rattle.rules.specs.Text.{well-formed?, or-else, pieces, run?, ranged, parse-number, parse-ranged, parse-component, parse-first, parse-components, template-of};
-ghost use Rattle.text.specs.Parsed.{between, number?, digits, toldNumber, toldPiece, Below};
+ghost use Rattle.rules.specs.Text.{well-formed?, or-else, pieces, between, number?, digits, run?, ranged, parse-number, parse-ranged, parse-component, parse-first, parse-components, template-of};
+ghost use Rattle.text.specs.Parsed.{toldNumber, toldPiece, Below};
 
 // What the text of a number comes to.
 pub(crate) enum Number {

@@ -5,7 +5,7 @@ use Prim.Native.Nat.{_-_, _≤_}
 use lib.ListN.{length, drop}
 use borrow.Author.Tests.{not-true, not-false}
 use Rattle.rules.specs.Lists.{all?}
-use Rattle.text.specs.Parsed.{between}
+use Rattle.rules.specs.Text.{between}
 use Rattle.text.proofs.Numbers.{all-more, all-fails, all-end}
 use Rattle.text.proofs.parse.all_between.Statement.{statement}
 use Rattle.text.proofs.parse.all_between.Tie as tie

@@ -1,6 +1,6 @@
 -- The four tests are those of the rule.
 use borrow.Author.Needs.{needs}
-use Rattle.text.specs.Parsed.{number?}
+use Rattle.rules.specs.Text.{number?}
 use Rattle.text.proofs.parse.is_number.Statement.{statement}
 use Rattle.text.proofs.parse.is_number.Tie as tie
 

@@ -6,7 +6,7 @@ use native.Mathlib.Nat.{zero-mul, zero-add, mul-one}
 use native.Mathlib.Numerals.{add-one}
 use native.Mathlib.Omega.{arith}
 use lib.ListN.{length, drop}
-use Rattle.text.specs.Parsed.{digits}
+use Rattle.rules.specs.Text.{digits}
 use Rattle.text.proofs.Numbers.{digits-none, digits-more, digits-small, digit-low, digit-high}
 use Rattle.text.proofs.parse.value.Statement.{statement}
 use Rattle.text.proofs.parse.value.Tie as tie
