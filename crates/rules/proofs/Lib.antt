@@ -31,6 +31,7 @@ pub mod Lower
 pub mod Verdicts
 pub mod First
 pub mod EachCheck
+pub mod TextPieces
 pub mod LaidOut
 pub mod Sound
 pub mod Wide
