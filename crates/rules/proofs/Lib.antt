@@ -1,6 +1,7 @@
 -- The laws of the definitions, in the order in which they build on each other. `Demands` is the file to read first.
 pub mod Tests
 pub mod Lists
+pub mod All
 pub mod Tables
 pub mod Over
 pub mod Members
@@ -32,6 +33,7 @@ pub mod Verdicts
 pub mod First
 pub mod EachCheck
 pub mod TextPieces
+pub mod TextNumbers
 pub mod LaidOut
 pub mod Sound
 pub mod Wide

@@ -10,11 +10,12 @@ use lib.ListN.{length, getD, take, drop, replicate, length-drop}
 use lib.Seq.{take-all, take-add, drop-drop, drop-cons, getD-drop, getD-take, length-take-le}
 use borrow.Author.Tests.{le-leb, eqb-true}
 use Rattle.rules.specs.Limits.{Record-BYTES, Record-SIZE, Record-COMPONENT, Record-PLACE, Record-EXTRA, Template-COMPONENTS}
-use Rattle.rules.specs.Lists.{all?, run, sum}
+use Rattle.rules.specs.Lists.{run, sum}
 use Rattle.rules.specs.Saved.{low-first, read-low, size-record, component-record, place-record, component-records, records, bytes, record-at, field, record-count, component-count, read-component, read-place, read-template, read-search, sized?, blank?, size-record?, component-record?, place-record?, component-records?, laid-out?}
 use Rattle.rules.specs.Template.{components, kept, size, trimmed}
 use Rattle.rules.specs.declared.Component.{Component}
 use Rattle.rules.specs.declared.Search.{Search}
+use Rattle.rules.proofs.All.{all-one}
 use Rattle.rules.proofs.LowFirst.{Bytes, bytes-take, bytes-drop, written-read}
 use Rattle.rules.proofs.LaidOut.{laid-out-says}
 use Rattle.rules.proofs.Tests.{both}
@@ -44,14 +45,9 @@ module _ (r : List ℕ) (k : ℕ) where
   unfolding field
   piece-number n b h = sym (written-read n (drop k r) (omega (arith, length-drop k r)) (λ i l. bytes-drop k r b i))
 
-zeros : (xs : List ℕ) → all? (λ b. eqb b 0) xs ≡ true → xs ≡ replicate (length xs) 0
-unfolding all?
-zeros [] e = refl
-zeros (x ∷ xs) e = let p = both (eqb x 0) _ .0 e in let h = eqb-true x 0 (p .0) in rw (h, ← (zeros xs (p .1)))
-
 piece-blank : (r : List ℕ) (k n : ℕ) → k + n ≤ length r → blank? r k n ≡ true → take n (drop k r) ≡ replicate n 0
 unfolding blank?
-piece-blank r k n h e = zeros (take n (drop k r)) e ∙ ap (λ m. replicate m 0) (length-take-le n (drop k r) (omega (arith, length-drop k r)))
+piece-blank r k n h e = all-one 0 (take n (drop k r)) e ∙ ap (λ m. replicate m 0) (length-take-le n (drop k r) (omega (arith, length-drop k r)))
 
 -- EACH KIND OF RECORD is written back
 module _ (r : List ℕ) (w : length r ≡ Record-BYTES) (b : Bytes r) where

@@ -18,6 +18,11 @@ pub not-false : (b : Bool) → (not b ≡ false) ↔ (b ≡ true)
 not-false true = (λ e. refl, λ e. refl)
 not-false false = (λ e. sym e, λ e. sym e)
 
+-- a test fails exactly if what it says does not hold
+pub fails : {P : Type 0} (b : Bool) → (b ≡ true) ↔ P → (b ≡ false) ↔ (P → ⊥)
+fails true p = (λ e. absurd (false≢true (sym e)), λ h. absurd (h (p .0 refl)))
+fails false p = (λ e h. false≢true (p .1 h), λ h. refl)
+
 -- a test or one that passes
 pub or-true : (b : Bool) → b || true ≡ true
 or-true true = refl

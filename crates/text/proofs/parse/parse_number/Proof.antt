@@ -2,7 +2,8 @@
 use borrow.Author.Needs.{needs}
 use mathlib.Core.Path.{sym, _∙_}
 use native.Mathlib.Nat.{le-trans}
-use Rattle.text.proofs.Numbers.{number-yes, number-no, number-digits, number-long, number-below}
+use Rattle.rules.proofs.TextNumbers.{number-yes, number-no}
+use Rattle.text.proofs.Numbers.{number-digits, number-long, number-below}
 use Rattle.text.proofs.parse.parse_number.Statement.{statement}
 use Rattle.text.proofs.parse.parse_number.Tie as tie
 

@@ -1,7 +1,7 @@
 -- The part that is tested is the second line.
 use borrow.Author.Needs.{needs}
 use mathlib.Core.Path.{_∙_}
-use Rattle.text.proofs.Numbers.{number-well}
+use Rattle.rules.proofs.TextNumbers.{number-tested}
 use Rattle.text.proofs.read.check_quorum.Statement.{statement}
 use Rattle.text.proofs.read.check_quorum.Tie as tie
 
@@ -24,7 +24,7 @@ refuse-if-requires : tie.Need-refuse-if-requires
 refuse-if-requires c κs = search needs
 
 returns : tie.Need-returns
-returns c = c .refuse-if .ensures ∙ rw (c .before .is-number .ensures, c .before .before .before .find-line .ensures .2, number-well)
+returns c = c .refuse-if .ensures ∙ rw (c .before .is-number .ensures, c .before .before .before .find-line .ensures .2, number-tested)
 
 pub check-quorum-spec : {M : Type 1} → statement M
 check-quorum-spec =
