@@ -11,20 +11,27 @@ use borrow.Author.Tests.{eqb-true, eq-eqb}
 use Rattle.rules.specs.Lists.{all?}
 use Rattle.rules.proofs.Tests.{both}
 
+-- what holds of no member holds of all, and so does what holds of the first and of the others
+pub no-member : {A : Type 0} (P : A → Type 0) (x : A) → List·Memᴰ x [] → P x
+no-member P x m = absurd (List·Memᴰ·not-nil m)
+
+pub members : {A : Type 0} (P : A → Type 0) {y : A} {l : List A} → P y → ((x : A) → List·Memᴰ x l → P x) → (x : A) → List·Memᴰ x (y ∷ l) → P x
+members P {y} {l} p h x m = go (List·Memᴰ·cases-cons m)
+  where
+    go : (x ≡ y) ⊎ List·Memᴰ x l → P x
+    go (inl e) = rw e p
+    go (inr n) = h x n
+
 -- every one passes a test exactly if each member does
 pub all-members : {A : Type 0} (f : A → Bool) (l : List A) → (all? f l ≡ true) ↔ ((x : A) → List·Memᴰ x l → f x ≡ true)
 unfolding all?
-all-members f [] = (λ e x m. absurd (List·Memᴰ·not-nil m), λ h. refl)
-all-members {A} f (y ∷ l) =
+all-members f [] = (λ e. no-member _, λ h. refl)
+all-members f (y ∷ l) =
     let b = both (f y) (all? f l) in
     let r = all-members f l in (
-      λ e x m. go (b .0 e .0) (r .0 (b .0 e .1)) x (List·Memᴰ·cases-cons m),
+      λ e. members _ (b .0 e .0) (r .0 (b .0 e .1)),
       λ h. b .1 (h y (List·Memᴰ·head refl), r .1 (λ x m. h x (List·Memᴰ·tail m))),
     )
-  where
-    go : f y ≡ true → ((x : A) → List·Memᴰ x l → f x ≡ true) → (x : A) → (x ≡ y) ⊎ List·Memᴰ x l → f x ≡ true
-    go p h x (inl e) = rw e p
-    go p h x (inr m) = h x m
 
 -- what stands at an index is a member
 pub member-at : {A : Type 0} (l : List A) (i : ℕ) (d : A) → i < length l → List·Memᴰ (getD l i d) l

@@ -34,6 +34,7 @@ pub mod First
 pub mod EachCheck
 pub mod TextPieces
 pub mod TextNumbers
+pub mod TextTemplate
 pub mod LaidOut
 pub mod Sound
 pub mod Wide

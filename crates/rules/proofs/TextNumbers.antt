@@ -196,13 +196,17 @@ digits-decimal most (b ∷ text) l t =
 
 -- ---- what is parsed
 
-value-is : (n m : ℕ) → parsed n ≡ parsed m → n ≡ m
-value-is n m e = cc
+pub parsed-is : {A : Type 0} {a b : A} → parsed a ≡ parsed b → a ≡ b
+parsed-is e = cc
 
-no-value : {A B : Type 0} {a : A} → malformed ≡ parsed a → B
+pub no-value : {A B : Type 0} {a : A} → malformed ≡ parsed a → B
 no-value e = let z : _≡_ {A = ℕ} 0 1 = cc in absurd (omega arith)
 
--- a text is well formed or malformed
+-- a text is well formed, and comes to something, or malformed
+pub well-parsed : {A : Type 0} (p : Parsed A) → (well-formed? p ≡ true) ↔ ((a : A) × (p ≡ parsed a))
+well-parsed (parsed a) = (λ e. (a, refl), λ h. refl)
+well-parsed malformed = (λ e. absurd (false≢true e), λ h. no-value (h .1))
+
 pub malformed-fails : {A : Type 0} (p : Parsed A) → (p ≡ malformed) ↔ (well-formed? p ≡ false)
 malformed-fails (parsed a) = (λ e. no-value (sym e), λ e. absurd (false≢true (sym e)))
 malformed-fails malformed = (λ e. refl, λ e. refl)
@@ -235,7 +239,7 @@ module _ (most : ℕ) (text : List ℕ) where
       out : (z : Bool) → number? most text ≡ z → if z (parsed (digits text)) malformed ≡ parsed n → (text ≡ decimal n) × (n < 10 ^ most)
       out true z e =
           let t = number-says most text .0 z in
-          let v : digits text ≡ n = value-is (digits text) n e in
+          let v : digits text ≡ n = parsed-is e in
           rw (← v) (sym (digits-decimal most text l t), digits-small most text t)
       out false z e = no-value e
 

@@ -9,6 +9,7 @@ use lib.Dec.{eqb}
 use borrow.Author.Tests.{eqb-true, eqb-false, eq-eqb, ne-eqb}
 use Rattle.rules.specs.Lists.{if, each}
 use Rattle.rules.specs.Text.{pieces, onto, but-last, last, lines, unended}
+use Rattle.rules.proofs.All.{no-member, members}
 
 -- a text that does not hold byte b
 abbrev pub Without : ℕ → List ℕ → Type 0
@@ -23,21 +24,13 @@ pub record Cut (b : ℕ) (text piece : List ℕ) (others : List (List ℕ)) : Ty
   pub whole : text ≡ piece ++ each (λ p. b ∷ p) others
   pub none : WithoutAll b (piece ∷ others)
 
--- what holds of a text and of the rest of a list
-without-cons : (b : ℕ) {p : List ℕ} {ps : List (List ℕ)} → Without b p → WithoutAll b ps → WithoutAll b (p ∷ ps)
-without-cons b {p} {ps} h k text m = go (List·Memᴰ·cases-cons m)
-  where
-    go : (text ≡ p) ⊎ List·Memᴰ text ps → Without b text
-    go (inl e) = rw e h
-    go (inr n) = k text n
-
 -- ---- the pieces are such a cut
 
 abbrev CutIn : ℕ → List ℕ → List (List ℕ) → Type 0
 CutIn b text [] = ⊥
 CutIn b text (p ∷ ps) = Cut b text p ps
 
-without-other : (b x : ℕ) {p : List ℕ} → (x ≡ b → ⊥) → Without b p → Without b (x ∷ p)
+pub without-other : (b x : ℕ) {p : List ℕ} → (x ≡ b → ⊥) → Without b p → Without b (x ∷ p)
 without-other b x {p} d h m = go (List·Memᴰ·cases-cons m)
   where
     go : (b ≡ x) ⊎ List·Memᴰ b p → ⊥
@@ -46,16 +39,16 @@ without-other b x {p} d h m = go (List·Memᴰ·cases-cons m)
 
 cut-in : (b : ℕ) (text : List ℕ) → CutIn b text (pieces b text)
 unfolding pieces each
-cut-in b [] = record { whole = refl; none = without-cons b List·Memᴰ·not-nil (λ _ m. absurd (List·Memᴰ·not-nil m)) }
+cut-in b [] = record { whole = refl; none = members (Without b) List·Memᴰ·not-nil (no-member (Without b)) }
 cut-in b (x ∷ xs) = go (eqb x b) refl (pieces b xs) (cut-in b xs)
   where
     go : (t : Bool) → eqb x b ≡ t → (ps : List (List ℕ)) → CutIn b xs ps → CutIn b (x ∷ xs) (if t ([] ∷ ps) (onto x ps))
     go true e [] c = absurd c
     go false e [] c = absurd c
-    go true e (p ∷ ps) c = record { whole = rw (eqb-true x b e, ← c .whole); none = without-cons b List·Memᴰ·not-nil (c .none) }
+    go true e (p ∷ ps) c = record { whole = rw (eqb-true x b e, ← c .whole); none = members (Without b) List·Memᴰ·not-nil (c .none) }
     go false e (p ∷ ps) c = record {
       whole = ap (λ (l : List ℕ). x ∷ l) (c .whole);
-      none = without-cons b (without-other b x (eqb-false x b e) (c .none p (List·Memᴰ·head refl))) (λ q m. c .none q (List·Memᴰ·tail m));
+      none = members (Without b) (without-other b x (eqb-false x b e) (c .none p (List·Memᴰ·head refl))) (λ q m. c .none q (List·Memᴰ·tail m));
     }
 
 -- ---- and such a cut is the pieces

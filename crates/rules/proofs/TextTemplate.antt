@@ -1,0 +1,276 @@
+-- A template's text. Runs of N hold none of [ , and ], and neither does a number: so the text falls at these bytes into the
+-- runs and numbers that it was made of, and a line that falls so is that text.
+use mathlib.Core.Path.{_≡_, refl, sym, ap, _∙_}
+use mathlib.Core.Logic.{_↔_, Iff·trans, _⊎_, inl, inr}
+use mathlib.Core.Bool.{Bool, true, false, false≢true}
+use mathlib.Core.List.{List, [], _∷_, _++_, map, append-nil, append-assoc, List·Memᴰ, List·Memᴰ·head, List·Memᴰ·tail, List·Memᴰ·append-cases}
+use Prim.Native.Nat.{ℕ, suc, _+_, _^_, _≤_, _<_}
+use native.Mathlib.Omega.{arith}
+use lib.ListN.{length, take, drop, getD, replicate, length-append, length-replicate, replicate-append-replicate}
+use lib.Seq.{take-at, drop-at}
+use borrow.Author.Tests.{eqb-true}
+use Rattle.rules.specs.Limits.{Text-GAP-DIGITS}
+use Rattle.rules.specs.Lists.{if, each, some?, sum}
+use Rattle.rules.specs.Template.{component, none}
+use Rattle.rules.specs.Text.{Parsed, parsed, malformed, well-formed?, pieces, run?, ranged, parse-number, parse-ranged, parse-pair, parse-component, parse-first, cons, parse-rest, parse-pieces, parse-components, decimal, shape-rest, shape, template-text}
+use Rattle.rules.specs.declared.Component.{Component}
+use Rattle.rules.proofs.All.{no-member, members, all-members, all-one, one-all}
+use Rattle.rules.proofs.Tests.{fails}
+use Rattle.rules.proofs.TextNumbers.{decimal-digits, parsed-is, no-value, malformed-fails, well-parsed, number-parsed}
+use Rattle.rules.proofs.TextPieces.{Without, WithoutAll, without-other, pieces-are}
+
+-- THE PAPER'S SENTENCE: runs of at least one N with [l,u] between, of which l and u have 1 to 3 digits. A template's text is that
+-- of components of which there is one, each with a letter, the first with no range and each other with one of such numbers
+pub record Written (cs : List Component) : Type 0 where
+  pub some : 1 ≤ length cs
+  pub runs : (c : Component) → List·Memᴰ c cs → 1 ≤ c .length
+  pub no-range : (getD cs 0 none .low ≡ 0) × (getD cs 0 none .high ≡ 0)
+  pub ranges : (c : Component) → List·Memᴰ c (drop 1 cs) → (c .low < 10 ^ Text-GAP-DIGITS) × (c .high < 10 ^ Text-GAP-DIGITS)
+
+abbrev pub TemplateText : List ℕ → Type 0
+TemplateText line = (cs : List Component) × (line ≡ template-text cs) × Written cs
+
+-- ---- the text, component by component
+
+-- what stands after the [ of a component
+abbrev piece-text : Component → List ℕ
+piece-text c = decimal (c .low) ++ 44 ∷ decimal (c .high) ++ 93 ∷ replicate (c .length) 78
+
+piece-is : (c : Component) → piece-text c ≡ decimal (c .low) ++ 44 ∷ (decimal (c .high) ++ 93 ∷ replicate (c .length) 78)
+piece-is c = append-assoc (decimal (c .low)) (44 ∷ decimal (c .high)) (93 ∷ replicate (c .length) 78)
+
+-- the first n of n + m times b, and the others
+front : (b n m : ℕ) → take n (replicate (n + m) b) ≡ replicate n b
+front b n m = rw (← replicate-append-replicate n m b) (take-at (replicate n b) (replicate m b) n (length-replicate n b))
+
+others : (b n m : ℕ) → drop n (replicate (n + m) b) ≡ replicate m b
+others b n m = rw (← replicate-append-replicate n m b) (drop-at (replicate n b) (replicate m b) n (length-replicate n b))
+
+rest-text : (cs : List Component) → shape-rest cs (replicate (sum (map (λ c. c .length) cs)) 78) ≡ each (λ p. 91 ∷ p) (map piece-text cs)
+unfolding shape-rest each sum
+rest-text [] = refl
+rest-text (c ∷ cs) = rw (front, others, rest-text cs)
+
+first-text : (c : Component) (cs : List Component) → template-text (c ∷ cs) ≡ replicate (c .length) 78 ++ each (λ p. 91 ∷ p) (map piece-text cs)
+unfolding template-text shape sum
+first-text c cs = rw (front, others, rest-text cs)
+
+-- ---- what it does not hold
+
+without-append : (b : ℕ) (xs ys : List ℕ) → Without b xs → Without b ys → Without b (xs ++ ys)
+without-append b xs ys h k m = go (List·Memᴰ·append-cases xs m)
+  where
+    go : List·Memᴰ b xs ⊎ List·Memᴰ b ys → ⊥
+    go (inl m) = h m
+    go (inr m) = k m
+
+number-without : (n b : ℕ) → (48 ≤ b → b ≤ 57 → ⊥) → Without b (decimal n)
+number-without n b h m = let d = decimal-digits n b m in h (d .0) (d .1)
+
+run-without : (n b : ℕ) → (b ≡ 78 → ⊥) → Without b (replicate n 78)
+run-without n b h m = h (eqb-true b 78 (all-members _ (replicate n 78) .0 (one-all 78 n) b m))
+
+-- a run of N
+run-says : (text : List ℕ) → (run? text ≡ true) ↔ ((text ≡ replicate (length text) 78) × (1 ≤ length text))
+unfolding run? some?
+run-says [] = (λ e. absurd (false≢true e), λ h. absurd (omega (arith, h .1)))
+run-says (x ∷ xs) = (
+  λ e. (all-one 78 (x ∷ xs) e, omega arith),
+  λ h. rw (h .0) (one-all 78 (suc (length xs))),
+)
+
+-- ---- a component after the first
+
+record Ranged (c : Component) : Type 0 where
+  some : 1 ≤ c .length
+  low : c .low < 10 ^ Text-GAP-DIGITS
+  high : c .high < 10 ^ Text-GAP-DIGITS
+
+-- a text in two pieces
+in-two : (b : ℕ) (text p q : List ℕ) → (pieces b text ≡ p ∷ q ∷ []) ↔ ((text ≡ p ++ b ∷ q) × Without b p × Without b q)
+unfolding each
+in-two b text p q =
+    let r = pieces-are b text p (q ∷ []) in (
+      λ e. let c = r .0 e in (rw append-nil at (c .whole), c .none p (List·Memᴰ·head refl), c .none q (List·Memᴰ·tail (List·Memᴰ·head refl))),
+      λ h. r .1 (record { whole = rw append-nil (h .0); none = members (Without b) (h .1) (members (Without b) (h .2) (no-member (Without b))) }),
+    )
+
+module _ (c : Component) where
+  -- the numbers and the run
+  ranged-parsed : (l u text : List ℕ) → (ranged (parse-number Text-GAP-DIGITS l) (parse-number Text-GAP-DIGITS u) text ≡ parsed c)
+      ↔ ((l ≡ decimal (c .low)) × (u ≡ decimal (c .high)) × (text ≡ replicate (c .length) 78) × Ranged c)
+  ranged-parsed l u text = (λ e. out (parse-number Text-GAP-DIGITS l) (parse-number Text-GAP-DIGITS u) refl refl e, back)
+    where
+      Says : Component → Type 0
+      Says c = (l ≡ decimal (c .low)) × (u ≡ decimal (c .high)) × (text ≡ replicate (c .length) 78) × Ranged c
+
+      run : (low high : ℕ) → parse-number Text-GAP-DIGITS l ≡ parsed low → parse-number Text-GAP-DIGITS u ≡ parsed high
+          → (z : Bool) → run? text ≡ z → if z (parsed (component (length text) low high)) malformed ≡ parsed c → Says c
+      run low high p q true z e =
+          let a = number-parsed Text-GAP-DIGITS l low (omega arith) (omega arith) .0 p in
+          let b = number-parsed Text-GAP-DIGITS u high (omega arith) (omega arith) .0 q in
+          let n = run-says text .0 z in
+          rw (← parsed-is e) (a .0, b .0, n .0, record { some = n .1; low = a .1; high = b .1 })
+      run low high p q false z e = no-value e
+
+      out : (x y : Parsed ℕ) → parse-number Text-GAP-DIGITS l ≡ x → parse-number Text-GAP-DIGITS u ≡ y → ranged x y text ≡ parsed c → Says c
+      out (parsed low) (parsed high) p q e = run low high p q (run? text) refl e
+      out (parsed low) malformed p q e = no-value e
+      out malformed y p q e = no-value e
+
+      back : Says c → ranged (parse-number Text-GAP-DIGITS l) (parse-number Text-GAP-DIGITS u) text ≡ parsed c
+      back h =
+          let n : length text ≡ c .length = rw (h .2) (length-replicate (c .length) 78) in
+          let r : run? text ≡ true = run-says text .1 (rw n (h .2), rw n (h .3 .some)) in
+          rw (number-parsed Text-GAP-DIGITS l (c .low) (omega arith) (omega arith) .1 (h .0, h .3 .low), number-parsed Text-GAP-DIGITS u (c .high) (omega arith) (omega arith) .1 (h .1, h .3 .high), r, n)
+
+  -- at its comma and its ] the text falls into these three
+  two-parts : pieces 44 (piece-text c) ≡ decimal (c .low) ∷ (decimal (c .high) ++ 93 ∷ replicate (c .length) 78) ∷ []
+  two-parts = in-two 44 (piece-text c) (decimal (c .low)) (decimal (c .high) ++ 93 ∷ replicate (c .length) 78) .1 (
+    piece-is c,
+    number-without (c .low) 44 (λ h k. omega arith),
+    without-append 44 (decimal (c .high)) (93 ∷ replicate (c .length) 78) (number-without (c .high) 44 (λ h k. omega arith))
+        (without-other 44 93 (λ e. omega (arith, e)) (run-without (c .length) 44 (λ e. omega (arith, e)))),
+  )
+
+  last-parts : pieces 93 (decimal (c .high) ++ 93 ∷ replicate (c .length) 78) ≡ decimal (c .high) ∷ replicate (c .length) 78 ∷ []
+  last-parts = in-two 93 (decimal (c .high) ++ 93 ∷ replicate (c .length) 78) (decimal (c .high)) (replicate (c .length) 78) .1 (
+    refl,
+    number-without (c .high) 93 (λ h k. omega arith),
+    run-without (c .length) 93 (λ e. omega (arith, e)),
+  )
+
+  -- a text is parsed as a component exactly if it is that component's
+  component-parsed : (text : List ℕ) → (parse-component text ≡ parsed c) ↔ ((text ≡ piece-text c) × Ranged c)
+  unfolding parse-component
+  component-parsed text = (λ e. at-comma (pieces 44 text) refl e, back)
+    where
+      at-end : (l rest : List ℕ) (qs : List (List ℕ)) → pieces 93 rest ≡ qs → parse-ranged l qs ≡ parsed c → (l ++ 44 ∷ rest ≡ piece-text c) × Ranged c
+      at-end l rest [] p e = no-value e
+      at-end l rest (u ∷ []) p e = no-value e
+      at-end l rest (u ∷ ns ∷ []) p e =
+          let h = ranged-parsed l u ns .0 e in
+          (rw (in-two 93 rest u ns .0 p .0, h .0, h .1, h .2) (sym (piece-is c)), h .3)
+      at-end l rest (u ∷ ns ∷ more ∷ others) p e = no-value e
+
+      at-comma : (ps : List (List ℕ)) → pieces 44 text ≡ ps → parse-pair ps ≡ parsed c → (text ≡ piece-text c) × Ranged c
+      at-comma [] p e = no-value e
+      at-comma (l ∷ []) p e = no-value e
+      at-comma (l ∷ rest ∷ []) p e = rw (in-two 44 text l rest .0 p .0) (at-end l rest (pieces 93 rest) refl e)
+      at-comma (l ∷ rest ∷ more ∷ others) p e = no-value e
+
+      back : (text ≡ piece-text c) × Ranged c → parse-pair (pieces 44 text) ≡ parsed c
+      back h = rw (h .0, two-parts, last-parts) (ranged-parsed _ _ _ .1 (refl, refl, refl, h .1))
+
+-- ---- all of them
+
+-- a list is parsed exactly if its first and its others are
+cons-parsed : {A : Type 0} (x : Parsed A) (xs : Parsed (List A)) (y : A) (ys : List A) → (cons x xs ≡ parsed (y ∷ ys)) ↔ ((x ≡ parsed y) × (xs ≡ parsed ys))
+cons-parsed (parsed x) (parsed xs) y ys = (λ e. (cc, cc), λ h. cc)
+cons-parsed (parsed x) malformed y ys = (λ e. no-value e, λ h. no-value (h .1))
+cons-parsed malformed xs y ys = (λ e. no-value e, λ h. no-value (h .0))
+
+-- and so is not empty
+cons-some : {A B : Type 0} (x : Parsed A) (xs : Parsed (List A)) → cons x xs ≡ parsed [] → B
+cons-some (parsed x) (parsed xs) e = let z : _≡_ {A = ℕ} 0 1 = cc in absurd (omega arith)
+cons-some (parsed x) malformed e = no-value e
+cons-some malformed xs e = no-value e
+
+not-empty : {A B : Type 0} {x : A} {xs : List A} → x ∷ xs ≡ [] → B
+not-empty e = let z : _≡_ {A = ℕ} 0 1 = cc in absurd (omega arith)
+
+rest-parsed : (ps : List (List ℕ)) (cs : List Component) → (parse-rest ps ≡ parsed cs) ↔ ((ps ≡ map piece-text cs) × ((c : Component) → List·Memᴰ c cs → Ranged c))
+unfolding parse-rest
+rest-parsed [] [] = (λ e. (refl, no-member Ranged), λ h. refl)
+rest-parsed [] (c ∷ cs) = (λ e. not-empty (sym (parsed-is e)), λ h. not-empty (sym (h .0)))
+rest-parsed (p ∷ ps) [] = (cons-some (parse-component p) (parse-rest ps), λ h. not-empty (h .0))
+rest-parsed (p ∷ ps) (c ∷ cs) =
+    let r = cons-parsed (parse-component p) (parse-rest ps) c cs in
+    let q = component-parsed c p in
+    let qs = rest-parsed ps cs in (
+      λ e. let h = q .0 (r .0 e .0) in let k = qs .0 (r .0 e .1) in (rw (h .0, k .0), members Ranged (h .1) (k .1)),
+      λ h. r .1 (q .1 (cc, h .1 c (List·Memᴰ·head refl)), qs .1 (cc, λ d m. h .1 d (List·Memᴰ·tail m))),
+    )
+
+-- the first has a run and no range
+record Plain (c : Component) : Type 0 where
+  some : 1 ≤ c .length
+  low : c .low ≡ 0
+  high : c .high ≡ 0
+
+plain-is : (c : Component) → Plain c → component (c .length) 0 0 ≡ c
+plain-is c p i = component (c .length) (sym (p .low) i) (sym (p .high) i)
+
+first-parsed : (text : List ℕ) (c : Component) → (parse-first text ≡ parsed c) ↔ ((text ≡ replicate (c .length) 78) × Plain c)
+unfolding parse-first
+first-parsed text c = (λ e. out (run? text) refl e, back)
+  where
+    out : (z : Bool) → run? text ≡ z → if z (parsed (component (length text) 0 0)) malformed ≡ parsed c → (text ≡ replicate (c .length) 78) × Plain c
+    out true z e = let n = run-says text .0 z in rw (← parsed-is e) (n .0, record { some = n .1; low = refl; high = refl })
+    out false z e = no-value e
+
+    back : (text ≡ replicate (c .length) 78) × Plain c → if (run? text) (parsed (component (length text) 0 0)) malformed ≡ parsed c
+    back h =
+        let n : length text ≡ c .length = rw (h .0) (length-replicate (c .length) 78) in
+        rw (run-says text .1 (rw n (h .0), rw n (h .1 .some)), n) (ap parsed (plain-is c (h .1)))
+
+-- no piece holds a [
+piece-without : (c : Component) → Without 91 (piece-text c)
+piece-without c =
+    without-append 91 (decimal (c .low) ++ 44 ∷ decimal (c .high)) (93 ∷ replicate (c .length) 78)
+        (without-append 91 (decimal (c .low)) (44 ∷ decimal (c .high)) (number-without (c .low) 91 (λ h k. omega arith))
+            (without-other 91 44 (λ e. omega (arith, e)) (number-without (c .high) 91 (λ h k. omega arith))))
+        (without-other 91 93 (λ e. omega (arith, e)) (run-without (c .length) 91 (λ e. omega (arith, e))))
+
+pieces-without : (cs : List Component) → WithoutAll 91 (map piece-text cs)
+pieces-without [] = no-member (Without 91)
+pieces-without (c ∷ cs) = members (Without 91) (piece-without c) (pieces-without cs)
+
+-- a line is parsed as some components exactly if it is their text
+module _ (line : List ℕ) where
+  pub template-parsed : (cs : List Component) → (parse-components line ≡ parsed cs) ↔ ((line ≡ template-text cs) × Written cs)
+  unfolding parse-components
+  template-parsed cs = (λ e. out cs (pieces 91 line) refl e, back cs)
+    where
+      written : (c : Component) (ds : List Component) → Plain c → ((d : Component) → List·Memᴰ d ds → Ranged d) → Written (c ∷ ds)
+      written c ds p h = record {
+        some = omega arith;
+        runs = members (λ (d : Component). 1 ≤ d .length) (p .some) (λ d m. h d m .some);
+        no-range = (p .low, p .high);
+        ranges = λ d m. (h d m .low, h d m .high);
+      }
+
+      out : (cs : List Component) (ps : List (List ℕ)) → pieces 91 line ≡ ps → parse-pieces ps ≡ parsed cs → (line ≡ template-text cs) × Written cs
+      out cs [] p e = no-value e
+      out [] (q ∷ qs) p e = cons-some (parse-first q) (parse-rest qs) e
+      out (c ∷ ds) (q ∷ qs) p e =
+          let r = cons-parsed (parse-first q) (parse-rest qs) c ds .0 e in
+          let f = first-parsed q c .0 (r .0) in
+          let k = rest-parsed qs ds .0 (r .1) in
+          (pieces-are 91 line q qs .0 p .whole ∙ rw (f .0, k .0) (sym (first-text c ds)), written c ds (f .1) (k .1))
+
+      back : (cs : List Component) → (line ≡ template-text cs) × Written cs → parse-pieces (pieces 91 line) ≡ parsed cs
+      back [] h = absurd (omega (arith, h .1 .some))
+      back (c ∷ ds) h =
+          let w = h .1 in
+          let p = pieces-are 91 line (replicate (c .length) 78) (map piece-text ds) .1
+              (record { whole = h .0 ∙ first-text c ds; none = members (Without 91) (run-without (c .length) 91 (λ e. omega (arith, e))) (pieces-without ds) }) in
+          rw p (cons-parsed (parse-first (replicate (c .length) 78)) (parse-rest (map piece-text ds)) c ds .1 (
+            first-parsed (replicate (c .length) 78) c .1 (refl, record { some = w .runs c (List·Memᴰ·head refl); low = w .no-range .0; high = w .no-range .1 }),
+            rest-parsed (map piece-text ds) ds .1 (refl, λ d m. record { some = w .runs d (List·Memᴰ·tail m); low = w .ranges d m .0; high = w .ranges d m .1 }),
+          ))
+
+  -- and it is malformed exactly if it is the text of none
+  pub template-well : (well-formed? (parse-components line) ≡ true) ↔ TemplateText line
+  template-well = Iff·trans (well-parsed (parse-components line)) (λ h. let k = template-parsed (h .0) .0 (h .1) in (h .0, k .0, k .1), λ h. (h .0, template-parsed (h .0) .1 (h .1, h .2)))
+
+  pub template-malformed : (parse-components line ≡ malformed) ↔ (TemplateText line → ⊥)
+  template-malformed = Iff·trans (malformed-fails (parse-components line)) (fails _ template-well)
+
+-- no line is no template
+pub template-some : TemplateText [] → ⊥
+template-some h = none (h .0) (h .1) (h .2)
+  where
+    none : (cs : List Component) → [] ≡ template-text cs → Written cs → ⊥
+    none [] e w = omega (arith, w .some)
+    none (c ∷ cs) e w = omega (arith, w .runs c (List·Memᴰ·head refl), ap length (e ∙ first-text c cs), length-append (replicate (c .length) 78) (each (λ p. 91 ∷ p) (map piece-text cs)), length-replicate {A = ℕ} (c .length) 78)
