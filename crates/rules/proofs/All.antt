@@ -1,8 +1,8 @@
 -- Laws of `all?`: what a test says of every one of a list.
 use mathlib.Core.Path.{_≡_, refl}
-use mathlib.Core.Logic.{_↔_, _⊎_, inl, inr}
+use mathlib.Core.Logic.{_↔_, ⊎-elim}
 use mathlib.Core.Bool.{Bool, true}
-use mathlib.Core.List.{List, [], _∷_, List·Memᴰ, List·Memᴰ·head, List·Memᴰ·tail, List·Memᴰ·not-nil, List·Memᴰ·cases-cons}
+use mathlib.Core.List.{List, [], _∷_, _++_, List·Memᴰ, List·Memᴰ·head, List·Memᴰ·tail, List·Memᴰ·not-nil, List·Memᴰ·cases-cons, List·Memᴰ·append-cases}
 use Prim.Native.Nat.{ℕ, zero, suc, _<_}
 use native.Mathlib.Omega.{arith}
 use lib.Dec.{eqb}
@@ -16,11 +16,11 @@ pub no-member : {A : Type 0} (P : A → Type 0) (x : A) → List·Memᴰ x [] �
 no-member P x m = absurd (List·Memᴰ·not-nil m)
 
 pub members : {A : Type 0} (P : A → Type 0) {y : A} {l : List A} → P y → ((x : A) → List·Memᴰ x l → P x) → (x : A) → List·Memᴰ x (y ∷ l) → P x
-members P {y} {l} p h x m = go (List·Memᴰ·cases-cons m)
-  where
-    go : (x ≡ y) ⊎ List·Memᴰ x l → P x
-    go (inl e) = rw e p
-    go (inr n) = h x n
+members P p h x m = ⊎-elim (λ e. rw e p) (h x) (List·Memᴰ·cases-cons m)
+
+-- and what holds of two lists holds of both end to end
+pub members-append : {A : Type 0} (P : A → Type 0) (k l : List A) → ((x : A) → List·Memᴰ x k → P x) → ((x : A) → List·Memᴰ x l → P x) → (x : A) → List·Memᴰ x (k ++ l) → P x
+members-append P k l f g x m = ⊎-elim (f x) (g x) (List·Memᴰ·append-cases k m)
 
 -- every one passes a test exactly if each member does
 pub all-members : {A : Type 0} (f : A → Bool) (l : List A) → (all? f l ≡ true) ↔ ((x : A) → List·Memᴰ x l → f x ≡ true)

@@ -35,6 +35,7 @@ pub mod EachCheck
 pub mod TextPieces
 pub mod TextNumbers
 pub mod TextTemplate
+pub mod TextLines
 pub mod LaidOut
 pub mod Sound
 pub mod Wide

@@ -181,12 +181,12 @@ to-come-some (c ∷ cs) [] l =
     omega (arith, times 1 (c .high + 1 - c .low) (to-come cs []) g)
 to-come-some (c ∷ cs) (x ∷ w) l = to-come-some cs (drop (c .length) (x ∷ w)) (λ i k. l (suc i) (omega arith))
 
-some-length : {A : Type 0} (xs : List A) → some? xs ≡ true → 1 ≤ length xs
+pub some-length : {A : Type 0} (xs : List A) → some? xs ≡ true → 1 ≤ length xs
 unfolding some?
 some-length [] e = absurd (false≢true e)
 some-length (x ∷ xs) e = omega arith
 
-length-some : {A : Type 0} (xs : List A) → 1 ≤ length xs → some? xs ≡ true
+pub length-some : {A : Type 0} (xs : List A) → 1 ≤ length xs → some? xs ≡ true
 unfolding some?
 length-some [] h = absurd (omega arith)
 length-some (x ∷ xs) h = refl

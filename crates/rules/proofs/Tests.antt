@@ -18,6 +18,11 @@ pub not-false : (b : Bool) → (not b ≡ false) ↔ (b ≡ true)
 not-false true = (λ e. refl, λ e. refl)
 not-false false = (λ e. sym e, λ e. sym e)
 
+-- and one that must fail fails
+pub not-passes : (b : Bool) → (not b ≡ true) ↔ (b ≡ false)
+not-passes true = (λ e. sym e, λ e. sym e)
+not-passes false = (λ e. refl, λ e. refl)
+
 -- a test fails exactly if what it says does not hold
 pub fails : {P : Type 0} (b : Bool) → (b ≡ true) ↔ P → (b ≡ false) ↔ (P → ⊥)
 fails true p = (λ e. absurd (false≢true (sym e)), λ h. absurd (h (p .0 refl)))

@@ -1,7 +1,7 @@
 -- A number in a text. The digits of a number are its letters in base ten, as many as it needs: so a text of digits with no
 -- leading zero is the decimal text of the number that the digits make, and of no other.
 use mathlib.Core.Path.{_≡_, refl, sym, ap, _∙_}
-use mathlib.Core.Logic.{_↔_, Iff·trans, _⊎_, inl, inr}
+use mathlib.Core.Logic.{_↔_, Iff·trans, _⊎_, inl, inr, ⊎-elim}
 use mathlib.Core.Bool.{Bool, true, false, _&&_, _||_, not, false≢true}
 use mathlib.Core.List.{List, [], _∷_, _++_, map, map-append, List·Memᴰ, List·Memᴰ·head, List·Memᴰ·tail, List·Memᴰ·not-nil, List·Memᴰ·append-cases, List·Memᴰ·eq-of-singleton}
 use Prim.Native.Nat.{ℕ, zero, suc, _+_, _-_, _*_, _/_, _%_, _^_, _≤_, _<_}
@@ -65,13 +65,9 @@ digits-in (suc d) n {b} m = go (ltb n 10) m (digits-in d (n / 10))
     one : List·Memᴰ b ((48 + n % 10) ∷ []) → (48 ≤ b) × (b ≤ 57)
     one m = let e = List·Memᴰ·eq-of-singleton m in (omega (arith, e), omega (arith, e))
 
-    either : List·Memᴰ b (digits-of d (n / 10)) ⊎ List·Memᴰ b ((48 + n % 10) ∷ []) → (List·Memᴰ b (digits-of d (n / 10)) → (48 ≤ b) × (b ≤ 57)) → (48 ≤ b) × (b ≤ 57)
-    either (inl m) ih = ih m
-    either (inr m) ih = one m
-
     go : (t : Bool) → List·Memᴰ b (if t [] (digits-of d (n / 10)) ++ ((48 + n % 10) ∷ [])) → (List·Memᴰ b (digits-of d (n / 10)) → (48 ≤ b) × (b ≤ 57)) → (48 ≤ b) × (b ≤ 57)
     go true m ih = one m
-    go false m ih = either (List·Memᴰ·append-cases (digits-of d (n / 10)) m) ih
+    go false m ih = ⊎-elim ih one (List·Memᴰ·append-cases (digits-of d (n / 10)) m)
 
 pub decimal-digits : (n b : ℕ) → List·Memᴰ b (decimal n) → (48 ≤ b) × (b ≤ 57)
 unfolding decimal

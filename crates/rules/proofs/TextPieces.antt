@@ -1,7 +1,7 @@
 -- The pieces of a text, cut at a byte: none of them holds the byte, joined with it they are the text again, and there is no
 -- other way to cut it so. Its lines are all pieces at byte 10 but the last, which no such byte ends.
 use mathlib.Core.Path.{_≡_, refl, sym, ap, _∙_, subst}
-use mathlib.Core.Logic.{_↔_, _⊎_, inl, inr}
+use mathlib.Core.Logic.{_↔_, ⊎-elim}
 use mathlib.Core.Bool.{Bool, true, false}
 use mathlib.Core.List.{List, [], _∷_, _++_, append-nil, append-assoc, List·Memᴰ, List·Memᴰ·head, List·Memᴰ·tail, List·Memᴰ·not-nil, List·Memᴰ·cases-cons}
 use Prim.Native.Nat.{ℕ}
@@ -30,12 +30,8 @@ abbrev CutIn : ℕ → List ℕ → List (List ℕ) → Type 0
 CutIn b text [] = ⊥
 CutIn b text (p ∷ ps) = Cut b text p ps
 
-pub without-other : (b x : ℕ) {p : List ℕ} → (x ≡ b → ⊥) → Without b p → Without b (x ∷ p)
-without-other b x {p} d h m = go (List·Memᴰ·cases-cons m)
-  where
-    go : (b ≡ x) ⊎ List·Memᴰ b p → ⊥
-    go (inl e) = d (sym e)
-    go (inr n) = h n
+without-other : (b x : ℕ) {p : List ℕ} → (x ≡ b → ⊥) → Without b p → Without b (x ∷ p)
+without-other b x d h m = ⊎-elim (λ e. d (sym e)) h (List·Memᴰ·cases-cons m)
 
 cut-in : (b : ℕ) (text : List ℕ) → CutIn b text (pieces b text)
 unfolding pieces each
@@ -99,11 +95,7 @@ but-last-in : (ps : List (List ℕ)) {l : List ℕ} → List·Memᴰ l (but-last
 unfolding but-last
 but-last-in [] m = m
 but-last-in (p ∷ []) m = absurd (List·Memᴰ·not-nil m)
-but-last-in (p ∷ q ∷ qs) {l} m = go (List·Memᴰ·cases-cons m) (but-last-in (q ∷ qs))
-  where
-    go : (l ≡ p) ⊎ List·Memᴰ l (but-last (q ∷ qs)) → (List·Memᴰ l (but-last (q ∷ qs)) → List·Memᴰ l (q ∷ qs)) → List·Memᴰ l (p ∷ q ∷ qs)
-    go (inl e) ih = List·Memᴰ·head e
-    go (inr n) ih = List·Memᴰ·tail (ih n)
+but-last-in (p ∷ q ∷ qs) m = ⊎-elim (λ e. List·Memᴰ·head e) (λ n. List·Memᴰ·tail (but-last-in (q ∷ qs) n)) (List·Memᴰ·cases-cons m)
 
 last-in : (p : List ℕ) (ps : List (List ℕ)) → List·Memᴰ (last (p ∷ ps)) (p ∷ ps)
 unfolding last

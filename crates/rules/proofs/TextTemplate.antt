@@ -1,9 +1,9 @@
 -- A template's text. Runs of N hold none of [ , and ], and neither does a number: so the text falls at these bytes into the
 -- runs and numbers that it was made of, and a line that falls so is that text.
 use mathlib.Core.Path.{_≡_, refl, sym, ap, _∙_}
-use mathlib.Core.Logic.{_↔_, Iff·trans, _⊎_, inl, inr}
+use mathlib.Core.Logic.{_↔_, Iff·trans}
 use mathlib.Core.Bool.{Bool, true, false, false≢true}
-use mathlib.Core.List.{List, [], _∷_, _++_, map, append-nil, append-assoc, List·Memᴰ, List·Memᴰ·head, List·Memᴰ·tail, List·Memᴰ·append-cases}
+use mathlib.Core.List.{List, [], _∷_, _++_, map, append-nil, append-assoc, List·Memᴰ, List·Memᴰ·head, List·Memᴰ·tail, Memᴰ·of-map}
 use Prim.Native.Nat.{ℕ, suc, _+_, _^_, _≤_, _<_}
 use native.Mathlib.Omega.{arith}
 use lib.ListN.{length, take, drop, getD, replicate, length-append, length-replicate, replicate-append-replicate}
@@ -14,10 +14,11 @@ use Rattle.rules.specs.Lists.{if, each, some?, sum}
 use Rattle.rules.specs.Template.{component, none}
 use Rattle.rules.specs.Text.{Parsed, parsed, malformed, well-formed?, pieces, run?, ranged, parse-number, parse-ranged, parse-pair, parse-component, parse-first, cons, parse-rest, parse-pieces, parse-components, decimal, shape-rest, shape, template-text}
 use Rattle.rules.specs.declared.Component.{Component}
-use Rattle.rules.proofs.All.{no-member, members, all-members, all-one, one-all}
+use Rattle.rules.proofs.All.{no-member, members, members-append, all-members, all-one, one-all}
+use Rattle.rules.proofs.Members.{each-out}
 use Rattle.rules.proofs.Tests.{fails}
 use Rattle.rules.proofs.TextNumbers.{decimal-digits, parsed-is, no-value, malformed-fails, well-parsed, number-parsed}
-use Rattle.rules.proofs.TextPieces.{Without, WithoutAll, without-other, pieces-are}
+use Rattle.rules.proofs.TextPieces.{Without, pieces-are}
 
 -- THE PAPER'S SENTENCE: runs of at least one N with [l,u] between, of which l and u have 1 to 3 digits. A template's text is that
 -- of components of which there is one, each with a letter, the first with no range and each other with one of such numbers
@@ -32,11 +33,14 @@ TemplateText line = (cs : List Component) × (line ≡ template-text cs) × Writ
 
 -- ---- the text, component by component
 
--- what stands after the [ of a component
+-- what stands after the [ of a component, and after its comma
 abbrev piece-text : Component → List ℕ
 piece-text c = decimal (c .low) ++ 44 ∷ decimal (c .high) ++ 93 ∷ replicate (c .length) 78
 
-piece-is : (c : Component) → piece-text c ≡ decimal (c .low) ++ 44 ∷ (decimal (c .high) ++ 93 ∷ replicate (c .length) 78)
+abbrev end-text : Component → List ℕ
+end-text c = decimal (c .high) ++ 93 ∷ replicate (c .length) 78
+
+piece-is : (c : Component) → piece-text c ≡ decimal (c .low) ++ 44 ∷ end-text c
 piece-is c = append-assoc (decimal (c .low)) (44 ∷ decimal (c .high)) (93 ∷ replicate (c .length) 78)
 
 -- the first n of n + m times b, and the others
@@ -55,20 +59,35 @@ first-text : (c : Component) (cs : List Component) → template-text (c ∷ cs) 
 unfolding template-text shape sum
 first-text c cs = rw (front, others, rest-text cs)
 
--- ---- what it does not hold
+-- ---- the bytes that it holds
 
-without-append : (b : ℕ) (xs ys : List ℕ) → Without b xs → Without b ys → Without b (xs ++ ys)
-without-append b xs ys h k m = go (List·Memᴰ·append-cases xs m)
-  where
-    go : List·Memᴰ b xs ⊎ List·Memᴰ b ys → ⊥
-    go (inl m) = h m
-    go (inr m) = k m
+run-bytes : (n b : ℕ) → List·Memᴰ b (replicate n 78) → b ≡ 78
+run-bytes n b m = eqb-true b 78 (all-members _ (replicate n 78) .0 (one-all 78 n) b m)
 
-number-without : (n b : ℕ) → (48 ≤ b → b ≤ 57 → ⊥) → Without b (decimal n)
-number-without n b h m = let d = decimal-digits n b m in h (d .0) (d .1)
+-- a comma is below the digits, and these are below the letters and the brackets
+end-bytes : (c : Component) (b : ℕ) → List·Memᴰ b (end-text c) → (48 ≤ b) × (b ≡ 91 → ⊥)
+end-bytes c =
+    members-append _ (decimal (c .high)) (93 ∷ replicate (c .length) 78)
+        (λ b m. let d = decimal-digits (c .high) b m in (d .0, λ e. omega (arith, d .1, e)))
+        (members _ (omega arith, λ e. omega (arith, e)) (λ b m. let e = run-bytes (c .length) b m in (omega (arith, e), λ f. omega (arith, e, f))))
 
-run-without : (n b : ℕ) → (b ≡ 78 → ⊥) → Without b (replicate n 78)
-run-without n b h m = h (eqb-true b 78 (all-members _ (replicate n 78) .0 (one-all 78 n) b m))
+piece-bytes : (c : Component) (b : ℕ) → List·Memᴰ b (piece-text c) → (44 ≤ b) × (b ≡ 91 → ⊥)
+piece-bytes c =
+    rw (piece-is c) (members-append _ (decimal (c .low)) (44 ∷ end-text c)
+        (λ b m. let d = decimal-digits (c .low) b m in (omega (arith, d .0), λ e. omega (arith, d .1, e)))
+        (members _ (omega arith, λ e. omega (arith, e)) (λ b m. let d = end-bytes c b m in (omega (arith, d .0), d .1))))
+
+pieces-bytes : (cs : List Component) (p : List ℕ) → List·Memᴰ p (map piece-text cs) → (b : ℕ) → List·Memᴰ b p → (44 ≤ b) × (b ≡ 91 → ⊥)
+pieces-bytes cs p m = let r = Memᴰ·of-map piece-text cs m in rw (← r .2) (piece-bytes (r .0))
+
+-- all bytes of a template's text lie above a line's end
+pub template-bytes : (cs : List Component) (b : ℕ) → List·Memᴰ b (template-text cs) → 44 ≤ b
+unfolding template-text shape
+template-bytes [] = no-member (λ b. 44 ≤ b)
+template-bytes (c ∷ cs) =
+    rw (first-text c cs) (members-append _ (replicate (c .length) 78) (each (λ p. 91 ∷ p) (map piece-text cs))
+        (λ b m. omega (arith, run-bytes (c .length) b m))
+        (λ b m. let r = each-out (λ p. 91 ∷ p) (map piece-text cs) m in members (λ b. 44 ≤ b) (omega arith) (λ b m. pieces-bytes cs (r .0) (r .1) b m .0) b (r .2)))
 
 -- a run of N
 run-says : (text : List ℕ) → (run? text ≡ true) ↔ ((text ≡ replicate (length text) 78) × (1 ≤ length text))
@@ -125,19 +144,18 @@ module _ (c : Component) where
           rw (number-parsed Text-GAP-DIGITS l (c .low) (omega arith) (omega arith) .1 (h .0, h .3 .low), number-parsed Text-GAP-DIGITS u (c .high) (omega arith) (omega arith) .1 (h .1, h .3 .high), r, n)
 
   -- at its comma and its ] the text falls into these three
-  two-parts : pieces 44 (piece-text c) ≡ decimal (c .low) ∷ (decimal (c .high) ++ 93 ∷ replicate (c .length) 78) ∷ []
-  two-parts = in-two 44 (piece-text c) (decimal (c .low)) (decimal (c .high) ++ 93 ∷ replicate (c .length) 78) .1 (
+  two-parts : pieces 44 (piece-text c) ≡ decimal (c .low) ∷ end-text c ∷ []
+  two-parts = in-two 44 (piece-text c) (decimal (c .low)) (end-text c) .1 (
     piece-is c,
-    number-without (c .low) 44 (λ h k. omega arith),
-    without-append 44 (decimal (c .high)) (93 ∷ replicate (c .length) 78) (number-without (c .high) 44 (λ h k. omega arith))
-        (without-other 44 93 (λ e. omega (arith, e)) (run-without (c .length) 44 (λ e. omega (arith, e)))),
+    λ m. omega (arith, decimal-digits (c .low) 44 m .0),
+    λ m. omega (arith, end-bytes c 44 m .0),
   )
 
-  last-parts : pieces 93 (decimal (c .high) ++ 93 ∷ replicate (c .length) 78) ≡ decimal (c .high) ∷ replicate (c .length) 78 ∷ []
-  last-parts = in-two 93 (decimal (c .high) ++ 93 ∷ replicate (c .length) 78) (decimal (c .high)) (replicate (c .length) 78) .1 (
+  end-parts : pieces 93 (end-text c) ≡ decimal (c .high) ∷ replicate (c .length) 78 ∷ []
+  end-parts = in-two 93 (end-text c) (decimal (c .high)) (replicate (c .length) 78) .1 (
     refl,
-    number-without (c .high) 93 (λ h k. omega arith),
-    run-without (c .length) 93 (λ e. omega (arith, e)),
+    λ m. omega (arith, decimal-digits (c .high) 93 m .1),
+    λ m. omega (arith, run-bytes (c .length) 93 m),
   )
 
   -- a text is parsed as a component exactly if it is that component's
@@ -160,7 +178,7 @@ module _ (c : Component) where
       at-comma (l ∷ rest ∷ more ∷ others) p e = no-value e
 
       back : (text ≡ piece-text c) × Ranged c → parse-pair (pieces 44 text) ≡ parsed c
-      back h = rw (h .0, two-parts, last-parts) (ranged-parsed _ _ _ .1 (refl, refl, refl, h .1))
+      back h = rw (h .0, two-parts, end-parts) (ranged-parsed _ _ _ .1 (refl, refl, refl, h .1))
 
 -- ---- all of them
 
@@ -214,18 +232,6 @@ first-parsed text c = (λ e. out (run? text) refl e, back)
         let n : length text ≡ c .length = rw (h .0) (length-replicate (c .length) 78) in
         rw (run-says text .1 (rw n (h .0), rw n (h .1 .some)), n) (ap parsed (plain-is c (h .1)))
 
--- no piece holds a [
-piece-without : (c : Component) → Without 91 (piece-text c)
-piece-without c =
-    without-append 91 (decimal (c .low) ++ 44 ∷ decimal (c .high)) (93 ∷ replicate (c .length) 78)
-        (without-append 91 (decimal (c .low)) (44 ∷ decimal (c .high)) (number-without (c .low) 91 (λ h k. omega arith))
-            (without-other 91 44 (λ e. omega (arith, e)) (number-without (c .high) 91 (λ h k. omega arith))))
-        (without-other 91 93 (λ e. omega (arith, e)) (run-without (c .length) 91 (λ e. omega (arith, e))))
-
-pieces-without : (cs : List Component) → WithoutAll 91 (map piece-text cs)
-pieces-without [] = no-member (Without 91)
-pieces-without (c ∷ cs) = members (Without 91) (piece-without c) (pieces-without cs)
-
 -- a line is parsed as some components exactly if it is their text
 module _ (line : List ℕ) where
   pub template-parsed : (cs : List Component) → (parse-components line ≡ parsed cs) ↔ ((line ≡ template-text cs) × Written cs)
@@ -254,7 +260,7 @@ module _ (line : List ℕ) where
       back (c ∷ ds) h =
           let w = h .1 in
           let p = pieces-are 91 line (replicate (c .length) 78) (map piece-text ds) .1
-              (record { whole = h .0 ∙ first-text c ds; none = members (Without 91) (run-without (c .length) 91 (λ e. omega (arith, e))) (pieces-without ds) }) in
+              (record { whole = h .0 ∙ first-text c ds; none = members (Without 91) (λ m. omega (arith, run-bytes (c .length) 91 m)) (λ p m n. pieces-bytes ds p m 91 n .1 refl) }) in
           rw p (cons-parsed (parse-first (replicate (c .length) 78)) (parse-rest (map piece-text ds)) c ds .1 (
             first-parsed (replicate (c .length) 78) c .1 (refl, record { some = w .runs c (List·Memᴰ·head refl); low = w .no-range .0; high = w .no-range .1 }),
             rest-parsed (map piece-text ds) ds .1 (refl, λ d m. record { some = w .runs d (List·Memᴰ·tail m); low = w .ranges d m .0; high = w .ranges d m .1 }),
