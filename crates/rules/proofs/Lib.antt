@@ -36,6 +36,7 @@ pub mod TextPieces
 pub mod TextNumbers
 pub mod TextTemplate
 pub mod TextLines
+pub mod TextRefused
 pub mod LaidOut
 pub mod Sound
 pub mod Wide

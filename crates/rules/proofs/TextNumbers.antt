@@ -129,7 +129,7 @@ read-back : (w : List ℕ) → map (λ b. b - 48) (map digit w) ≡ w
 read-back [] = refl
 read-back (x ∷ w) = let e : 48 + x - 48 ≡ x = omega arith in rw (e, read-back w)
 
-decimal-number : (most n : ℕ) → most < 20 → n < 10 ^ suc most → NumberText (suc most) (decimal n) × (digits (decimal n) ≡ n)
+pub decimal-number : (most n : ℕ) → most < 20 → n < 10 ^ suc most → NumberText (suc most) (decimal n) × (digits (decimal n) ≡ n)
 unfolding digits
 decimal-number most n l h =
     let r = places most n h in

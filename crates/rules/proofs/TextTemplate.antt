@@ -33,8 +33,8 @@ TemplateText line = (cs : List Component) × (line ≡ template-text cs) × Writ
 
 -- ---- the text, component by component
 
--- what stands after the [ of a component, and after its comma
-abbrev piece-text : Component → List ℕ
+-- what stands after the [ of a component, its range and its run; and after the comma
+abbrev pub piece-text : Component → List ℕ
 piece-text c = decimal (c .low) ++ 44 ∷ decimal (c .high) ++ 93 ∷ replicate (c .length) 78
 
 abbrev end-text : Component → List ℕ
@@ -50,12 +50,13 @@ front b n m = rw (← replicate-append-replicate n m b) (take-at (replicate n b)
 others : (b n m : ℕ) → drop n (replicate (n + m) b) ≡ replicate m b
 others b n m = rw (← replicate-append-replicate n m b) (drop-at (replicate n b) (replicate m b) n (length-replicate n b))
 
+-- each component after the first is a [ and its piece
 rest-text : (cs : List Component) → shape-rest cs (replicate (sum (map (λ c. c .length) cs)) 78) ≡ each (λ p. 91 ∷ p) (map piece-text cs)
 unfolding shape-rest each sum
 rest-text [] = refl
 rest-text (c ∷ cs) = rw (front, others, rest-text cs)
 
-first-text : (c : Component) (cs : List Component) → template-text (c ∷ cs) ≡ replicate (c .length) 78 ++ each (λ p. 91 ∷ p) (map piece-text cs)
+pub first-text : (c : Component) (cs : List Component) → template-text (c ∷ cs) ≡ replicate (c .length) 78 ++ each (λ p. 91 ∷ p) (map piece-text cs)
 unfolding template-text shape sum
 first-text c cs = rw (front, others, rest-text cs)
 
@@ -68,14 +69,14 @@ run-bytes n b m = eqb-true b 78 (all-members _ (replicate n 78) .0 (one-all 78 n
 end-bytes : (c : Component) (b : ℕ) → List·Memᴰ b (end-text c) → (48 ≤ b) × (b ≡ 91 → ⊥)
 end-bytes c =
     members-append _ (decimal (c .high)) (93 ∷ replicate (c .length) 78)
-        (λ b m. let d = decimal-digits (c .high) b m in (d .0, λ e. omega (arith, d .1, e)))
-        (members _ (omega arith, λ e. omega (arith, e)) (λ b m. let e = run-bytes (c .length) b m in (omega (arith, e), λ f. omega (arith, e, f))))
+    (λ b m. let d = decimal-digits (c .high) b m in (d .0, λ e. omega (arith, d .1, e)))
+    (members _ (omega arith, λ e. omega (arith, e)) (λ b m. let e = run-bytes (c .length) b m in (omega (arith, e), λ f. omega (arith, e, f))))
 
 piece-bytes : (c : Component) (b : ℕ) → List·Memᴰ b (piece-text c) → (44 ≤ b) × (b ≡ 91 → ⊥)
 piece-bytes c =
     rw (piece-is c) (members-append _ (decimal (c .low)) (44 ∷ end-text c)
-        (λ b m. let d = decimal-digits (c .low) b m in (omega (arith, d .0), λ e. omega (arith, d .1, e)))
-        (members _ (omega arith, λ e. omega (arith, e)) (λ b m. let d = end-bytes c b m in (omega (arith, d .0), d .1))))
+    (λ b m. let d = decimal-digits (c .low) b m in (omega (arith, d .0), λ e. omega (arith, d .1, e)))
+    (members _ (omega arith, λ e. omega (arith, e)) (λ b m. let d = end-bytes c b m in (omega (arith, d .0), d .1))))
 
 pieces-bytes : (cs : List Component) (p : List ℕ) → List·Memᴰ p (map piece-text cs) → (b : ℕ) → List·Memᴰ b p → (44 ≤ b) × (b ≡ 91 → ⊥)
 pieces-bytes cs p m = let r = Memᴰ·of-map piece-text cs m in rw (← r .2) (piece-bytes (r .0))
@@ -86,8 +87,8 @@ unfolding template-text shape
 template-bytes [] = no-member (λ b. 44 ≤ b)
 template-bytes (c ∷ cs) =
     rw (first-text c cs) (members-append _ (replicate (c .length) 78) (each (λ p. 91 ∷ p) (map piece-text cs))
-        (λ b m. omega (arith, run-bytes (c .length) b m))
-        (λ b m. let r = each-out (λ p. 91 ∷ p) (map piece-text cs) m in members (λ b. 44 ≤ b) (omega arith) (λ b m. pieces-bytes cs (r .0) (r .1) b m .0) b (r .2)))
+    (λ b m. omega (arith, run-bytes (c .length) b m))
+    (λ b m. let r = each-out (λ p. 91 ∷ p) (map piece-text cs) m in members (λ b. 44 ≤ b) (omega arith) (λ b m. pieces-bytes cs (r .0) (r .1) b m .0) b (r .2)))
 
 -- a run of N
 run-says : (text : List ℕ) → (run? text ≡ true) ↔ ((text ≡ replicate (length text) 78) × (1 ≤ length text))
@@ -260,7 +261,7 @@ module _ (line : List ℕ) where
       back (c ∷ ds) h =
           let w = h .1 in
           let p = pieces-are 91 line (replicate (c .length) 78) (map piece-text ds) .1
-              (record { whole = h .0 ∙ first-text c ds; none = members (Without 91) (λ m. omega (arith, run-bytes (c .length) 91 m)) (λ p m n. pieces-bytes ds p m 91 n .1 refl) }) in
+          (record { whole = h .0 ∙ first-text c ds; none = members (Without 91) (λ m. omega (arith, run-bytes (c .length) 91 m)) (λ p m n. pieces-bytes ds p m 91 n .1 refl) }) in
           rw p (cons-parsed (parse-first (replicate (c .length) 78)) (parse-rest (map piece-text ds)) c ds .1 (
             first-parsed (replicate (c .length) 78) c .1 (refl, record { some = w .runs c (List·Memᴰ·head refl); low = w .no-range .0; high = w .no-range .1 }),
             rest-parsed (map piece-text ds) ds .1 (refl, λ d m. record { some = w .runs d (List·Memᴰ·tail m); low = w .ranges d m .0; high = w .ranges d m .1 }),

@@ -1,15 +1,12 @@
 -- A number's digits are those of its tenth part, and the last one.
-use mathlib.Core.Path.{_≡_, _∙_}
-use mathlib.Core.Bool.{Bool, true, false}
+use mathlib.Core.Path.{_≡_}
 use mathlib.Core.List.{[], _∷_, _++_}
 use Prim.Native.Nat.{ℕ, zero, suc, _+_, _/_, _%_, _^_, _≤_, _<_}
-use native.Mathlib.Nat.{add-zero, add-suc, le-trans, pow-le-pow-right}
 use native.Mathlib.Omega.{arith}
-use lib.Dec.{ltb}
 use lib.ListN.{length, length-append}
 use borrow.Author.Tests.{lt-ltb, le-ltb}
-use Rattle.rules.specs.Lists.{if}
 use Rattle.rules.specs.Text.{digits-of, decimal}
+use Rattle.rules.proofs.TextNumbers.{decimal-number}
 
 tenth : (d n : ℕ) → n < 10 ^ suc d → n / 10 < 10 ^ d
 tenth d n h = omega (arith, h)
@@ -38,20 +35,6 @@ decimal-more n h k = rw (← digits-same 18 (n / 10) (tenth 19 n k)) (last-digit
 pub decimal-longer : (n : ℕ) → 10 ≤ n → n < 10 ^ 20 → length (decimal n) ≡ length (decimal (n / 10)) + 1
 decimal-longer n h k = rw (← decimal-more n h k) (length-append (decimal (n / 10)) ((48 + n % 10) ∷ []))
 
-digits-short : (d n : ℕ) → length (digits-of d n) ≤ d
-unfolding digits-of
-digits-short zero n = omega arith
-digits-short (suc d) n = go (ltb n 10) (digits-short d (n / 10))
-  where
-    go : (b : Bool) → length (digits-of d (n / 10)) ≤ d → length (if b [] (digits-of d (n / 10)) ++ ((48 + n % 10) ∷ [])) ≤ suc d
-    go true h = omega arith
-    go false h = rw length-append (omega arith)
-
-digits-up : (d k n : ℕ) → n < 10 ^ suc d → digits-of (suc d) n ≡ digits-of (suc (d + k)) n
-digits-up d zero n h = rw add-zero
-digits-up d (suc k) n h = digits-up d k n h ∙ rw add-suc (digits-same (d + k) n (le-trans h (pow-le-pow-right (omega arith) (omega arith))))
-
 -- a number below ten to the power of d has at most d digits
 pub decimal-short : (d k n : ℕ) → suc (d + k) ≡ 20 → n < 10 ^ suc d → length (decimal n) ≤ suc d
-unfolding decimal
-decimal-short d k n e h = rw (← e, ← digits-up d k n h) (digits-short (suc d) n)
+decimal-short d k n e h = decimal-number d n (omega (arith, e)) h .0 .few

@@ -9,6 +9,7 @@ use lib.Dec.{ltb}
 use lib.ListN.{length, take, drop, getD, drop-of-length-le}
 use lib.Seq.{drop-cons, getD-drop}
 use borrow.Author.Tests.{lt-ltb, le-ltb, ltb-true, ltb-false, not-false}
+use Rattle.rules.proofs.TextLines.{text-passes}
 use Rattle.rules.proofs.Verdicts.{else-fine}
 use Rattle.rules.specs.Limits.{Text-BYTES, Text-QUORUM-DIGITS}
 use Rattle.rules.specs.Lists.{some?}
@@ -62,20 +63,6 @@ unended-some start l e = rw (← e) (go (ltb start (length l)) refl)
 
 -- ---- the checks in order
 
-else-first : (v w : Verdict) → v else w ≡ fine → v ≡ fine
-unfolding _else_
-else-first fine w e = refl
-else-first (refused n p) w e = e
-
-else-next : (v w : Verdict) → v else w ≡ fine → w ≡ fine
-unfolding _else_
-else-next fine w e = e
-else-next (refused n p) w e = let z : _≡_ {A = ℕ} 0 1 = cc in absurd (omega arith)
-
-passed : (b : Bool) (n : ℕ) → refuse-line b n ≡ fine → b ≡ false
-passed false n e = refl
-passed true n e = let z : _≡_ {A = ℕ} 0 1 = cc in absurd (omega arith)
-
 module _ (l : List ℕ) where
   -- too long an input is told first
   pub text-long : Text-BYTES < length l → refused 18 0 ≡ first (text-checks l)
@@ -94,10 +81,8 @@ module _ (l : List ℕ) where
   module _ (e : first (text-checks l) ≡ fine) where
     -- it is not too long
     pub text-short : length l ≤ Text-BYTES
-    unfolding first text-checks
-    text-short = ltb-false Text-BYTES (length l) (passed _ 0 (else-first _ _ e))
+    text-short = ltb-false Text-BYTES (length l) (text-passes l e .0)
 
     -- its first line is a template
     pub text-template : well-formed? (parse-components (line l 1)) ≡ true
-    unfolding first text-checks
-    text-template = not-false _ (passed _ 1 (else-first _ _ (else-next _ _ e)))
+    text-template = not-false _ (text-passes l e .1)

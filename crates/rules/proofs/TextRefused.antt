@@ -1,0 +1,142 @@
+-- THE PRINTING PROGRAM'S INPUT, in the paper's words ("The printing program"): what is read of it, and what is refused with 18.
+-- The statements stand in front, the proofs behind them.
+use mathlib.Core.Path.{_≡_, refl, sym, ap, _∙_}
+use mathlib.Core.Logic.{_↔_}
+use mathlib.Core.Bool.{false, false≢true}
+use mathlib.Core.List.{List, [], _∷_, _++_, map, map-append, append-nil, List·Memᴰ·not-nil, List·Memᴰ·tail}
+use Prim.Native.Nat.{ℕ, _^_, _≤_, _<_}
+use native.Mathlib.Omega.{arith}
+use lib.ListN.{length, getD, replicate, length-map}
+use lib.Seq.{take-at, drop-at}
+use borrow.Author.Tests.{ltb-false}
+use Rattle.rules.specs.Calls.{begin-rule}
+use Rattle.rules.specs.Letters.{value}
+use Rattle.rules.specs.Limits.{Text-BYTES, Text-QUORUM-DIGITS}
+use Rattle.rules.specs.Lists.{each, joined, some?}
+use Rattle.rules.specs.Refusals.{first}
+use Rattle.rules.specs.Sequences.{split, sequences}
+use Rattle.rules.specs.Text.{parsed, malformed, parse-number, parse-components, template-of, lines, unended, line, text-checks, parse-template, parse-quorum, parse-letters, parse-lengths, decimal, template-text, print-refused, print-told, print-rule}
+use Rattle.rules.specs.Told.{fine, refused}
+use Rattle.rules.specs.declared.Component.{Component}
+use Rattle.rules.proofs.All.{members}
+use Rattle.rules.proofs.Tests.{not-false}
+use Rattle.rules.proofs.TextLines.{Bad, too-long, missing, no-template, no-quorum, no-end, Lowest, text-passes, refused-lowest, fine-none}
+use Rattle.rules.proofs.TextNumbers.{NumberText, decimal-digits, well-parsed, number-parsed, number-malformed, number-well}
+use Rattle.rules.proofs.TextPieces.{Lined, Without, WithoutAll, ended, lined, lined-only}
+use Rattle.rules.proofs.TextTemplate.{Written, TemplateText, piece-text, first-text, template-parsed, template-malformed, template-well, template-bytes}
+
+-- an input that is read: the template's text, the quorum, then one sequence a line, each line ended by byte 10
+pub record Reads (input : List ℕ) (cs : List Component) (quorum : ℕ) (ss : List (List ℕ)) : Type 0 where
+  pub short : length input ≤ Text-BYTES
+  pub whole : input ≡ each ended (template-text cs ∷ decimal quorum ∷ ss)
+  pub written : Written cs
+  pub few-digits : quorum < 10 ^ Text-QUORUM-DIGITS
+  pub none : WithoutAll 10 ss
+
+pub record TextRefused : Type 0 where
+  -- the lines of an input each end in a byte 10, with none before its end, and what follows the last of them has none
+  pub in-lines : (input : List ℕ) (ls : List (List ℕ)) (rest : List ℕ) → Lined input ls rest ↔ ((ls ≡ lines input) × (rest ≡ unended input))
+  -- a number has 1 to so many digits, with no leading zero but 0 itself; any other text is malformed
+  pub no-number : (most : ℕ) (text : List ℕ) → (parse-number most text ≡ malformed) ↔ (NumberText most text → ⊥)
+  -- such a text is the decimal text of one number below the power of ten, and is read as that
+  pub number : (most : ℕ) (text : List ℕ) (n : ℕ) → 1 ≤ most → most ≤ 20 → (parse-number most text ≡ parsed n) ↔ ((text ≡ decimal n) × (n < 10 ^ most))
+  -- template text is runs of N with [l,u] between
+  pub runs : (c : Component) (cs : List Component) → template-text (c ∷ cs) ≡ replicate (c .length) 78 ++ each (λ p. 91 ∷ p) (map piece-text cs)
+  -- it is read as the components that it is the text of, of at least one N each
+  pub components : (text : List ℕ) (cs : List Component) → (parse-components text ≡ parsed cs) ↔ ((text ≡ template-text cs) × Written cs)
+  -- and a text of none is malformed
+  pub no-components : (text : List ℕ) → (parse-components text ≡ malformed) ↔ (TemplateText text → ⊥)
+  -- an input is refused with 18 and the number of its lowest bad line
+  pub lowest-line : (input : List ℕ) (n p : ℕ) → (first (text-checks input) ≡ refused n p) ↔ ((n ≡ 18) × Lowest input p)
+  -- it passes exactly if no line is bad
+  pub no-line : (input : List ℕ) → (first (text-checks input) ≡ fine) ↔ ((p : ℕ) → Bad input p → ⊥)
+  -- and that is if it is the text of a template, a quorum and sequences
+  pub passes : (input : List ℕ) → (first (text-checks input) ≡ fine) ↔ ((cs : List Component) × (quorum : ℕ) × (ss : List (List ℕ)) × Reads input cs quorum ss)
+  -- 18 comes before all others
+  pub before-all : (input : List ℕ) (p : ℕ) → Lowest input p → print-rule input ≡ print-refused 18 p
+  -- and else what is printed is what a search with that template and quorum over these sequences tells
+  pub searched : (input : List ℕ) (cs : List Component) (quorum : ℕ) (ss : List (List ℕ)) → Reads input cs quorum ss
+      → print-rule input ≡ print-told (map (map value) ss) (begin-rule (joined ss) (map length ss) (template-of cs) quorum)
+
+-- ---- THE PROOFS
+
+lined-says : (input : List ℕ) (ls : List (List ℕ)) (rest : List ℕ) → Lined input ls rest ↔ ((ls ≡ lines input) × (rest ≡ unended input))
+lined-says input ls rest = (lined-only input ls rest, λ h. rw (h .0, h .1) (lined input))
+
+told-first : (input : List ℕ) (p : ℕ) → Lowest input p → print-rule input ≡ print-refused 18 p
+unfolding print-rule
+told-first input p l = rw (refused-lowest input 18 p .1 (refl, l))
+
+-- sequences laid end to end, split by their lengths
+split-joined : (ss : List (List ℕ)) → split (map length ss) (map value (joined ss)) ≡ map (map value) ss
+unfolding split joined
+split-joined [] = refl
+split-joined (s ∷ ss) =
+    rw (map-append, take-at (map value s) (map value (joined ss)) (length s) (length-map s value), drop-at (map value s) (map value (joined ss)) (length s) (length-map s value), split-joined ss)
+
+none-left : (l : List ℕ) → some? l ≡ false → l ≡ []
+unfolding some?
+none-left [] e = refl
+none-left (x ∷ l) e = absurd (false≢true (sym e))
+
+module _ (input : List ℕ) where
+  -- the lines of an input that is read
+  module _ (cs : List Component) (quorum : ℕ) (ss : List (List ℕ)) (r : Reads input cs quorum ss) where
+    read-lines : (template-text cs ∷ decimal quorum ∷ ss ≡ lines input) × ([] ≡ unended input)
+    read-lines = lined-only input (template-text cs ∷ decimal quorum ∷ ss) [] (record {
+      whole = r .whole ∙ sym (append-nil _);
+      none = members (Without 10) (λ m. omega (arith, template-bytes cs 10 m)) (members (Without 10) (λ m. omega (arith, decimal-digits quorum 10 m .0)) (r .none));
+      none-after = List·Memᴰ·not-nil;
+    })
+
+    read-template : parse-components (line input 1) ≡ parsed cs
+    read-template = rw (← read-lines .0) (template-parsed (template-text cs) cs .1 (refl, r .written))
+
+    read-quorum : parse-number Text-QUORUM-DIGITS (line input 2) ≡ parsed quorum
+    read-quorum = rw (← read-lines .0) (number-parsed Text-QUORUM-DIGITS (decimal quorum) quorum (omega arith) (omega arith) .1 (refl, r .few-digits))
+
+    read-fine : first (text-checks input) ≡ fine
+    read-fine = fine-none input .1 go
+      where
+        go : (p : ℕ) → Bad input p → ⊥
+        go p (too-long e h) = omega (arith, r .short)
+        go p (missing a b h) = omega (arith, ap length (read-lines .0))
+        go p (no-template e l h) = h (template-well (line input 1) .0 (well-parsed _ .1 (cs, read-template)))
+        go p (no-quorum e l h) = h (number-well Text-QUORUM-DIGITS (line input 2) .0 (well-parsed _ .1 (quorum, read-quorum)))
+        go p (no-end e h) = omega (arith, ap length (read-lines .1))
+
+    read-printed : print-rule input ≡ print-told (map (map value) ss) (begin-rule (joined ss) (map length ss) (template-of cs) quorum)
+    unfolding print-rule parse-template parse-quorum parse-letters parse-lengths sequences
+    read-printed = rw (read-fine, read-template, read-quorum, ← read-lines .0, split-joined ss)
+
+  -- an input that passes is read so
+  passed-reads : first (text-checks input) ≡ fine → (cs : List Component) × (quorum : ℕ) × (ss : List (List ℕ)) × Reads input cs quorum ss
+  passed-reads e =
+      let t = text-passes input e in
+      let c = template-well (line input 1) .0 (not-false _ .0 (t .1)) in
+      let q = well-parsed (parse-number Text-QUORUM-DIGITS (line input 2)) .0 (not-false _ .0 (t .2)) in
+      let n = number-parsed Text-QUORUM-DIGITS (line input 2) (q .0) (omega arith) (omega arith) .0 (q .1) in
+      let r = go (lines input) (rw (none-left (unended input) (t .3)) at (lined input)) (λ h. fine-none input .0 e 2 (missing (omega arith) (omega arith) h)) (c .1) (n .0) in
+      (c .0, q .0, r .0, record { short = ltb-false Text-BYTES (length input) (t .0); whole = r .1; written = c .2; few-digits = n .1; none = r .2 })
+    where
+      go : (ls : List (List ℕ)) → Lined input ls [] → (length ls < 2 → ⊥) → {a b : List ℕ} → getD ls 0 [] ≡ a → getD ls 1 [] ≡ b
+          → (ss : List (List ℕ)) × (input ≡ each ended (a ∷ b ∷ ss)) × WithoutAll 10 ss
+      go [] l h p q = absurd (h (omega arith))
+      go (x ∷ []) l h p q = absurd (h (omega arith))
+      go (x ∷ y ∷ ss) l h p q = (ss, rw (← p, ← q) (l .whole ∙ append-nil _), λ s m. l .none s (List·Memᴰ·tail (List·Memᴰ·tail m)))
+
+pub text-refused : TextRefused
+text-refused =
+    record {
+      in-lines = lined-says;
+      no-number = number-malformed;
+      number = number-parsed;
+      runs = first-text;
+      components = template-parsed;
+      no-components = template-malformed;
+      lowest-line = refused-lowest;
+      no-line = fine-none;
+      passes = λ input. (passed-reads input, λ h. read-fine input (h .0) (h .1) (h .2) (h .3));
+      before-all = told-first;
+      searched = read-printed;
+    }
