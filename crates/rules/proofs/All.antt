@@ -1,4 +1,4 @@
--- Laws of `all?`: what a test says of every one of a list.
+-- What holds of every member of a list, and a test of every one of it, `all?`.
 use mathlib.Core.Path.{_≡_, refl}
 use mathlib.Core.Logic.{_↔_, ⊎-elim}
 use mathlib.Core.Bool.{Bool, true}
@@ -11,14 +11,15 @@ use borrow.Author.Tests.{eqb-true, eq-eqb}
 use Rattle.rules.specs.Lists.{all?}
 use Rattle.rules.proofs.Tests.{both}
 
--- what holds of no member holds of all, and so does what holds of the first and of the others
+-- an empty list has no member that it could fail to hold of
 pub no-member : {A : Type 0} (P : A → Type 0) (x : A) → List·Memᴰ x [] → P x
 no-member P x m = absurd (List·Memᴰ·not-nil m)
 
+-- what holds of the first and of each of the others holds of each
 pub members : {A : Type 0} (P : A → Type 0) {y : A} {l : List A} → P y → ((x : A) → List·Memᴰ x l → P x) → (x : A) → List·Memᴰ x (y ∷ l) → P x
 members P p h x m = ⊎-elim (λ e. rw e p) (h x) (List·Memᴰ·cases-cons m)
 
--- and what holds of two lists holds of both end to end
+-- what holds of each of two lists holds of each of both end to end
 pub members-append : {A : Type 0} (P : A → Type 0) (k l : List A) → ((x : A) → List·Memᴰ x k → P x) → ((x : A) → List·Memᴰ x l → P x) → (x : A) → List·Memᴰ x (k ++ l) → P x
 members-append P k l f g x m = ⊎-elim (f x) (g x) (List·Memᴰ·append-cases k m)
 
@@ -39,12 +40,13 @@ member-at [] i d h = absurd (omega arith)
 member-at (x ∷ l) zero d h = List·Memᴰ·head refl
 member-at (x ∷ l) (suc i) d h = List·Memᴰ·tail (member-at l i d (omega arith))
 
--- a list of one number alone is so many of it, and back
+-- a list of one number alone is so many of it
 pub all-one : (v : ℕ) (l : List ℕ) → all? (λ b. eqb b v) l ≡ true → l ≡ replicate (length l) v
 unfolding all?
 all-one v [] e = refl
 all-one v (x ∷ l) e = let p = both (eqb x v) _ .0 e in let h = eqb-true x v (p .0) in rw (h, ← (all-one v l (p .1)))
 
+-- so many of a number are that number alone
 pub one-all : (v n : ℕ) → all? (λ b. eqb b v) (replicate n v) ≡ true
 unfolding all?
 one-all v zero = refl

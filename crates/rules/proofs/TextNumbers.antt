@@ -24,7 +24,15 @@ pub record NumberText (most : ℕ) (text : List ℕ) : Type 0 where
   pub all-digits : (b : ℕ) → List·Memᴰ b text → (48 ≤ b) × (b ≤ 57)
   pub no-leading-zero : getD text 0 0 ≡ 48 → length text ≡ 1
 
--- the test of the rule says that
+-- a test of every byte for the digits says that each is one
+pub digits-all : (text : List ℕ) → (all? (between 48 57) text ≡ true) ↔ ((b : ℕ) → List·Memᴰ b text → (48 ≤ b) × (b ≤ 57))
+digits-all text =
+    let a = all-members (between 48 57) text in (
+      λ e b m. let h = both (leb 48 b) (leb b 57) .0 (a .0 e b m) in (leb-true 48 b (h .0), leb-true b 57 (h .1)),
+      λ h. a .1 (λ b m. both (leb 48 b) (leb b 57) .1 (le-leb 48 b (h b m .0), le-leb b 57 (h b m .1))),
+    )
+
+-- the test of the rule says what the sentence says
 pub number-says : (most : ℕ) (text : List ℕ) → (number? most text ≡ true) ↔ NumberText most text
 unfolding number?
 number-says most text = (
@@ -34,14 +42,11 @@ number-says most text = (
       record {
         some = leb-true 1 (length text) (r .0);
         few = leb-true (length text) most (r .1);
-        all-digits = λ b m. let h = both (leb 48 b) (leb b 57) .0 (all-members (between 48 57) text .0 (q .1) b m) in (leb-true 48 b (h .0), leb-true b 57 (h .1));
+        all-digits = digits-all text .0 (q .1);
         no-leading-zero = leading (or-cases _ _ (p .1));
       },
   λ h. both _ _ .1 (
-    both _ _ .1 (
-      both _ _ .1 (le-leb 1 (length text) (h .some), le-leb (length text) most (h .few)),
-      all-members (between 48 57) text .1 (λ b m. both _ _ .1 (le-leb 48 b (h .all-digits b m .0), le-leb b 57 (h .all-digits b m .1))),
-    ),
+    both _ _ .1 (both _ _ .1 (le-leb 1 (length text) (h .some), le-leb (length text) most (h .few)), digits-all text .1 (h .all-digits)),
     back (eqb (getD text 0 0) 48) refl (h .no-leading-zero),
   ),
 )
@@ -69,6 +74,7 @@ digits-in (suc d) n {b} m = go (ltb n 10) m (digits-in d (n / 10))
     go true m ih = one m
     go false m ih = ⊎-elim ih one (List·Memᴰ·append-cases (digits-of d (n / 10)) m)
 
+-- and so is every byte of its decimal text
 pub decimal-digits : (n b : ℕ) → List·Memᴰ b (decimal n) → (48 ≤ b) × (b ≤ 57)
 unfolding decimal
 decimal-digits n b m = digits-in 20 n m
@@ -78,6 +84,7 @@ abbrev Places : ℕ → ℕ → Type 0
 Places zero n = n < 10 ^ 1
 Places (suc j) n = (10 ^ suc j ≤ n) × (n < 10 ^ suc (suc j))
 
+-- it lies below the next power of ten, and its tenth has a place less
 places-below : (j n : ℕ) → Places j n → n < 10 ^ suc j
 places-below zero n p = p
 places-below (suc j) n p = p .1
@@ -103,6 +110,7 @@ last-digit : (n : ℕ) → spell 10 1 n ≡ n % 10 ∷ []
 unfolding spell
 last-digit n = spell-more 10 0 n
 
+-- the digits of such a number are its j + 1 letters in base ten
 digits-spelled : (j d n : ℕ) → j ≤ d → Places j n → digits-of (suc d) n ≡ map digit (spell 10 (suc j) n)
 unfolding digits-of
 digits-spelled zero d n l p = rw (lt-ltb n 10 (omega (arith, p)), last-digit n)
@@ -116,6 +124,7 @@ decimal-spelled j n l p = digits-spelled j 19 n (omega arith) p
 
 -- ---- the decimal text of a number is a number's text
 
+-- the first of several digits is not 0
 first-digit : (j n : ℕ) → Places j n → getD (map digit (spell 10 (suc j) n)) 0 0 ≡ 48 → suc j ≡ 1
 unfolding spell
 first-digit zero n p e = refl
@@ -125,10 +134,12 @@ first-digit (suc j) n p e =
     let high : n / 10 ^ suc j < 10 = div-lt-iff-lt-mul some .1 (omega (arith, p .1, pow-suc 10 (suc j))) in
     absurd (omega (arith, e, mod-eq-of-lt high, low))
 
+-- digits written as bytes are read back
 read-back : (w : List ℕ) → map (λ b. b - 48) (map digit w) ≡ w
 read-back [] = refl
 read-back (x ∷ w) = let e : 48 + x - 48 ≡ x = omega arith in rw (e, read-back w)
 
+-- a number below a power of ten has no more digits than that, and they make that number
 pub decimal-number : (most n : ℕ) → most < 20 → n < 10 ^ suc most → NumberText (suc most) (decimal n) × (digits (decimal n) ≡ n)
 unfolding digits
 decimal-number most n l h =
@@ -147,14 +158,17 @@ decimal-number most n l h =
 
 -- ---- and a number's text is the decimal text of what its digits make
 
+-- a number between two powers of ten has the places between them
 places-of : (j n : ℕ) → n < 10 ^ suc j → (1 ≤ j → 10 ^ j ≤ n) → Places j n
 places-of zero n h k = h
 places-of (suc j) n h k = (k (omega arith), h)
 
+-- bytes that are digits are written back
 write-back : (l : List ℕ) → ((b : ℕ) → List·Memᴰ b l → (48 ≤ b) × (b ≤ 57)) → map digit (map (λ b. b - 48) l) ≡ l
 write-back [] h = refl
 write-back (x ∷ l) h = let e : 48 + (x - 48) ≡ x = omega (arith, h x (List·Memᴰ·head refl) .0) in rw (e, write-back l (λ b m. h b (List·Memᴰ·tail m)))
 
+-- what the digits make has no more places than there are digits
 module _ (most : ℕ) (text : List ℕ) (t : NumberText most text) where
   below-ten : (i : ℕ) → i < length (map (λ b. b - 48) text) → getD (map (λ b. b - 48) text) i 0 < 10
   below-ten i l =
@@ -173,7 +187,7 @@ pub digits-cons : (b : ℕ) (l : List ℕ) → digits (b ∷ l) ≡ (b - 48) * 1
 unfolding digits number
 digits-cons b l = rw (length-map l (λ (b : ℕ). b - 48))
 
--- more than one digit has no leading zero
+-- more than one digit has no leading zero, and so makes no less than its first place
 digits-large : (most b : ℕ) (l : List ℕ) → NumberText most (b ∷ l) → 1 ≤ length l → 10 ^ length l ≤ digits (b ∷ l)
 digits-large most b l t h = rw digits-cons (omega (arith, mul-le-mul-right (10 ^ length l) (some (ltb 48 b) refl)))
   where
@@ -181,6 +195,7 @@ digits-large most b l t h = rw digits-cons (omega (arith, mul-le-mul-right (10 ^
     some true e = omega (arith, ltb-true 48 b e)
     some false e = absurd (omega (arith, t .no-leading-zero (omega (arith, ltb-false 48 b e, t .all-digits b (List·Memᴰ·head refl) .0))))
 
+-- so it is the text
 digits-decimal : (most : ℕ) (text : List ℕ) → most ≤ 20 → NumberText most text → decimal (digits text) ≡ text
 unfolding digits
 digits-decimal most [] l t = absurd (omega (arith, t .some))
@@ -192,13 +207,14 @@ digits-decimal most (b ∷ text) l t =
 
 -- ---- what is parsed
 
+-- a text comes to one thing, and a malformed one to nothing
 pub parsed-is : {A : Type 0} {a b : A} → parsed a ≡ parsed b → a ≡ b
 parsed-is e = cc
 
 pub no-value : {A B : Type 0} {a : A} → malformed ≡ parsed a → B
 no-value e = let z : _≡_ {A = ℕ} 0 1 = cc in absurd (omega arith)
 
--- a text is well formed, and comes to something, or malformed
+-- a text is well formed exactly if it comes to something, and else malformed
 pub well-parsed : {A : Type 0} (p : Parsed A) → (well-formed? p ≡ true) ↔ ((a : A) × (p ≡ parsed a))
 well-parsed (parsed a) = (λ e. (a, refl), λ h. refl)
 well-parsed malformed = (λ e. absurd (false≢true e), λ h. no-value (h .1))
@@ -245,13 +261,13 @@ module _ (most : ℕ) (text : List ℕ) where
           let r = decimal-number m n (omega arith) k in
           rw (e, number-says (suc m) (decimal n) .1 (r .0), r .1)
 
-  -- it is malformed exactly if it is no number's text
+  -- it is well formed exactly if it is a number's text, and else malformed
   pub number-well : (well-formed? (parse-number most text) ≡ true) ↔ NumberText most text
   number-well = rw (← number-tested most text) (number-says most text)
 
   pub number-malformed : (parse-number most text ≡ malformed) ↔ (NumberText most text → ⊥)
   number-malformed = Iff·trans (malformed-fails (parse-number most text)) (fails _ number-well)
 
--- no line is no number
+-- an empty text is no number's
 pub number-some : (most : ℕ) → NumberText most [] → ⊥
 number-some most t = omega (arith, t .some)

@@ -26,13 +26,16 @@ pub record Cut (b : ℕ) (text piece : List ℕ) (others : List (List ℕ)) : Ty
 
 -- ---- the pieces are such a cut
 
+-- some pieces are: there is a first, and the others
 abbrev CutIn : ℕ → List ℕ → List (List ℕ) → Type 0
 CutIn b text [] = ⊥
 CutIn b text (p ∷ ps) = Cut b text p ps
 
+-- one byte more that is another
 without-other : (b x : ℕ) {p : List ℕ} → (x ≡ b → ⊥) → Without b p → Without b (x ∷ p)
 without-other b x d h m = ⊎-elim (λ e. d (sym e)) h (List·Memᴰ·cases-cons m)
 
+-- byte by byte: a b starts a piece, and any other byte goes onto the first
 cut-in : (b : ℕ) (text : List ℕ) → CutIn b text (pieces b text)
 unfolding pieces each
 cut-in b [] = record { whole = refl; none = members (Without b) List·Memᴰ·not-nil (no-member (Without b)) }
@@ -49,16 +52,19 @@ cut-in b (x ∷ xs) = go (eqb x b) refl (pieces b xs) (cut-in b xs)
 
 -- ---- and such a cut is the pieces
 
+-- a text without b is one piece
 pieces-one : (b : ℕ) (xs : List ℕ) → Without b xs → pieces b xs ≡ xs ∷ []
 unfolding pieces
 pieces-one b [] h = refl
 pieces-one b (x ∷ xs) h = rw (ne-eqb x b (λ e. h (List·Memᴰ·head (sym e))), pieces-one b xs (λ m. h (List·Memᴰ·tail m)))
 
+-- one before a b is a piece, and the others are those of what follows
 pieces-more : (b : ℕ) (xs ys : List ℕ) → Without b xs → pieces b (xs ++ b ∷ ys) ≡ xs ∷ pieces b ys
 unfolding pieces
 pieces-more b [] ys h = rw (eq-eqb b b refl)
 pieces-more b (x ∷ xs) ys h = rw (ne-eqb x b (λ e. h (List·Memᴰ·head (sym e))), pieces-more b xs ys (λ m. h (List·Memᴰ·tail m)))
 
+-- and so on to the last
 cut-pieces : (b : ℕ) (p : List ℕ) (ps : List (List ℕ)) → WithoutAll b (p ∷ ps) → pieces b (p ++ each (λ p. b ∷ p) ps) ≡ p ∷ ps
 unfolding each
 cut-pieces b p [] h = rw append-nil (pieces-one b p (h p (List·Memᴰ·head refl)))
@@ -91,6 +97,7 @@ lines-join p (q ∷ qs) =
     ∙ append-assoc p (10 ∷ []) _
     ∙ ap (λ (l : List ℕ). p ++ 10 ∷ l) (lines-join q qs)
 
+-- these are among all
 but-last-in : (ps : List (List ℕ)) {l : List ℕ} → List·Memᴰ l (but-last ps) → List·Memᴰ l ps
 unfolding but-last
 but-last-in [] m = m
@@ -115,7 +122,7 @@ lined input = go (pieces 10 input) (cut-in 10 input)
       none-after = c .none (last (p ∷ ps)) (last-in p ps);
     }
 
--- and nothing else is
+-- lines and a rest that are so are its pieces
 pieces-lined : (ls : List (List ℕ)) (rest : List ℕ) → WithoutAll 10 ls → Without 10 rest → pieces 10 (each ended ls ++ rest) ≡ ls ++ (rest ∷ [])
 unfolding each
 pieces-lined [] rest h k = pieces-one 10 rest k
@@ -123,6 +130,7 @@ pieces-lined (l ∷ ls) rest h k =
     rw (append-assoc (l ++ (10 ∷ [])) (each ended ls) rest, append-assoc l (10 ∷ []) (each ended ls ++ rest))
     (pieces-more 10 l (each ended ls ++ rest) (h l (List·Memᴰ·head refl)) ∙ ap (λ (ps : List (List ℕ)). l ∷ ps) (pieces-lined ls rest (λ p m. h p (List·Memᴰ·tail m)) k))
 
+-- of which the lines are all but the last, and the rest is the last
 but-last-append : (ls : List (List ℕ)) (rest : List ℕ) → but-last (ls ++ (rest ∷ [])) ≡ ls
 unfolding but-last
 but-last-append [] rest = refl
@@ -135,6 +143,7 @@ last-append [] rest = refl
 last-append (l ∷ []) rest = refl
 last-append (l ∷ m ∷ ls) rest = last-append (m ∷ ls) rest
 
+-- so an input falls into lines and a rest in no other way
 pub lined-only : (input : List ℕ) (ls : List (List ℕ)) (rest : List ℕ) → Lined input ls rest → (ls ≡ lines input) × (rest ≡ unended input)
 unfolding lines unended
 lined-only input ls rest h =

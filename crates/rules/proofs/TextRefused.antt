@@ -33,24 +33,27 @@ pub record Reads (input : List ℕ) (cs : List Component) (quorum : ℕ) (ss : L
   pub few-digits : quorum < 10 ^ Text-QUORUM-DIGITS
   pub none : WithoutAll 10 ss
 
+-- what the paper says of the input
 pub record TextRefused : Type 0 where
-  -- the lines of an input each end in a byte 10, with none before its end, and what follows the last of them has none
+  -- an input is its lines, each ended by byte 10, and what follows the last of them, with no byte 10 in any; and it is so in one
+  -- way only
   pub in-lines : (input : List ℕ) (ls : List (List ℕ)) (rest : List ℕ) → Lined input ls rest ↔ ((ls ≡ lines input) × (rest ≡ unended input))
   -- a number has 1 to so many digits, with no leading zero but 0 itself; any other text is malformed
   pub no-number : (most : ℕ) (text : List ℕ) → (parse-number most text ≡ malformed) ↔ (NumberText most text → ⊥)
-  -- such a text is the decimal text of one number below the power of ten, and is read as that
+  -- a text of so many digits is read as the number below that power of ten of which it is the decimal text
   pub number : (most : ℕ) (text : List ℕ) (n : ℕ) → 1 ≤ most → most ≤ 20 → (parse-number most text ≡ parsed n) ↔ ((text ≡ decimal n) × (n < 10 ^ most))
-  -- template text is runs of N with [l,u] between
+  -- template text is runs of N with [l,u] between: a run, and for each later component a [ and its piece, l,u] and its run
   pub runs : (c : Component) (cs : List Component) → template-text (c ∷ cs) ≡ replicate (c .length) 78 ++ each (λ p. 91 ∷ p) (map piece-text cs)
-  -- it is read as the components that it is the text of, of at least one N each
+  -- a line is read as the components that it is the text of, if they have at least one N each and numbers of 1 to 3 digits
   pub components : (text : List ℕ) (cs : List Component) → (parse-components text ≡ parsed cs) ↔ ((text ≡ template-text cs) × Written cs)
-  -- and a text of none is malformed
+  -- and a line that is the text of none is malformed
   pub no-components : (text : List ℕ) → (parse-components text ≡ malformed) ↔ (TemplateText text → ⊥)
-  -- an input is refused with 18 and the number of its lowest bad line
+  -- an input is refused with 18 and the number of its lowest bad line: too long (0), the first or second malformed or missing,
+  -- or the last without its end
   pub lowest-line : (input : List ℕ) (n p : ℕ) → (first (text-checks input) ≡ refused n p) ↔ ((n ≡ 18) × Lowest input p)
   -- it passes exactly if no line is bad
   pub no-line : (input : List ℕ) → (first (text-checks input) ≡ fine) ↔ ((p : ℕ) → Bad input p → ⊥)
-  -- and that is if it is the text of a template, a quorum and sequences
+  -- and that is exactly if it is the text of a template, a quorum and sequences
   pub passes : (input : List ℕ) → (first (text-checks input) ≡ fine) ↔ ((cs : List Component) × (quorum : ℕ) × (ss : List (List ℕ)) × Reads input cs quorum ss)
   -- 18 comes before all others
   pub before-all : (input : List ℕ) (p : ℕ) → Lowest input p → print-rule input ≡ print-refused 18 p
@@ -60,9 +63,11 @@ pub record TextRefused : Type 0 where
 
 -- ---- THE PROOFS
 
+-- the lines of an input, both ways
 lined-says : (input : List ℕ) (ls : List (List ℕ)) (rest : List ℕ) → Lined input ls rest ↔ ((ls ≡ lines input) × (rest ≡ unended input))
 lined-says input ls rest = (lined-only input ls rest, λ h. rw (h .0, h .1) (lined input))
 
+-- what is told of the text is printed before a search begins
 told-first : (input : List ℕ) (p : ℕ) → Lowest input p → print-rule input ≡ print-refused 18 p
 unfolding print-rule
 told-first input p l = rw (refused-lowest input 18 p .1 (refl, l))
@@ -74,6 +79,7 @@ split-joined [] = refl
 split-joined (s ∷ ss) =
     rw (map-append, take-at (map value s) (map value (joined ss)) (length s) (length-map s value), drop-at (map value s) (map value (joined ss)) (length s) (length-map s value), split-joined ss)
 
+-- what is not something is nothing
 none-left : (l : List ℕ) → some? l ≡ false → l ≡ []
 unfolding some?
 none-left [] e = refl
@@ -89,12 +95,14 @@ module _ (input : List ℕ) where
       none-after = List·Memᴰ·not-nil;
     })
 
+    -- its template and its quorum
     read-template : parse-components (line input 1) ≡ parsed cs
     read-template = rw (← read-lines .0) (template-parsed (template-text cs) cs .1 (refl, r .written))
 
     read-quorum : parse-number Text-QUORUM-DIGITS (line input 2) ≡ parsed quorum
     read-quorum = rw (← read-lines .0) (number-parsed Text-QUORUM-DIGITS (decimal quorum) quorum (omega arith) (omega arith) .1 (refl, r .few-digits))
 
+    -- none of its lines is bad
     read-fine : first (text-checks input) ≡ fine
     read-fine = fine-none input .1 go
       where
@@ -105,6 +113,7 @@ module _ (input : List ℕ) where
         go p (no-quorum e l h) = h (number-well Text-QUORUM-DIGITS (line input 2) .0 (well-parsed _ .1 (quorum, read-quorum)))
         go p (no-end e h) = omega (arith, ap length (read-lines .1))
 
+    -- what is printed of it
     read-printed : print-rule input ≡ print-told (map (map value) ss) (begin-rule (joined ss) (map length ss) (template-of cs) quorum)
     unfolding print-rule parse-template parse-quorum parse-letters parse-lengths sequences
     read-printed = rw (read-fine, read-template, read-quorum, ← read-lines .0, split-joined ss)

@@ -20,14 +20,15 @@ use Rattle.rules.proofs.Tests.{fails}
 use Rattle.rules.proofs.TextNumbers.{decimal-digits, parsed-is, no-value, malformed-fails, well-parsed, number-parsed}
 use Rattle.rules.proofs.TextPieces.{Without, pieces-are}
 
--- THE PAPER'S SENTENCE: runs of at least one N with [l,u] between, of which l and u have 1 to 3 digits. A template's text is that
--- of components of which there is one, each with a letter, the first with no range and each other with one of such numbers
+-- THE PAPER'S SENTENCE: runs of at least one N with [l,u] between, where a number has 1 to 3 digits. So these components can be
+-- written: there is a first, which has no range before it; each has a letter; and the ranges are of such numbers
 pub record Written (cs : List Component) : Type 0 where
   pub some : 1 ≤ length cs
   pub runs : (c : Component) → List·Memᴰ c cs → 1 ≤ c .length
   pub no-range : (getD cs 0 none .low ≡ 0) × (getD cs 0 none .high ≡ 0)
   pub ranges : (c : Component) → List·Memᴰ c (drop 1 cs) → (c .low < 10 ^ Text-GAP-DIGITS) × (c .high < 10 ^ Text-GAP-DIGITS)
 
+-- a line that is a template's text
 abbrev pub TemplateText : List ℕ → Type 0
 TemplateText line = (cs : List Component) × (line ≡ template-text cs) × Written cs
 
@@ -40,6 +41,7 @@ piece-text c = decimal (c .low) ++ 44 ∷ decimal (c .high) ++ 93 ∷ replicate 
 abbrev end-text : Component → List ℕ
 end-text c = decimal (c .high) ++ 93 ∷ replicate (c .length) 78
 
+-- it is the lower limit, a comma and the rest
 piece-is : (c : Component) → piece-text c ≡ decimal (c .low) ++ 44 ∷ end-text c
 piece-is c = append-assoc (decimal (c .low)) (44 ∷ decimal (c .high)) (93 ∷ replicate (c .length) 78)
 
@@ -56,22 +58,25 @@ unfolding shape-rest each sum
 rest-text [] = refl
 rest-text (c ∷ cs) = rw (front, others, rest-text cs)
 
+-- and before them stands the first, a run
 pub first-text : (c : Component) (cs : List Component) → template-text (c ∷ cs) ≡ replicate (c .length) 78 ++ each (λ p. 91 ∷ p) (map piece-text cs)
 unfolding template-text shape sum
 first-text c cs = rw (front, others, rest-text cs)
 
 -- ---- the bytes that it holds
 
+-- a run holds N alone
 run-bytes : (n b : ℕ) → List·Memᴰ b (replicate n 78) → b ≡ 78
 run-bytes n b m = eqb-true b 78 (all-members _ (replicate n 78) .0 (one-all 78 n) b m)
 
--- a comma is below the digits, and these are below the letters and the brackets
+-- a comma lies below the digits, and what follows it holds neither a comma nor a [
 end-bytes : (c : Component) (b : ℕ) → List·Memᴰ b (end-text c) → (48 ≤ b) × (b ≡ 91 → ⊥)
 end-bytes c =
     members-append _ (decimal (c .high)) (93 ∷ replicate (c .length) 78)
     (λ b m. let d = decimal-digits (c .high) b m in (d .0, λ e. omega (arith, d .1, e)))
     (members _ (omega arith, λ e. omega (arith, e)) (λ b m. let e = run-bytes (c .length) b m in (omega (arith, e), λ f. omega (arith, e, f))))
 
+-- nor does a piece hold a [
 piece-bytes : (c : Component) (b : ℕ) → List·Memᴰ b (piece-text c) → (44 ≤ b) × (b ≡ 91 → ⊥)
 piece-bytes c =
     rw (piece-is c) (members-append _ (decimal (c .low)) (44 ∷ end-text c)
@@ -90,7 +95,7 @@ template-bytes (c ∷ cs) =
     (λ b m. omega (arith, run-bytes (c .length) b m))
     (λ b m. let r = each-out (λ p. 91 ∷ p) (map piece-text cs) m in members (λ b. 44 ≤ b) (omega arith) (λ b m. pieces-bytes cs (r .0) (r .1) b m .0) b (r .2)))
 
--- a run of N
+-- the test of a run says that it is so many N, and at least one
 run-says : (text : List ℕ) → (run? text ≡ true) ↔ ((text ≡ replicate (length text) 78) × (1 ≤ length text))
 unfolding run? some?
 run-says [] = (λ e. absurd (false≢true e), λ h. absurd (omega (arith, h .1)))
@@ -101,12 +106,13 @@ run-says (x ∷ xs) = (
 
 -- ---- a component after the first
 
+-- it has a letter, and its limits have 1 to 3 digits
 record Ranged (c : Component) : Type 0 where
   some : 1 ≤ c .length
   low : c .low < 10 ^ Text-GAP-DIGITS
   high : c .high < 10 ^ Text-GAP-DIGITS
 
--- a text in two pieces
+-- a text falls into two pieces where the byte stands once
 in-two : (b : ℕ) (text p q : List ℕ) → (pieces b text ≡ p ∷ q ∷ []) ↔ ((text ≡ p ++ b ∷ q) × Without b p × Without b q)
 unfolding each
 in-two b text p q =
@@ -195,9 +201,11 @@ cons-some (parsed x) (parsed xs) e = let z : _≡_ {A = ℕ} 0 1 = cc in absurd 
 cons-some (parsed x) malformed e = no-value e
 cons-some malformed xs e = no-value e
 
+-- a list with a first is not empty
 not-empty : {A B : Type 0} {x : A} {xs : List A} → x ∷ xs ≡ [] → B
 not-empty e = let z : _≡_ {A = ℕ} 0 1 = cc in absurd (omega arith)
 
+-- the pieces are parsed as some components exactly if they are theirs
 rest-parsed : (ps : List (List ℕ)) (cs : List Component) → (parse-rest ps ≡ parsed cs) ↔ ((ps ≡ map piece-text cs) × ((c : Component) → List·Memᴰ c cs → Ranged c))
 unfolding parse-rest
 rest-parsed [] [] = (λ e. (refl, no-member Ranged), λ h. refl)
@@ -220,6 +228,7 @@ record Plain (c : Component) : Type 0 where
 plain-is : (c : Component) → Plain c → component (c .length) 0 0 ≡ c
 plain-is c p i = component (c .length) (sym (p .low) i) (sym (p .high) i)
 
+-- it is parsed as a component exactly if it is that run
 first-parsed : (text : List ℕ) (c : Component) → (parse-first text ≡ parsed c) ↔ ((text ≡ replicate (c .length) 78) × Plain c)
 unfolding parse-first
 first-parsed text c = (λ e. out (run? text) refl e, back)
@@ -233,8 +242,8 @@ first-parsed text c = (λ e. out (run? text) refl e, back)
         let n : length text ≡ c .length = rw (h .0) (length-replicate (c .length) 78) in
         rw (run-says text .1 (rw n (h .0), rw n (h .1 .some)), n) (ap parsed (plain-is c (h .1)))
 
--- a line is parsed as some components exactly if it is their text
 module _ (line : List ℕ) where
+  -- a line is parsed as some components exactly if it is their text
   pub template-parsed : (cs : List Component) → (parse-components line ≡ parsed cs) ↔ ((line ≡ template-text cs) × Written cs)
   unfolding parse-components
   template-parsed cs = (λ e. out cs (pieces 91 line) refl e, back cs)
@@ -267,14 +276,14 @@ module _ (line : List ℕ) where
             rest-parsed (map piece-text ds) ds .1 (refl, λ d m. record { some = w .runs d (List·Memᴰ·tail m); low = w .ranges d m .0; high = w .ranges d m .1 }),
           ))
 
-  -- and it is malformed exactly if it is the text of none
+  -- it is well formed exactly if it is a template's text, and else malformed
   pub template-well : (well-formed? (parse-components line) ≡ true) ↔ TemplateText line
   template-well = Iff·trans (well-parsed (parse-components line)) (λ h. let k = template-parsed (h .0) .0 (h .1) in (h .0, k .0, k .1), λ h. (h .0, template-parsed (h .0) .1 (h .1, h .2)))
 
   pub template-malformed : (parse-components line ≡ malformed) ↔ (TemplateText line → ⊥)
   template-malformed = Iff·trans (malformed-fails (parse-components line)) (fails _ template-well)
 
--- no line is no template
+-- an empty line is no template's text
 pub template-some : TemplateText [] → ⊥
 template-some h = none (h .0) (h .1) (h .2)
   where

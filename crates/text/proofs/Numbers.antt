@@ -9,10 +9,9 @@ use native.Mathlib.Omega.{arith}
 use lib.Dec.{leb, ltb, eqb}
 use lib.ListN.{length, drop, getD, length-drop, drop-of-length-le}
 use lib.Seq.{drop-cons}
-use borrow.Author.Tests.{leb-true, leb-false, le-leb, eq-eqb, ne-eqb, lt-ltb}
-use Rattle.rules.proofs.All.{all-members, member-at}
-use Rattle.rules.proofs.Tests.{both}
-use Rattle.rules.proofs.TextNumbers.{number-says, digits-cons}
+use borrow.Author.Tests.{leb-true, leb-false, eq-eqb, ne-eqb, lt-ltb}
+use Rattle.rules.proofs.All.{member-at}
+use Rattle.rules.proofs.TextNumbers.{digits-all, number-says, digits-cons}
 use Rattle.rules.specs.Lists.{all?, some?}
 use Rattle.rules.specs.Motif.{number}
 use Rattle.rules.specs.Text.{between, number?, digits, run?}
@@ -75,11 +74,11 @@ module _ (i v : ℕ) (l : List ℕ) (h : i < length l) where
 
   -- a digit is from 0 to 9
   pub digit-low : all? (between 48 57) l ≡ true → 48 ≤ getD l i 0
-  digit-low e = leb-true 48 (getD l i 0) (both _ (leb (getD l i 0) 57) .0 (all-members (between 48 57) l .0 e (getD l i 0) (member-at l i 0 h)) .0)
+  digit-low e = digits-all l .0 e (getD l i 0) (member-at l i 0 h) .0
 
   -- and at most 9
   pub digit-high : all? (between 48 57) l ≡ true → getD l i 0 ≤ 57
-  digit-high e = leb-true (getD l i 0) 57 (both (leb 48 (getD l i 0)) _ .0 (all-members (between 48 57) l .0 e (getD l i 0) (member-at l i 0 h)) .1)
+  digit-high e = digits-all l .0 e (getD l i 0) (member-at l i 0 h) .1
 
   -- five digits are below a hundred thousand
   pub digits-small : length l ≤ 5 → v < 10 ^ i → v < 100000
@@ -90,9 +89,7 @@ module _ (i v : ℕ) (l : List ℕ) (h : i < length l) where
 module _ (most : ℕ) (l : List ℕ) (e : number? most l ≡ true) where
   -- its bytes are digits
   pub number-digits : all? (between 48 57) l ≡ true
-  number-digits =
-      let t = number-says most l .0 e in
-      all-members (between 48 57) l .1 (λ b m. both _ _ .1 (le-leb 48 b (t .all-digits b m .0), le-leb b 57 (t .all-digits b m .1)))
+  number-digits = digits-all l .1 (number-says most l .0 e .all-digits)
 
   -- it has no more digits than it may
   pub number-long : length l ≤ most
