@@ -1,7 +1,7 @@
--- Laws that the checks' loops lean on: a sum from one index to the next, a power of the base one letter at a time, and how
--- far the search for a bad component is.
+-- Laws that the checks lean on: checks two by two, a sum from one index to the next, a power of the base one letter at a time,
+-- and how far the search for a bad component is.
 use mathlib.Core.Bool.{Bool, true, false}
-use mathlib.Core.List.{List}
+use mathlib.Core.List.{List, [], _∷_}
 use mathlib.Core.Path.{_≡_, _∙_, refl, sym}
 use Prim.Native.Nat.{ℕ, zero, suc, _+_, _-_, _/_, _^_, _≤_, _<_, min}
 use native.Mathlib.Nat.{pow-suc}
@@ -11,13 +11,18 @@ use lib.Dec.{ltb, eqb}
 use lib.ListN.{length, getD, take, drop}
 use borrow.Author.Tests.{ltb-true, ltb-false, lt-ltb, le-ltb, eq-eqb, ne-eqb}
 use Rattle.rules.specs.Limits.{Letter-BASES, Template-COMPONENTS}
-use Rattle.rules.specs.Refusals.{first-bad}
+use Rattle.rules.specs.Refusals.{_else_, first, first-bad}
 use Rattle.rules.specs.Template.{slots, none, components}
-use Rattle.rules.specs.Told.{fine, refused}
+use Rattle.rules.specs.Told.{Verdict, fine, refused}
 use Rattle.rules.specs.declared.Component.{Component}
 use Rattle.rules.specs.declared.Template.{Template}
 use Rattle.rules.proofs.Tables.{take-min}
-use Rattle.rules.proofs.Verdicts.{here-in, later-in, over-in}
+use Rattle.rules.proofs.Verdicts.{else-assoc, else-fine, here-in, later-in, over-in}
+
+-- of four checks, what the first two find, and else the last two
+pub in-two : (a b c d : Verdict) → first (a ∷ b ∷ c ∷ d ∷ []) ≡ (a else b) else (c else d)
+unfolding first
+in-two a b c d = simp (else-assoc, else-fine)
 
 -- what is left of a number once another is taken away says whether they are the same
 pub same-left : (a s l : ℕ) → a + s ≡ l → eqb s l ≡ eqb a 0

@@ -1,5 +1,6 @@
 // An inner crate: what a call refuses, each check by its number in the paper, and the orders in which the calls check. Every
-// check is total, so that an order may make all of them and keep the first that applies.
+// check is total, so that an order may make all of them and keep the first that applies; but what is long is read only where
+// nothing was refused before.
 mod letters;
 
 use letters::value;
@@ -12,7 +13,7 @@ ghost use Rattle.checks.specs.Orders.{template-checks, value-checks-befo
 ghost use Rattle.rules.specs.Letters.{value};
 ghost use Rattle.rules.specs.Limits.{Letter-BASES, Template-LENGTH};
 ghost use Rattle.rules.specs.Lists.{run};
-ghost use Rattle.rules.specs.Refusals.{first, outside, bad-gap, check1, check2, check3, check4, check5, check6, check7, check8, check9, check11-place, check12, set-checks, new-checks};
+ghost use Rattle.rules.specs.Refusals.{_else_, first, outside, bad-gap, check1, check2, check3, check4, check5, check6, check7, check8, check9, check11-place, check12, set-checks, new-checks};
 ghost use Rattle.rules.specs.Saved.{place-rule?};
 ghost use Rattle.rules.specs.Told.{toldChecked};
 use rules::Checked;
@@ -204,14 +205,26 @@ pub fn check_same_set(letters: &[u8], lengths: &[u32], s: Search) -> Checked
     )
 }
 
-// 1 to 4: the checks of the sequences.
+// 3 and 4. No letter is read where the lengths do not add up.
+fn check_contents(letters: &[u8], lengths: &[u32]) -> Checked
+    ensures { λ r. ⌜ toldChecked r ≡ _else_ (check3 (now (letters .entry)) (now (lengths .entry))) (check4 (now (letters .entry))) ⌝ }
+{
+    let sum = check_sum(letters, lengths);
+    match sum {
+        Checked::Refused(why) => Checked::Refused(why),
+        Checked::Fine => check_bytes(letters),
+    }
+}
+
+// 1 to 4: the checks of the sequences. No length and no letter is read where there are too many of either.
 pub fn check_set(letters: &[u8], lengths: &[u32]) -> Checked
     ensures { λ r. ⌜ toldChecked r ≡ first (set-checks (now (letters .entry)) (now (lengths .entry))) ⌝ }
 {
-    check_sequences(lengths)
-        .then(check_letters(letters))
-        .then(check_sum(letters, lengths))
-        .then(check_bytes(letters))
+    let counts = check_sequences(lengths).then(check_letters(letters));
+    match counts {
+        Checked::Refused(why) => Checked::Refused(why),
+        Checked::Fine => check_contents(letters, lengths),
+    }
 }
 
 // 5 to 8: the checks of a template.

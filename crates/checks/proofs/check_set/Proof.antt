@@ -1,6 +1,7 @@
--- `check_set`: each check is the one of its number, and the first of two, grouped either way, is the first of the list.
-use Rattle.rules.specs.Refusals.{first}
-use Rattle.rules.proofs.Verdicts.{else-fine, else-assoc}
+-- `check_set`: 3 and 4 are checked where 1 and 2 found nothing, and the first of two, grouped either way, is the first of the
+-- list.
+use Rattle.rules.specs.Refusals.{_else_}
+use Rattle.checks.proofs.Laws.{in-two}
 use borrow.Author.Needs.{needs}
 use Rattle.checks.proofs.check_set.Statement.{statement}
 use Rattle.checks.proofs.check_set.Tie as tie
@@ -14,35 +15,26 @@ check-letters-requires c κs = search needs
 then-requires : tie.Need-then-requires
 then-requires c κs = search needs
 
-check-sum-requires : tie.Need-check-sum-requires
-check-sum-requires c κs = search needs
+enum-known-counts : tie.Need-enum-known-counts
+enum-known-counts c = search needs
 
-then-requires-2 : tie.Need-then-requires-2
-then-requires-2 c κs = search needs
+enum-told : tie.Need-enum-told
+enum-told c = search needs
 
-check-bytes-requires : tie.Need-check-bytes-requires
-check-bytes-requires c κs = search needs
-
-then-requires-3 : tie.Need-then-requires-3
-then-requires-3 c κs = search needs
+check-contents-requires : tie.Need-check-contents-requires
+check-contents-requires c κs = search needs
 
 returns : tie.Need-returns
-unfolding first
+unfolding _else_
 returns c =
-    let b = c .before .before in
-    let d = b .before .before in
-    let e = d .before .before in
-    simp (
-      c .then3 .ensures,
-      c .before .check-bytes .ensures,
-      b .then2 .ensures,
-      b .before .check-sum .ensures,
-      d .then .ensures,
-      d .before .check-letters .ensures,
-      e .check-sequences .ensures,
-      else-assoc,
-      else-fine,
-    )
+    let d = c .before .before .before in
+    rw (in-two, ← d .before .before .check-sequences .ensures, ← d .before .check-letters .ensures, ← d .then .ensures, c .before .counts .given .1)
+
+returns-2 : tie.Need-returns-2
+unfolding _else_
+returns-2 c =
+    let d = c .before .before .before in
+    rw (in-two, ← d .before .before .check-sequences .ensures, ← d .before .check-letters .ensures, ← d .then .ensures, c .before .enum-told .given .1) (c .check-contents .ensures)
 
 pub check-set-spec : {M : Type 1} → statement M
 check-set-spec =
@@ -51,8 +43,8 @@ check-set-spec =
     check-sequences-requires
     check-letters-requires
     then-requires
-    check-sum-requires
-    then-requires-2
-    check-bytes-requires
-    then-requires-3
-    returns)
+    enum-known-counts
+    enum-told
+    check-contents-requires
+    returns
+    returns-2)
