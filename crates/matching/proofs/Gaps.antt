@@ -7,11 +7,11 @@ use Prim.Native.Nat.{ℕ, zero, suc, _+_, _-_, _*_, _≤_, _<_}
 use native.Mathlib.Nat.{add-zero, zero-add, suc-mul, suc-sub-suc}
 use native.Mathlib.Numerals.{add-one}
 use native.Mathlib.Omega.{arith}
-use lib.Dec.{eqb, leb, leb·suc-suc}
+use lib.Dec.{leb, leb·suc-suc}
 use lib.ListN.{length, take, drop, getD, replicate, drop-of-length-le}
 use lib.Seq.{take-length, length-take-le}
 use borrow.Author.Tests.{le-leb, lt-leb}
-use Rattle.rules.specs.Lists.{run, if, sum, over}
+use Rattle.rules.specs.Lists.{run, if, sign, sum, over}
 use Rattle.matching.specs.Flags.{ago, recent, near, reached, opened}
 use Rattle.rules.proofs.Over.{over-all}
 
@@ -82,12 +82,12 @@ module _ (ks : List ℕ) where
     recent-next = let q : t + ago ks o d - ago ks o (d + n) ≡ recent ks o d n = omega (arith, turn) in q ∙ sym (recent-on o d n)
 
   -- what a turn writes
-  pub near-is : (o d n : ℕ) {v r : ℕ} → v ≡ recent ks (o + 1) (d + 1) n → r ≡ if (eqb v 0) 0 1 → r ≡ near ks d n o
+  pub near-is : (o d n : ℕ) {v r : ℕ} → v ≡ recent ks (o + 1) (d + 1) n → r ≡ sign v → r ≡ near ks d n o
   unfolding near
-  near-is o d n e q = q ∙ ap (λ (x : ℕ). if (eqb x 0) 0 1) (e ∙ recent-on o d n)
+  near-is o d n e q = q ∙ ap sign (e ∙ recent-on o d n)
 
   near-none : (d n a m : ℕ) → a + m ≤ d → map (near ks d n) (run a m) ≡ replicate m 0
-  unfolding run near
+  unfolding run near sign
   near-none d n a zero h = refl
   near-none d n a (suc m) h = rw (recent-out a d n (omega arith), near-none d n (suc a) m (omega arith))
 

@@ -9,8 +9,8 @@ use native.Mathlib.Omega.{arith}
 use lib.Dec.{eqb, leb}
 use lib.ListN.{length, drop, getD, replicate}
 use lib.Seq.{drop-drop}
-use borrow.Author.Tests.{ne-eqb}
-use Rattle.rules.specs.Lists.{if, run, sum}
+use borrow.Author.Tests.{lt-ltb}
+use Rattle.rules.specs.Lists.{if, sign, run, sum}
 use Rattle.rules.specs.Occurrence.{stands-by, front-by, front, stands}
 use Rattle.matching.specs.Flags.{bit, kept-at, kept, matched, ago, recent, near, reached, left?}
 use Rattle.matching.proofs.Any.{any}
@@ -84,8 +84,9 @@ module _ (s : List ℕ) where
       (λ o. swap (stands (x ∷ []) s (suc (o + j))) (stands w s (suc (o + suc j))) (A o) ∙ ap (λ (b : Bool). if b (A o) false) (sym (stands-cons x w s o j)))
 
 -- A GAP
-sum-step : (b y : Bool) (x : ℕ) → if (eqb x 0) 0 1 ≡ bit y → if (eqb (bit b + x) 0) 0 1 ≡ bit (if b true y)
-sum-step true y x e = rw (ne-eqb (1 + x) 0 (λ z. omega arith))
+sum-step : (b y : Bool) (x : ℕ) → sign x ≡ bit y → sign (bit b + x) ≡ bit (if b true y)
+unfolding sign
+sum-step true y x e = rw (lt-ltb 0 (1 + x) (omega arith))
 sum-step false y x e = rw zero-add e
 
 module _ (A : ℕ → Bool) (n : ℕ) where
@@ -94,7 +95,7 @@ module _ (A : ℕ → Bool) (n : ℕ) where
   ago-flagged o h d = rw (flagged-at A n (o - d) (omega arith)) (bit-if (leb d o) (A (o - d)))
 
   near-flagged : (o : ℕ) → o < n → (d m : ℕ) → near (flagged A n) d m o ≡ bit (any (λ g. before A g o) d m)
-  unfolding near recent run sum any
+  unfolding near recent run sum any sign
   near-flagged o h d zero = refl
   near-flagged o h d (suc m) = rw (ago-flagged o h d) (sum-step (before A d o) _ _ (near-flagged o h (suc d) m))
 

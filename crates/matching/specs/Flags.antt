@@ -5,7 +5,7 @@ use mathlib.Core.List.{List, [], _∷_, map}
 use Prim.Native.Nat.{ℕ, suc, _+_, _-_}
 use lib.Dec.{eqb, leb}
 use lib.ListN.{length, getD, replicate}
-use Rattle.rules.specs.Lists.{if, run, sum}
+use Rattle.rules.specs.Lists.{if, sign, run, sum}
 use Rattle.rules.specs.Occurrence.{stands}
 use Rattle.rules.specs.Template.{Part, distance, span}
 
@@ -35,7 +35,7 @@ recent ks o d n = sum (map (ago ks o) (run d n))
 
 -- 1 where one of those is set
 unfoldable pub near : List ℕ → ℕ → ℕ → ℕ → ℕ
-near ks d n o = if (eqb (recent ks o d n) 0) 0 1
+near ks d n o = sign (recent ks o d n)
 
 -- the flags of the places that lie least to most places after a set one
 unfoldable pub reached : ℕ → ℕ → List ℕ → List ℕ

@@ -1,6 +1,7 @@
 // Flags of one sequence: one for each of its letters, set where the last part of a prefix can start, the parts before it
 // placed. A letter more is one pass over them, and so is a gap, however wide.
 use rules::least;
+use rules::sign;
 ghost use mathlib.Core.Path.{_≡_};
 ghost use Prim.Native.Nat.{_+_, _-_, _≤_, _<_};
 ghost use lib.Dec.{eqb};
@@ -66,13 +67,6 @@ pub fn keep_word(word: &[u8], sequence: &[u8], flags: &mut [u8])
         keep_letter(word[j], j, sequence, flags);
         j += 1;
     }
-}
-
-// 0 of 0, and 1 of any other number.
-fn sign(x: u64) -> u8
-    ensures { λ r. ⌜ r ≡ if (eqb x 0) 0 1 ⌝ }
-{
-    if x == 0 { 0 } else { 1 }
 }
 
 // A flag, as a number to add up.

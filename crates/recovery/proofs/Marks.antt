@@ -12,9 +12,8 @@ use borrow.Author.Tests.{lt-ltb, ltb-true, ltb-false}
 use Rattle.descent.specs.Paths.{flag, paths, Flagged, Counted}
 use Rattle.descent.proofs.Flags.{parts-count, paths-are}
 use Rattle.descent.proofs.Paths.{flag-in}
-use Rattle.recovery.specs.Flags.{sign}
 use Rattle.rules.specs.Limits.{SequenceSet-LETTERS, Template-COMPONENTS}
-use Rattle.rules.specs.Lists.{some?, sum}
+use Rattle.rules.specs.Lists.{sign, some?, sum}
 use Rattle.rules.specs.Occurrence.{starts, occurrences, ways}
 use Rattle.rules.specs.Sound.{SoundTemplate}
 use Rattle.rules.specs.Support.{parts}

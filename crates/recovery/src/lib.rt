@@ -11,6 +11,7 @@ use rules::Refusal;
 use rules::SequenceNumber;
 use rules::SequenceSet;
 use rules::Template;
+use rules::sign;
 use ways::count;
 use ways::step;
 ghost use mathlib.Core.List.{[], _∷_, _++_, map};
@@ -19,11 +20,11 @@ ghost use Prim.Native.Nat.{suc, _+_, _*_, _^_, _≤_, _<_};
 ghost use lib.ListN.{length, take, drop};
 ghost use Rattle.descent.specs.Buffer.{buffer, progress, Inside, emits, after};
 ghost use Rattle.descent.specs.Paths.{Flagged};
-ghost use Rattle.recovery.specs.Flags.{sign};
 ghost use Rattle.recovery.specs.Rule.{first-checks, rows-rule};
 ghost use Rattle.rules.specs.Calls.{recover-rule};
 ghost use Rattle.rules.specs.Letters.{value};
 ghost use Rattle.rules.specs.Limits.{SequenceSet-LETTERS, SequenceSet-SEQUENCES, Template-COMPONENTS};
+ghost use Rattle.rules.specs.Lists.{sign};
 ghost use Rattle.rules.specs.Occurrence.{occurrences};
 ghost use Rattle.rules.specs.Refusals.{first, check14};
 ghost use Rattle.rules.specs.Sequences.{sequences};
@@ -32,13 +33,6 @@ ghost use Rattle.rules.specs.Support.{occurrence-rows, parts};
 ghost use Rattle.rules.specs.Template.{components, size};
 ghost use Rattle.rules.specs.Told.{toldChecked, toldRecovered};
 ghost use Rattle.ways.specs.Counts.{counts, aligned};
-
-// 1 of a number above 0.
-fn sign(x: u64) -> u8
-    ensures { λ r. ⌜ r ≡ sign x ⌝ }
-{
-    if 0 < x { 1 } else { 0 }
-}
 
 // Sets the flags of the positions that have a number above 0, and clears the others.
 fn set_flags(ways: &[u64], flags: &mut [u8])

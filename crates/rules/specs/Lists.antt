@@ -1,13 +1,17 @@
--- Small functions on lists that the rules are written with.
+-- Small functions, most of them on lists, that the rules are written with.
 use mathlib.Core.Bool.{Bool, true, false, _&&_}
 use mathlib.Core.List.{List, [], _∷_, _++_, map}
 use Prim.Native.Nat.{ℕ, zero, suc, _+_}
 use lib.ListN.{length, drop}
-use lib.Dec.{eqb}
+use lib.Dec.{eqb, ltb}
 
 abbrev pub if : {A : Type 0} → Bool → A → A → A
 if true a b = a
 if false a b = b
+
+-- 1 of a number above 0, and 0 of 0
+unfoldable pub sign : ℕ → ℕ
+sign x = if (ltb 0 x) 1 0
 
 -- `n` numbers from `a` on, rising: `run 3 2` is 3, 4
 unfoldable pub run : ℕ → ℕ → List ℕ

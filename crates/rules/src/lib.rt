@@ -8,6 +8,7 @@ mod shape;
 ghost use mathlib.Core.Path.{_≡_};
 ghost use Prim.Native.Nat.{min};
 ghost use Rattle.rules.specs.Limits.{Letter-BASES, Letter-MARK, Template-COMPONENTS, Template-LENGTH, Template-LETTERS, Template-GAP, SequenceSet-SEQUENCES, SequenceSet-LETTERS, Record-BYTES, Record-SIZE, Record-COMPONENT, Record-PLACE, Record-EXTRA, Text-BYTES, Text-GAP-DIGITS, Text-QUORUM-DIGITS};
+ghost use Rattle.rules.specs.Lists.{sign};
 
 // The three countings, each a type of its own, so that none can be taken for another.
 // A sequence's number in the set, from 1.
@@ -147,6 +148,13 @@ pub fn least(a: usize, b: usize) -> usize
     ensures { λ r. ⌜ r ≡ min a b ⌝ }
 {
     if a < b { a } else { b }
+}
+
+// 1 of a number above 0, and 0 of 0.
+pub fn sign(x: u64) -> u8
+    ensures { λ r. ⌜ r ≡ sign x ⌝ }
+{
+    if 0 < x { 1 } else { 0 }
 }
 
 // Each limit in the code is the definition of the same name.

@@ -10,7 +10,7 @@ use lib.Dec.{ltb}
 use lib.ListN.{length, take, drop, getD, length-append, drop-of-length-le}
 use lib.Seq.{drop-cons, drop-drop}
 use borrow.Author.Tests.{lt-ltb, ltb-true}
-use Rattle.rules.specs.Lists.{run, if, keep, each, some?, sum}
+use Rattle.rules.specs.Lists.{sign, run, if, keep, each, some?, sum}
 use Rattle.rules.specs.Occurrence.{starts, occurrences, ways}
 use Rattle.rules.specs.Sequences.{split}
 use Rattle.rules.specs.Support.{firsts, weight, occurrence-rows}
@@ -66,8 +66,8 @@ rows-counts cs ss = rows-count cs ss ∙ occurrences-counts cs ss
 
 module _ (l : List ℕ) (i : ℕ) where
   -- how many are above 0 from the number i on
-  pub positives-step : i < length l → positives (drop i l) ≡ if (ltb 0 (getD l i 0)) 1 0 + positives (drop (i + 1) l)
-  unfolding positives keep
+  pub positives-step : i < length l → positives (drop i l) ≡ sign (getD l i 0) + positives (drop (i + 1) l)
+  unfolding positives keep sign
   positives-step h = rw (add-one i, drop-cons l i 0 h) (go (getD l i 0) (ltb 0 (getD l i 0)) (keep (ltb 0) (drop (suc i) l)))
     where
       go : (x : ℕ) (b : Bool) (xs : List ℕ) → length (if b (x ∷ xs) xs) ≡ if b 1 0 + length xs

@@ -3,13 +3,13 @@
 use rules::Component;
 use rules::Letter;
 use rules::Template;
+use rules::sign;
 ghost use mathlib.Core.Path.{_≡_};
 ghost use mathlib.Core.List.{map};
 ghost use Prim.Native.Nat.{ℕ, suc, _+_, _^_, _≤_, _<_};
-ghost use lib.Dec.{ltb};
 ghost use lib.ListN.{length, drop};
 ghost use Rattle.rules.specs.Limits.{Template-LENGTH, Template-GAP};
-ghost use Rattle.rules.specs.Lists.{if, run, sum};
+ghost use Rattle.rules.specs.Lists.{run, sum};
 ghost use Rattle.rules.specs.Occurrence.{stands};
 ghost use Rattle.rules.specs.Sequences.{sequences};
 ghost use Rattle.rules.specs.Sound.{SoundSet, SoundComponent, SoundTemplate};
@@ -157,13 +157,6 @@ pub struct Tallied {
     pub occurrences: u64,
 }
 
-// 1 of a number above 0.
-fn sign(x: u64) -> u64
-    ensures { λ r. ⌜ r ≡ if (ltb 0 x) 1 0 ⌝ }
-{
-    if 0 < x { 1 } else { 0 }
-}
-
 // How many of the ways are above 0, and their sum.
 pub fn count(ways: &[u64]) -> Tallied
     requires { ⌜ sum (now ways) < 2 ^ 64 ⌝ }
@@ -174,7 +167,8 @@ pub fn count(ways: &[u64]) -> Tallied
     let mut i = 0;
     while i < ways.len() {
         let x = ways[i];
-        firsts += sign(x);
+        let first = sign(x) as u64;
+        firsts += first;
         occurrences += x;
         i += 1;
     }

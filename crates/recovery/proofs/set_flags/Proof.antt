@@ -7,7 +7,7 @@ use native.Mathlib.Numerals.{add-one}
 use native.Mathlib.Omega.{arith}
 use lib.ListN.{length, take}
 use lib.Seq.{take-all, take-suc, take-suc-set}
-use Rattle.recovery.specs.Flags.{sign}
+use Rattle.rules.specs.Lists.{sign}
 use Rattle.recovery.proofs.set_flags.Statement.{statement}
 use Rattle.recovery.proofs.set_flags.Tie as tie
 

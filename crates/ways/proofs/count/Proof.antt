@@ -30,6 +30,9 @@ shared-slice-read-x c = search needs
 sign-requires : tie.Need-sign-requires Inv-loop μ-loop
 sign-requires c κs = search needs
 
+cast-first : tie.Need-cast-first Inv-loop μ-loop
+cast-first c = search needs
+
 add-firsts : tie.Need-add-firsts Inv-loop μ-loop
 add-firsts c =
     let l = c .before .before .before .loop in
@@ -74,6 +77,7 @@ count-spec =
     mul-x
     shared-slice-read-x
     sign-requires
+    cast-first
     add-firsts
     add-occurrences
     add-i
