@@ -47,13 +47,13 @@ pub struct Ask {
 }
 
 // The number at an index of the head.
-fn word(head: &[u8; 320], i: usize) -> u64
+fn word(head: &[u8; Ask::BYTES], i: usize) -> u64
     requires { ⌜ i < 40 ⌝ }
 {
     eight(head, 8 * i)
 }
 
-fn component(head: &[u8; 320], i: usize) -> Component
+fn component(head: &[u8; Ask::BYTES], i: usize) -> Component
     requires { ⌜ i + 3 ≤ 40 ⌝ }
 {
     Component::new(
@@ -63,7 +63,7 @@ fn component(head: &[u8; 320], i: usize) -> Component
     )
 }
 
-fn template(head: &[u8; 320]) -> Template {
+fn template(head: &[u8; Ask::BYTES]) -> Template {
     Template {
         count: low16(word(head, 15)),
         c1: component(head, 16),
@@ -75,7 +75,7 @@ fn template(head: &[u8; 320]) -> Template {
     }
 }
 
-fn search(head: &[u8; 320]) -> Search {
+fn search(head: &[u8; Ask::BYTES]) -> Search {
     Search {
         template: template(head),
         quorum: word(head, 34),
@@ -85,6 +85,9 @@ fn search(head: &[u8; 320]) -> Search {
 }
 
 impl Ask {
+    // The bytes of a head.
+    pub const BYTES: usize = 8 * 40;
+
     // The kinds of call.
     pub const BEGIN: u64 = 1;
 
@@ -98,7 +101,7 @@ impl Ask {
 
     pub const JOIN: u64 = 6;
 
-    pub fn read(head: &[u8; 320]) -> Ask {
+    pub fn read(head: &[u8; Ask::BYTES]) -> Ask {
         Ask {
             kind: word(head, 0),
             letters: word(head, 1) as usize,

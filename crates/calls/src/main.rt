@@ -13,6 +13,13 @@ use wire::room8;
 use wire::room32;
 use wire::room64;
 
+// The room of the tables here: a list or one of a leg's tables, the rows of a recovery or of a join, and a saved search.
+const LIST: usize = 4096;
+
+const ROWS: usize = 8192;
+
+const SAVED: usize = 1024;
+
 // Reads the sequences that a request lends; whether they came.
 fn read_set(ask: Ask, letters: &mut [u8], lengths: &mut [u32], bytes: &mut [u8]) -> bool {
     wire::read8(ask.letters, letters) & wire::read32(ask.first_list, lengths, bytes)
@@ -47,7 +54,7 @@ fn read_lists(
 // Writes what is told, alone or with tables; whether all of it was written.
 fn write_told(told: Told, bytes: &mut [u8]) -> bool {
     let words = told.words();
-    wire::write64(29, &words, bytes)
+    wire::write64(Told::WORDS, &words, bytes)
 }
 
 fn write_rows(told: Told, ask: Ask, rows: &[u32], bytes: &mut [u8]) -> bool {
@@ -152,9 +159,9 @@ fn begin(ask: Ask, letters: &mut [u8], lengths: &mut [u32], bytes: &mut [u8]) ->
 }
 
 fn leg(ask: Ask, letters: &mut [u8], lengths: &mut [u32], bytes: &mut [u8]) -> bool {
-    let mut motifs = [0u64; 4096];
-    let mut supports = [0u32; 4096];
-    let mut weights = [0u64; 4096];
+    let mut motifs = [0u64; LIST];
+    let mut supports = [0u32; LIST];
+    let mut weights = [0u64; LIST];
     let came = read_set(ask, letters, lengths, bytes);
     came
         && leg_with(
@@ -183,29 +190,29 @@ fn leg_with(
 }
 
 fn save(ask: Ask, letters: &mut [u8], lengths: &mut [u32], bytes: &mut [u8]) -> bool {
-    let mut out = [0u8; 1024];
+    let mut out = [0u8; SAVED];
     let came = read_set(ask, letters, lengths, bytes) & wire::read8(ask.saved, &mut out);
     let told = call_save(ask, letters, lengths, &mut out);
     came && write_told(told, bytes) & wire::write8(ask.saved, &out)
 }
 
 fn restore(ask: Ask, letters: &mut [u8], lengths: &mut [u32], bytes: &mut [u8]) -> bool {
-    let mut saved = [0u8; 1024];
+    let mut saved = [0u8; SAVED];
     let came = read_set(ask, letters, lengths, bytes) & wire::read8(ask.saved, &mut saved);
     let told = call_restore(ask, letters, lengths, &saved);
     came && write_told(told, bytes) & wire::write8(ask.saved, &saved)
 }
 
 fn recover(ask: Ask, letters: &mut [u8], lengths: &mut [u32], bytes: &mut [u8]) -> bool {
-    let mut rows = [0u32; 8192];
+    let mut rows = [0u32; ROWS];
     let came = read_set(ask, letters, lengths, bytes) & wire::read32(ask.rows, &mut rows, bytes);
     let told = call_recover(ask, letters, lengths, &mut rows);
     came && write_rows(told, ask, &rows, bytes)
 }
 
 fn join(ask: Ask, first: &mut [u32], bytes: &mut [u8]) -> bool {
-    let mut second = [0u32; 4096];
-    let mut rows = [0u32; 8192];
+    let mut second = [0u32; LIST];
+    let mut rows = [0u32; ROWS];
     let came = read_lists(ask, first, &mut second, &mut rows, bytes);
     let told = call_join(ask, first, &second, &mut rows);
     came && write_rows(told, ask, &rows, bytes)
@@ -213,9 +220,9 @@ fn join(ask: Ask, first: &mut [u32], bytes: &mut [u8]) -> bool {
 
 // Answers one request; whether that could be done.
 fn request(letters: &mut [u8], first: &mut [u32], bytes: &mut [u8]) -> bool {
-    let mut head = [0u8; 320];
+    let mut head = [0u8; Ask::BYTES];
     let got = io::read_full(STDIN_FILENO, &mut head);
-    if got < 320 {
+    if got < Ask::BYTES {
         return false;
     }
     let ask = Ask::read(&head);
@@ -246,7 +253,7 @@ fn main() {
         return;
     }
     let mut letters = [0u8; 66000];
-    let mut first = [0u32; 4096];
-    let mut bytes = [0u8; 32768];
+    let mut first = [0u32; LIST];
+    let mut bytes = [0u8; 8 * LIST];
     answer_all(wire::eight(&count, 0), &mut letters, &mut first, &mut bytes);
 }

@@ -52,6 +52,9 @@ fn no_search() -> Search {
 }
 
 impl Told {
+    // How many numbers it is.
+    pub const WORDS: usize = 29;
+
     fn done(outcome: u64, count: u64, total: u64, search: Search) -> Told {
         Told {
             outcome,
@@ -119,7 +122,7 @@ impl Told {
         }
     }
 
-    pub fn words(self) -> [u64; 29] {
+    pub fn words(self) -> [u64; Told::WORDS] {
         let s = self.search;
         let t = s.template;
         [

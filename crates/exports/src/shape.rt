@@ -1,11 +1,15 @@
 // A template from and to numbers: length, low and high of each of its slots in turn.
 ghost use mathlib.Core.Path.{_≡_};
-ghost use Prim.Native.Nat.{_≤_};
+ghost use Prim.Native.Nat.{_*_, _<_};
 ghost use lib.ListN.{getD};
 ghost use Rattle.exports.specs.Shape.{slot-at, template-of, shape-of, fill};
+ghost use Rattle.rules.specs.Limits.{Template-COMPONENTS};
 use rules::Component;
 use rules::Template;
 use rules::least;
+
+// The numbers of a shape: three for each slot that there is.
+const SIZE: usize = 3 * Template::COMPONENTS as usize;
 
 // The number at an index of a shape, and 0 past its end.
 fn at(shape: &[u16], i: usize) -> u16
@@ -16,7 +20,7 @@ fn at(shape: &[u16], i: usize) -> u16
 
 // The slot whose numbers stand from an index on.
 fn slot(shape: &[u16], i: usize) -> Component
-    requires { ⌜ i ≤ 15 ⌝ }
+    requires { ⌜ i < 3 * Template-COMPONENTS ⌝ }
     ensures { λ r. ⌜ r ≡ slot-at (now (shape .entry)) i ⌝ }
 {
     let length = at(shape, i);
@@ -41,7 +45,7 @@ pub fn read(components: u16, shape: &[u16]) -> Template
 }
 
 // The shape of a template.
-fn numbers(t: Template) -> [u16; 18]
+fn numbers(t: Template) -> [u16; SIZE]
     ensures { λ r. ⌜ r ≡ shape-of t ⌝ }
 {
     [

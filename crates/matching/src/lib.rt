@@ -4,7 +4,6 @@ mod flags;
 mod marks;
 mod prefix;
 
-use rules::SequenceSet;
 use rules::Template;
 ghost use mathlib.Core.Path.{_≡_};
 ghost use Prim.Native.Nat.{_≤_};
@@ -14,10 +13,8 @@ ghost use Rattle.rules.specs.Sound.{SoundSet, SoundTemplate};
 ghost use Rattle.rules.specs.Support.{support, frequent, parts};
 ghost use Rattle.rules.specs.Template as templates;
 
-// The most letters of a prefix, and the words that hold a mark for each sequence that there may be.
+// The most letters of a prefix.
 const LETTERS: usize = Template::LETTERS as usize;
-
-const WORDS: usize = SequenceSet::SEQUENCES / 64;
 
 // The support of the prefix of `size` letters with this number: in how many sequences it occurs. Both tables are lent for the
 // work alone.
@@ -40,7 +37,7 @@ pub fn support(
     let n = size as usize;
     let mut word = [0u8; LETTERS];
     prefix::spell(number, n, &mut word);
-    let mut words = [0u64; WORDS];
+    let mut words = [0u64; marks::WORDS];
     prefix::mark_all(
         letters,
         lengths,

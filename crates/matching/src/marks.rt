@@ -1,10 +1,16 @@
-// A mark for each sequence, 64 to a word: set one by one, and counted.
+// A mark for each sequence, as many to a word as it has bits: set one by one, and counted.
+use rules::SequenceSet;
 ghost use mathlib.Core.Path.{_≡_};
 ghost use Prim.Native.Nat.{_*_, _≤_, _<_};
 ghost use lib.ListN.{length, getD, set};
 ghost use Rattle.rules.specs.Lists.{sum};
 ghost use Rattle.matching.specs.Flags.{bit};
-ghost use Rattle.matching.specs.Marks.{held};
+ghost use Rattle.matching.specs.Marks.{Mark-BITS, Mark-WORDS, held};
+
+// The marks of a word, and the words that hold a mark for each sequence that there may be.
+const BITS: usize = 64;
+
+pub const WORDS: usize = SequenceSet::SEQUENCES / BITS;
 
 // 1 of true.
 fn one(found: bool) -> u64
@@ -15,17 +21,17 @@ fn one(found: bool) -> u64
 
 // Marks sequence `i`, from 0, if the prefix was found in it.
 pub fn mark(words: &mut [u64], i: usize, found: bool)
-    requires { ⌜ (i < 64 * length (now words)) × (getD (held (now words)) i 0 ≡ 0) ⌝ }
+    requires { ⌜ (i < Mark-BITS * length (now words)) × (getD (held (now words)) i 0 ≡ 0) ⌝ }
     ensures { λ _. ⌜ held (now (words .exit)) ≡ set (held (now (words .entry))) i (bit found) ⌝ }
 {
-    let q = i / 64;
-    let b = i % 64;
+    let q = i / BITS;
+    let b = i % BITS;
     words[q] = words[q] | (one(found) << b);
 }
 
 // How many sequences are marked.
 pub fn count(words: &[u64]) -> u32
-    requires { ⌜ length (now words) ≤ 16 ⌝ }
+    requires { ⌜ length (now words) ≤ Mark-WORDS ⌝ }
     ensures { λ r. ⌜ r ≡ sum (held (now (words .entry))) ⌝ }
 {
     let mut sum: u32 = 0;

@@ -61,7 +61,7 @@ pub struct Search {
 
 // A record of a saved search.
 pub struct Record {
-    pub bytes: [u8; 16],
+    pub bytes: [u8; Record::BYTES],
 }
 
 // The printing program's input: its most bytes, and the most digits of a number in a gap range and of the quorum.

@@ -46,7 +46,7 @@ impl Template {
     pub const GAP: u16 = 255;
 
     // The slots in order, for loops.
-    pub fn components(self) -> [Component; 6]
+    pub fn components(self) -> [Component; Template::COMPONENTS as usize]
         ensures { λ r. ⌜ r ≡ slots self ⌝ }
     {
         let c1 = self.c1;

@@ -4,6 +4,7 @@ mod tell;
 
 use libc::STDOUT_FILENO;
 use rules::Component;
+use rules::SequenceSet;
 use rules::Template;
 
 // A template of the first of six components, of which the last three have one letter and no gap.
@@ -98,16 +99,16 @@ fn bytes() {
 }
 
 fn many_letters() {
-    let most = [b'A'; 65536];
+    let most = [b'A'; SequenceSet::LETTERS];
     letters(b"65536 letters", &most, 65536);
-    let more = [b'A'; 65537];
+    let more = [b'A'; SequenceSet::LETTERS + 1];
     letters(b"65537 letters", &more, 65537);
 }
 
 fn many_sequences() {
-    let most = [0u32; 1024];
+    let most = [0u32; SequenceSet::SEQUENCES];
     sequences(b"1024 sequences", &most);
-    let more = [0u32; 1025];
+    let more = [0u32; SequenceSet::SEQUENCES + 1];
     sequences(b"1025 sequences", &more);
     let none = [0u32; 0];
     sequences(b"0 sequences", &none);

@@ -1,4 +1,5 @@
 // The step from one candidate to the next.
+use rules::Letter;
 use rules::Place;
 ghost use mathlib.Core.Path.{_≡_};
 ghost use mathlib.Core.Bool.{Bool, _&&_};
@@ -8,6 +9,9 @@ ghost use Rattle.rules.specs.Limits.{Letter-BASES, Template-LETTERS};
 ghost use Rattle.rules.specs.Walk.{place, up, next};
 ghost use Rattle.search.specs.Four.{four};
 
+// The last letter's number, that of T.
+const LAST: u64 = Letter::BASES - 1;
+
 // The way up from a candidate: trailing Ts are dropped and the last letter goes up by one; when nothing is left the search
 // has ended.
 fn way_up(letters: u8, number: u64) -> Place
@@ -16,10 +20,10 @@ fn way_up(letters: u8, number: u64) -> Place
     let mut j = letters;
     let mut m = number;
     while j > 0 {
-        if m % 4 < 3 {
+        if m % Letter::BASES < LAST {
             return Place::new(j, m + 1);
         }
-        m = m / 4;
+        m = m / Letter::BASES;
         j -= 1;
     }
     Place::ended()
@@ -32,7 +36,7 @@ pub fn next_place(depth: u8, letters: u8, number: u64, frequent: bool) -> Place
 {
     if letters < depth {
         if frequent {
-            return Place::new(letters + 1, number * 4);
+            return Place::new(letters + 1, number * Letter::BASES);
         }
     }
     way_up(letters, number)

@@ -8,7 +8,7 @@ use borrow.Author.Needs.{needs}
 use Rattle.rules.specs.Lists.{sum, over}
 use Rattle.rules.specs.Sequences.{split}
 use Rattle.rules.specs.Template.{cut, components}
-use Rattle.matching.specs.Marks.{held}
+use Rattle.matching.specs.Marks.{Mark-WORDS, held}
 use Rattle.matching.proofs.Held.{length-held}
 use Rattle.matching.proofs.Marking.{later-sequences, sum-next, mark-at, mark-next, mark-free, marks-end}
 use Rattle.rules.proofs.Over.{over-none, over-put}
@@ -66,7 +66,7 @@ mark-requires c κs =
     sum-next (s .args .lengths .now) (s .args .letters .now) (l .i) (l .from) (c .before .before .before .before .before .before .before .before .before .loop-test .taken) (l .inv .4) in
     let n = ap length (s .pre .1 .1 .1 .1) in (
       omega (arith, s .pre .0 .few, l .inv .3, n),
-      mark-free _ _ 16 _ (s .pre .1 .1 .1 .1) (l .inv .6),
+      mark-free _ _ Mark-WORDS _ (s .pre .1 .1 .1 .1) (l .inv .6),
     )
 
 add-i : tie.Need-add-i Inv-loop μ-loop
@@ -106,7 +106,7 @@ same-length-3 c = search needs
 returns : tie.Need-returns Inv-loop μ-loop
 returns c =
     let l = c .before .loop in
-    marks-end _ _ _ _ 16 _ (c .before .before .before .before .before .before .before .before .pre .1 .1 .1 .1) (l .inv .6) (search needs)
+    marks-end _ _ _ _ Mark-WORDS _ (c .before .before .before .before .before .before .before .before .pre .1 .1 .1 .1) (l .inv .6) (search needs)
 
 pub mark-all-spec : {M : Type 1} → statement M
 mark-all-spec =
