@@ -1,0 +1,209 @@
+#!/bin/sh
+# How `run` ends: its statuses, also where reading or writing fails; two of it at once; and that it proves what has changed.
+set -eu
+cd "$(dirname "$0")/.."
+# shellcheck source=tests/cases.sh
+. tests/cases.sh
+
+# Runs a command, and keeps what it prints and how it ends.
+try() {
+    timeout 100 "$@" >"$work/out" 2>"$work/err" || status=$?
+}
+
+not_whole() {
+    ended 4
+    said "not the whole list"
+}
+
+./run --words motifs >/dev/null
+
+begin "a whole list"
+try ./run motifs "$work/short"
+ended 0
+printed "$work/short.out"
+
+begin "a list of many pages"
+words=$(./run --words motifs)
+(
+    IFS='
+'
+    set -f
+    # shellcheck disable=SC2086
+    exec $words
+) <"$work/long" >"$work/long.out"
+try ./run motifs <"$work/long"
+ended 0
+printed "$work/long.out"
+
+begin "a refusal"
+try ./run motifs "$work/bad"
+ended 3
+printed "$work/bad.out"
+
+# ---- what is not whole
+
+for input in short bad slow; do
+    begin "standard output on a full device, $input"
+    timeout 100 ./run motifs "$work/$input" >/dev/full 2>"$work/err" || status=$?
+    not_whole
+done
+
+begin "standard output on a file that may not grow"
+(
+    trap '' XFSZ
+    ulimit -f 8
+    timeout 100 ./run motifs "$work/long" >"$work/out" 2>"$work/err"
+) || status=$?
+not_whole
+printed_rows_of "$work/long.out"
+
+begin "standard output on a closed pipe"
+{
+    timeout 100 ./run motifs "$work/slow" 2>"$work/err" || status=$?
+    echo "$status" >"$work/status"
+} | head -n 1 >"$work/out"
+status=$(cat "$work/status")
+not_whole
+printed_rows
+
+begin "standard output closed"
+timeout 100 ./run motifs "$work/short" >&- 2>"$work/err" || status=$?
+ended 4
+said_one_line
+
+begin "standard input a folder"
+try ./run motifs <crates
+not_whole
+printed_nothing
+
+begin "standard input closed"
+try ./run motifs <&-
+ended 4
+printed_nothing
+said_one_line
+
+begin "standard input that fails after whole lines"
+try "$work/hangup" "$work/short" ./run motifs
+not_whole
+printed_nothing
+
+begin "a program that is stopped"
+(
+    # shellcheck disable=SC3045
+    ulimit -t 1
+    timeout 100 ./run motifs "$work/slow" >"$work/out" 2>"$work/err"
+) || status=$?
+not_whole
+
+# ---- what is not run
+
+begin "no such file"
+try ./run motifs "$work/none"
+ended 2
+printed_nothing
+said_one_line
+
+begin "a folder for a file"
+try ./run motifs crates
+ended 2
+printed_nothing
+said_one_line
+
+begin "no such program"
+try ./run motif "$work/short"
+ended 2
+printed_nothing
+said "  motifs: "
+
+begin "no kit"
+mkdir "$work/bin"
+for tool in sh dirname; do ln -s "$(command -v "$tool")" "$work/bin/$tool"; done
+try env PATH="$work/bin" sh run motifs "$work/short"
+ended 2
+printed_nothing
+said_one_line
+
+begin "help"
+try ./run --help
+ended 0
+grep -q '^  motifs: ' "$work/out" || fail "it does not name the programs"
+
+begin "by a link to a link, from another folder"
+ln -s "$PWD/run" "$work/one"
+ln -s one "$work/two"
+cd "$work"
+try ./two motifs short
+cd "$OLDPWD"
+ended 0
+printed "$work/short.out"
+
+# ---- two at once
+
+# Runs two at the same time; each prints a file, and the whole of it.
+try_two() { # FILE
+    for i in 1 2; do
+        {
+            timeout 500 ./run motifs "$work/short" >"$work/out.$i" 2>"$work/err.$i" || status=$?
+            echo "$status" >"$work/status.$i"
+        } &
+    done
+    wait
+    for i in 1 2; do
+        cp "$work/out.$i" "$work/out"
+        cp "$work/err.$i" "$work/err"
+        status=$(cat "$work/status.$i")
+        ended 0
+        printed "$1"
+    done
+    cat "$work/err.1" "$work/err.2" >"$work/err"
+}
+
+begin "two at once, of a program that is built"
+try_two "$work/short.out"
+[ ! -s "$work/err" ] || fail "it is checked again"
+
+begin "two at once, where it is to be checked"
+rm target/run/motifs
+try_two "$work/short.out"
+said "checking"
+if grep -q ' proved ([0-9]' "$work/err"; then fail "it is proved again"; fi
+
+# ---- a repository of one small program
+
+mkdir -p "$work/small/crates/motifs/src"
+cp run "$work/small"
+cd "$work/small"
+echo 'motifs: io libc' >crates.txt
+prints() { # LINE
+    cat >crates/motifs/src/main.rt <<END
+// Prints a line.
+use libc::STDOUT_FILENO;
+
+fn main() {
+    io::write_all(STDOUT_FILENO, b"$1\n");
+}
+END
+    echo "$1" >crates/motifs/stdout
+}
+
+begin "two at once, where it is to be proved"
+prints "end 0 0"
+try_two crates/motifs/stdout
+[ "$(grep -c '^run: motifs proved (' "$work/err")" -eq 1 ] || fail "it is not proved once"
+
+begin "a program that changed"
+prints "end 1 1"
+try ./run motifs "$work/short"
+ended 0
+printed crates/motifs/stdout
+said "motifs proved ("
+
+begin "a program that is not proved"
+echo 'fn sum(a: u8, b: u8) -> u8 { a + b }' >>crates/motifs/src/main.rt
+try ./run motifs "$work/short"
+ended 1
+printed_nothing
+said "motifs is not proved"
+
+cd "$OLDPWD"
+echo "tests/run.sh: $cases cases hold"
