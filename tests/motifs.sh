@@ -43,24 +43,17 @@ stopped
 printed_rows_of "$work/long.out"
 
 # `head` takes a row, which comes while the search goes on, and closes the pipe.
-begin "standard output on a closed pipe"
-{
-    motifs <"$work/slow" 2>"$work/err" || status=$?
-    echo "$status" >"$work/status"
-} | head -n 1 >"$work/out"
-status=$(cat "$work/status")
-stopped
-printed_rows
-
-begin "standard output on a closed pipe, with no signal"
-{
-    trap '' PIPE
-    motifs <"$work/slow" 2>"$work/err" || status=$?
-    echo "$status" >"$work/status"
-} | head -n 1 >"$work/out"
-status=$(cat "$work/status")
-stopped
-printed_rows
+for signal in with without; do
+    begin "standard output on a closed pipe, $signal a signal"
+    {
+        [ "$signal" = with ] || trap '' PIPE
+        motifs <"$work/slow" 2>"$work/err" || status=$?
+        echo "$status" >"$work/status"
+    } | head -n 1 >"$work/out"
+    status=$(cat "$work/status")
+    stopped
+    printed_rows
+done
 
 begin "standard input a folder"
 motifs <crates >"$work/out" 2>"$work/err"

@@ -57,14 +57,17 @@ begin "standard output on a file that may not grow"
 not_whole
 printed_rows_of "$work/long.out"
 
-begin "standard output on a closed pipe"
-{
-    timeout 100 ./run motifs "$work/slow" 2>"$work/err" || status=$?
-    echo "$status" >"$work/status"
-} | head -n 1 >"$work/out"
-status=$(cat "$work/status")
-not_whole
-printed_rows
+for signal in with without; do
+    begin "standard output on a closed pipe, $signal a signal"
+    {
+        [ "$signal" = with ] || trap '' PIPE
+        timeout 100 ./run motifs "$work/slow" 2>"$work/err" || status=$?
+        echo "$status" >"$work/status"
+    } | head -n 1 >"$work/out"
+    status=$(cat "$work/status")
+    not_whole
+    printed_rows
+done
 
 begin "standard output closed"
 timeout 100 ./run motifs "$work/short" >&- 2>"$work/err" || status=$?
