@@ -1,19 +1,20 @@
 #!/bin/sh
-# Builds examples/legs.c over the library, runs it, and compares what it prints with examples/legs.out. The library is for x86-64:
-# on another processor the kit's compiler, linker and C library make an x86-64 program of it, and the kit's emulator runs it.
+# Builds examples/legs.c over the library, runs it, and compares what it prints with examples/legs.out. On another processor than
+# x86-64 it does so a second time, for x86-64: rt's own archive, with the kit's compiler, linker, C library and emulator.
 set -eu
 cd "$(dirname "$0")/.."
 
-library=target/staticlib/libexports.a
-[ -f "$library" ] || rt staticlib exports >/dev/null
+second/library.sh
 
 work=$(mktemp -d)
 trap 'rm -rf "$work"' EXIT
 
-if [ "$(uname -m)" = x86_64 ]; then
-    cc -std=c99 -pedantic -Wall -Wextra -Werror -Iinclude examples/legs.c "$library" -o "$work/legs"
-    "$work/legs" >"$work/out"
-else
+cc -std=c99 -pedantic -Wall -Wextra -Werror -Iinclude examples/legs.c target/host/libtulfasheq.a -o "$work/legs"
+"$work/legs" >"$work/out"
+diff examples/legs.out "$work/out"
+echo "examples/legs.c: as examples/legs.out says"
+
+if [ "$(uname -m)" != x86_64 ]; then
     # The kit's folder: rt names a page that stands in it, KIT/docs/START-HERE.md. The host's C headers declare what the
     # program uses in the same words for both processors.
     tools=$(dirname "$(dirname "$(rt doc)")")/on/$(uname -m)/toolchain
@@ -22,10 +23,9 @@ else
         -isystem "$(cc -print-file-name=include)" -isystem "/usr/include/$(cc -print-multiarch)" -isystem /usr/include \
         -Iinclude -c examples/legs.c -o "$work/legs.o"
     "$tools/bin/ld.lld" -m elf_x86_64 -pie -dynamic-linker "$lib/ld-linux-x86-64.so.2" -o "$work/legs" \
-        "$lib/Scrt1.o" "$lib/crti.o" "$lib/crtbeginS.o" "$work/legs.o" "$library" \
+        "$lib/Scrt1.o" "$lib/crti.o" "$lib/crtbeginS.o" "$work/legs.o" target/staticlib/libexports.a \
         "$lib/libc.so.6" "$lib/libc_nonshared.a" "$lib/libgcc.a" "$lib/crtendS.o" "$lib/crtn.o"
     "$tools/bin/qemu-x86_64" "$lib/ld-linux-x86-64.so.2" --library-path "$lib" "$work/legs" >"$work/out"
+    diff examples/legs.out "$work/out"
+    echo "examples/legs.c: the same for x86-64"
 fi
-
-diff examples/legs.out "$work/out"
-echo "examples/legs.c: as examples/legs.out says"

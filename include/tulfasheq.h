@@ -1,7 +1,7 @@
 /* Tulfasheq for C and C++: the search for structured motifs in DNA, as numbers and arrays.
  *
- * Link with libexports.a (`rt staticlib exports` writes target/staticlib/libexports.a, for x86-64 Linux). No call keeps anything
- * between calls, allocates, or reads or writes anything but what it is passed; a call uses less than 1 MiB of stack.
+ * Link with libtulfasheq.a (second/library.sh makes it for the machine at hand, at target/host/libtulfasheq.a). No call keeps
+ * anything between calls, allocates, or reads or writes anything but what it is passed; a call uses less than 1 MiB of stack.
  *
  * Every array is passed as a pointer and the number of its elements. A pointer is never null, also where that number is 0, and is
  * aligned as its type asks. No array or number that a call writes may overlap another that it is passed.
@@ -16,6 +16,9 @@
  *
  * A search is passed as its saved bytes: tulfasheq_begin writes them, and each tulfasheq_leg replaces them by those of the search
  * at its new place. They may be stored, copied and handed on: a copy goes on from where it was taken, over the same sequences.
+ * They lie in ordinary memory, the caller's array. To store them, write a new file, and rename it over the last one once it is
+ * whole. Bytes cut short are refused (10); a save written over an older one and cut in the middle is not covered: it can be as
+ * long as it should be, partly new and partly old, and pass every check.
  *
  * Every call answers TULFASHEQ_OK, or a refusal. A refused call sets *place (0 where the refusal tells no place), sets every other
  * number that it answers to 0, and leaves every array as it was. A call that is not refused sets *place to 0. */

@@ -13,10 +13,19 @@
 set -eu
 cd "$(dirname "$0")/.."
 
-rt check exports
+# Runs a command, and shows what it said only if it fails.
+quietly() {
+    chatter=$("$@" 2>&1 </dev/null) || {
+        printf '%s\n' "$chatter" >&2
+        exit 1
+    }
+}
+
+[ -f target/stamp/exports ] || echo "second/library.sh: the library is proved first, which takes some minutes" >&2
+quietly rt check exports
 host=target/host
 mkdir -p "$host"
-if [ -f "$host/libtulfasheq.a" ] && cmp -s target/stamp/exports "$host/stamp"; then
+if [ -f "$host/libtulfasheq.a" ] && [ -f target/staticlib/libexports.a ] && cmp -s target/stamp/exports "$host/stamp"; then
     exit 0
 fi
 rm -f "$host/libtulfasheq.a" "$host/stamp"
@@ -26,9 +35,10 @@ kit=$(dirname "$(dirname "$(rt doc)")")
 machine=$(uname -m)
 
 if [ "$machine" = x86_64 ]; then
-    rt staticlib exports
+    quietly rt staticlib exports
     cp target/staticlib/libexports.a "$host/libtulfasheq.a"
     cp target/stamp/exports "$host/stamp"
+    echo "target/host/libtulfasheq.a: as rt staticlib exports makes it"
     exit 0
 fi
 
@@ -59,7 +69,7 @@ exec "$kit/$tools/bin/clang" "\$@"
 END
 chmod +x "$work/kit/$tools/bin/clang"
 
-RATTLE_HOME=$work/kit rt staticlib exports
+quietly env RATTLE_HOME="$work/kit" rt staticlib exports
 "$kit/$tools/bin/llvm-ar" rcs "$host/libtulfasheq.a" "$work/host.o"
 cp target/stamp/exports "$host/stamp"
 echo "target/host/libtulfasheq.a: the same module, compiled for $machine"
