@@ -3,7 +3,7 @@
 use mathlib.Core.Path.{_≡_, refl, sym, ap, _∙_}
 use mathlib.Core.Bool.{Bool, true, false, false≢true}
 use mathlib.Core.List.{List, [], _++_, append-assoc, append-nil}
-use Prim.Native.Nat.{ℕ, _+_, _^_, _≤_, _<_}
+use Prim.Native.Nat.{ℕ, _+_, _^_, _<_}
 use native.Mathlib.Omega.{arith}
 use lib.ListN.{length, length-append}
 use borrow.Author.Tests.{eqb-true}
@@ -27,7 +27,7 @@ use Rattle.rules.proofs.Whole.{listed-append}
 use Rattle.motifs.specs.declared.pages.Left.{Left}
 use Rattle.motifs.specs.declared.pages.Left.the-variants as left
 use Rattle.motifs.specs.declared.pages.Way.{Way}
-use Rattle.motifs.specs.Left.{nothing, rows, more?, further, onward}
+use Rattle.motifs.specs.Left.{rows, more?, further, onward}
 use Rattle.motifs.specs.Pages.{Page-ROWS, Page-STEPS, room-of, ended-told?, print-rows, leg-page, covered, page-of, left-after, to-try, to-list, text-left, Goes, Ready}
 use Rattle.motifs.proofs.Leg.{accepted, rows-few, moves}
 

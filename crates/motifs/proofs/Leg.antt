@@ -12,7 +12,7 @@ use Rattle.rules.specs.Refusals.{first, search-checks}
 use Rattle.rules.specs.Sequences.{sequences}
 use Rattle.rules.specs.Sound.{SoundTemplate}
 use Rattle.rules.specs.Support.{support, weight}
-use Rattle.rules.specs.Told.{Verdict, fine, refused, gives}
+use Rattle.rules.specs.Told.{Verdict, fine, refused}
 use Rattle.rules.specs.Walk.{Walk, listed, motif, walk-of}
 use Rattle.rules.specs.declared.Place.{Place}
 use Rattle.rules.specs.declared.Search.{Search}

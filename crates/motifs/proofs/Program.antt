@@ -2,9 +2,8 @@
 -- stands in front, the proof behind it. `pages::next` promises that it leaves each page at the front of the buffer that is
 -- written out, and answers what is left after it.
 use mathlib.Core.Path.{_≡_, refl, sym, ap, _∙_}
-use mathlib.Core.Bool.{true}
 use mathlib.Core.List.{List, _++_, append-assoc, append-nil}
-use Prim.Native.Nat.{ℕ, zero, suc, _≤_, _<_}
+use Prim.Native.Nat.{ℕ, zero, suc, _≤_}
 use native.Mathlib.Nat.{zero-add}
 use native.Mathlib.Omega.{arith}
 use lib.ListN.{length, take}
@@ -27,7 +26,7 @@ use Rattle.motifs.specs.Input.{InputRule, input-told, input-rule}
 use Rattle.motifs.specs.Left.{nothing, rows, at-first, opening}
 use Rattle.motifs.specs.Pages.{print-rows, page-of, left-after, pages, left-at, text-left, Goes, Ready}
 use Rattle.motifs.proofs.Laid.{amount, page-then, ready-after, less-after}
-use Rattle.motifs.proofs.Reading.{Fronts, declined, sound, fronts-are}
+use Rattle.motifs.proofs.Reading.{declined, sound, fronts-are}
 
 -- the first n pages of an input, laid end to end, and what is left after them
 abbrev pub pages-of : List ℕ → ℕ → List ℕ
