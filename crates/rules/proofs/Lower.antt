@@ -1,5 +1,5 @@
--- A lower quorum, or more sequences at the end, loses nothing: the old list is what the old rule keeps of the new one, and with a
--- lower quorum the steps are no fewer. Of any walk with a wider rule, and so of every kind of search.
+-- A lower quorum loses nothing: the old list is what the old rule keeps of the new one, and the steps are no fewer. Of any walk
+-- with a wider rule, and so of every kind of search. More sequences at the end lose nothing where sequences are counted.
 use mathlib.Core.Path.{_≡_, refl, sym, ap, _∙_}
 use mathlib.Core.Bool.{Bool, true, false, _&&_, false≢true}
 use mathlib.Core.List.{List, _++_, map-append}
