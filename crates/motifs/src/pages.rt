@@ -15,10 +15,12 @@ ghost use Rattle.rules.specs.Told.{refusal-number, refusal-place, toldAnswer, t
 ghost use Rattle.motifs.specs.Left.{refusal, rows, nothing, more?, opening, onward};
 ghost use Rattle.motifs.specs.Pages.{Page-ROWS, Page-BYTES, room-of, ended-told?, Goes, Ready, Next};
 
-// The most rows of a page, and the bytes of that many lines.
+// The most rows of a page, the bytes of the longest line, and those of that many.
 pub const ROWS: usize = 256;
 
-pub const BYTES: usize = 256 * ROWS;
+const LINE: usize = 256;
+
+pub const BYTES: usize = LINE * ROWS;
 
 // The most steps of a page's leg: few enough that rows show while a long search goes on.
 const STEPS: u64 = 16384;

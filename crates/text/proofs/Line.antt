@@ -4,8 +4,7 @@ use mathlib.Core.List.{List, [], _∷_, _++_, append-assoc}
 use Prim.Native.Nat.{ℕ, _+_, _^_, _≤_, _<_}
 use native.Mathlib.Nat.{zero-add}
 use native.Mathlib.Omega.{arith}
-use lib.ListN.{length, take, length-append}
-use Rattle.rules.proofs.Tables.{put-front}
+use lib.ListN.{length, length-append}
 use Rattle.rules.specs.Support.{support, weight, parts}
 use Rattle.rules.specs.Template.{size}
 use Rattle.rules.specs.Text.{decimal, print-row}
@@ -45,7 +44,3 @@ module _ (head : List ℕ) (x y : ℕ) where
 pub print-row-is : (ss : List (List ℕ)) (t : Template) (m : ℕ) → print-row ss t m ≡ row t m (support (parts t (size t) m) ss) (weight (parts t (size t) m) ss)
 unfolding print-row row
 print-row-is ss t m = refl
-
--- a line stands at the front of its buffer
-pub line-front : {text a b : List ℕ} {r : ℕ} → Line text a b r → take r b ≡ text
-line-front {text} {a} {b} {r} l = rw (l .out) (put-front r text a (sym (l .end)))
