@@ -96,20 +96,21 @@ fn can_start(flags: &[u8], component: usize, at: Position, letters: usize) -> bo
 }
 
 // The first position from `from` on and below `end` at which a component can start; `end` or a later one where there is none.
-fn seek(flags: &[u8], component: usize, from: usize, end: usize, letters: usize) -> usize
-    requires { ⌜ (component < Template-COMPONENTS) × (1 ≤ from) × (end ≤ letters + 1) × (letters ≤ SequenceSet-LETTERS) ⌝ }
+fn seek(flags: &[u8], component: usize, from: Position, end: Position, letters: usize) -> Position
+    requires { ⌜ (component < Template-COMPONENTS) × (1 ≤ from .0) × (end .0 ≤ letters + 1) × (letters ≤ SequenceSet-LETTERS) ⌝ }
     requires { ⌜ length (now flags) ≡ Template-COMPONENTS * SequenceSet-LETTERS ⌝ }
-    ensures { λ r. ⌜ (from ≤ r) × Unflagged letters (now (flags .entry)) component from r ⌝ }
-    ensures { λ r. ⌜ (r < end → flag letters (now (flags .entry)) component r ≡ true) ⌝ }
+    ensures { λ r. ⌜ (from .0 ≤ r .0) × Unflagged letters (now (flags .entry)) component (from .0) (r .0) ⌝ }
+    ensures { λ r. ⌜ (r .0 < end .0 → flag letters (now (flags .entry)) component (r .0) ≡ true) ⌝ }
 {
-    let mut q = from;
-    while q < end {
+    let last = end.0;
+    let mut q = from.0;
+    while q < last {
         if can_start(flags, component, Position(q), letters) {
-            return q;
+            return Position(q);
         }
         q += 1;
     }
-    q
+    Position(q)
 }
 
 // A number of a component, for sums.
@@ -121,15 +122,15 @@ fn wide(x: u16) -> usize
 
 // Positions from one up to another, which is not one of them.
 struct Span {
-    from: usize,
-    end: usize,
+    from: Position,
+    end: Position,
 }
 
 // Where the component after one may start if that starts at a position of a sequence of so many letters.
 fn next_starts(template: Template, component: usize, at: Position, letters: usize) -> Span
     requires { ⌜ (component + 1 < Template-COMPONENTS) × (at .0 ≤ SequenceSet-LETTERS) × (letters ≤ SequenceSet-LETTERS) ⌝ }
-    ensures { λ r. ⌜ r .from ≡ at .0 + getD (slots template) component none .length + getD (slots template) (component + 1) none .low ⌝ }
-    ensures { λ r. ⌜ r .end ≡ min letters (at .0 + getD (slots template) component none .length + getD (slots template) (component + 1) none .high) + 1 ⌝ }
+    ensures { λ r. ⌜ r .from .0 ≡ at .0 + getD (slots template) component none .length + getD (slots template) (component + 1) none .low ⌝ }
+    ensures { λ r. ⌜ r .end .0 ≡ min letters (at .0 + getD (slots template) component none .length + getD (slots template) (component + 1) none .high) + 1 ⌝ }
 {
     let cs = template.components();
     let next = component + 1;
@@ -139,10 +140,9 @@ fn next_starts(template: Template, component: usize, at: Position, letters: usiz
     let low = wide(there.low);
     let high = wide(there.high);
     let after = at.0 + length;
-    Span {
-        from: after + low,
-        end: least(letters, after + high) + 1,
-    }
+    let from = Position(after + low);
+    let end = Position(least(letters, after + high) + 1);
+    Span { from, end }
 }
 
 // Hands out a row for each of some starts of the last component: the numbers before it stand in `row`.
@@ -155,22 +155,22 @@ fn list_last(
     done: Progress,
     out: &mut [u32],
 ) -> Progress
-    requires { ⌜ (component < Template-COMPONENTS) × (1 ≤ starts .from) × (starts .end ≤ letters + 1) × (letters ≤ SequenceSet-LETTERS) ⌝ }
+    requires { ⌜ (component < Template-COMPONENTS) × (1 ≤ starts .from .0) × (starts .end .0 ≤ letters + 1) × (letters ≤ SequenceSet-LETTERS) ⌝ }
     requires { ⌜ (length row ≡ Template-COMPONENTS + 1) × (length (now flags) ≡ Template-COMPONENTS * SequenceSet-LETTERS) ⌝ }
     requires { ⌜ Inside done (length (now out)) ⌝ }
     ensures { λ r. ⌜ Inside r (length (now (out .exit))) ⌝ }
-    ensures { λ r. ⌜ buffer r (now (out .exit)) ≡ handed (none ∷ []) letters (now (flags .entry)) row component (starts .from) (starts .end) (buffer done (now (out .entry))) ⌝ }
+    ensures { λ r. ⌜ buffer r (now (out .exit)) ≡ handed (none ∷ []) letters (now (flags .entry)) row component (starts .from .0) (starts .end .0) (buffer done (now (out .entry))) ⌝ }
 {
     let last = component + 1;
     let width = last + 1;
-    let end = starts.end;
+    let end = starts.end.0;
     let mut longer = row;
     let mut p = done;
-    let mut q = seek(flags, component, starts.from, end, letters);
+    let mut q = seek(flags, component, starts.from, starts.end, letters).0;
     while q < end {
         longer[last] = q as u32;
         p = emit(&longer[..width], p, out);
-        q = seek(flags, component, q + 1, end, letters);
+        q = seek(flags, component, Position(q + 1), starts.end, letters).0;
     }
     p
 }
@@ -188,11 +188,11 @@ fn descend(
     out: &mut [u32],
 ) -> Progress
     requires { ⌜ SoundTemplate template ⌝ }
-    requires { ⌜ (component < template .count) × (1 ≤ starts .from) × (starts .end ≤ letters + 1) × (letters ≤ SequenceSet-LETTERS) ⌝ }
+    requires { ⌜ (component < template .count) × (1 ≤ starts .from .0) × (starts .end .0 ≤ letters + 1) × (letters ≤ SequenceSet-LETTERS) ⌝ }
     requires { ⌜ (length row ≡ Template-COMPONENTS + 1) × (length (now flags) ≡ Template-COMPONENTS * SequenceSet-LETTERS) ⌝ }
     requires { ⌜ Inside done (length (now out)) ⌝ }
     ensures { λ r. ⌜ Inside r (length (now (out .exit))) ⌝ }
-    ensures { λ r. ⌜ buffer r (now (out .exit)) ≡ handed (drop component (components template)) letters (now (flags .entry)) row component (starts .from) (starts .end) (buffer done (now (out .entry))) ⌝ }
+    ensures { λ r. ⌜ buffer r (now (out .exit)) ≡ handed (drop component (components template)) letters (now (flags .entry)) row component (starts .from .0) (starts .end .0) (buffer done (now (out .entry))) ⌝ }
 {
     let count = template.count as usize;
     let next = component + 1;
@@ -200,10 +200,10 @@ fn descend(
         return list_last(component, starts, letters, flags, row, done, out);
     }
     let width = count + 1;
-    let end = starts.end;
+    let end = starts.end.0;
     let mut longer = row;
     let mut p = done;
-    let mut q = seek(flags, component, starts.from, end, letters);
+    let mut q = seek(flags, component, starts.from, starts.end, letters).0;
     while q < end {
         if full(p, width, out.len()) {
             return p;
@@ -211,7 +211,7 @@ fn descend(
         longer[next] = q as u32;
         let later = next_starts(template, component, Position(q), letters);
         p = descend(template, next, later, letters, flags, longer, p, out);
-        q = seek(flags, component, q + 1, end, letters);
+        q = seek(flags, component, Position(q + 1), starts.end, letters).0;
     }
     p
 }
@@ -248,8 +248,8 @@ fn list_start(
         };
     }
     let starts = Span {
-        from,
-        end: from + 1,
+        from: at,
+        end: Position(from + 1),
     };
     descend(template, 0, starts, letters, flags, row, done, out)
 }
@@ -277,13 +277,13 @@ pub fn list_starts(
     row[0] = number.0 as u32;
     let end = letters + 1;
     let mut p = done;
-    let mut at = seek(flags, 0, 1, end, letters);
+    let mut at = seek(flags, 0, Position(1), Position(end), letters).0;
     while at < end {
         if full(p, width, out.len()) {
             return p;
         }
         p = list_start(template, Position(at), letters, flags, ways, row, p, out);
-        at = seek(flags, 0, at + 1, end, letters);
+        at = seek(flags, 0, Position(at + 1), Position(end), letters).0;
     }
     p
 }

@@ -1,7 +1,8 @@
 // A mark for each sequence, as many to a word as it has bits: set one by one, and counted.
+use rules::SequenceNumber;
 use rules::SequenceSet;
 ghost use mathlib.Core.Path.{_≡_};
-ghost use Prim.Native.Nat.{_*_, _≤_, _<_};
+ghost use Prim.Native.Nat.{_-_, _*_, _≤_};
 ghost use lib.ListN.{length, getD, set};
 ghost use Rattle.rules.specs.Lists.{sum};
 ghost use Rattle.matching.specs.Flags.{bit};
@@ -19,11 +20,12 @@ fn one(found: bool) -> u64
     if found { 1 } else { 0 }
 }
 
-// Marks sequence `i`, from 0, if the prefix was found in it.
-pub fn mark(words: &mut [u64], i: usize, found: bool)
-    requires { ⌜ (i < Mark-BITS * length (now words)) × (getD (held (now words)) i 0 ≡ 0) ⌝ }
-    ensures { λ _. ⌜ held (now (words .exit)) ≡ set (held (now (words .entry))) i (bit found) ⌝ }
+// Marks a sequence if the prefix was found in it.
+pub fn mark(words: &mut [u64], sequence: SequenceNumber, found: bool)
+    requires { ⌜ (1 ≤ sequence .0) × (sequence .0 ≤ Mark-BITS * length (now words)) × (getD (held (now words)) (sequence .0 - 1) 0 ≡ 0) ⌝ }
+    ensures { λ _. ⌜ held (now (words .exit)) ≡ set (held (now (words .entry))) (sequence .0 - 1) (bit found) ⌝ }
 {
+    let i = sequence.0 - 1;
     let q = i / BITS;
     let b = i % BITS;
     words[q] = words[q] | (one(found) << b);

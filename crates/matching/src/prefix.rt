@@ -4,6 +4,8 @@ use super::flags;
 use super::marks;
 use rules::Component;
 use rules::Letter;
+use rules::Offset;
+use rules::SequenceNumber;
 use rules::Template;
 use rules::least;
 ghost use mathlib.Core.Path.{_≡_};
@@ -109,10 +111,10 @@ fn flag_left(
     flags::left(flags)
 }
 
-// The same for the sequence from offset `from` up to `to`, in its own part of each buffer.
+// The same for the sequence from the offset `from` up to `to`, in its own part of each buffer.
 fn flag_left_between(
-    from: usize,
-    to: usize,
+    from: Offset,
+    to: Offset,
     template: Template,
     word: &[u8],
     letters: &[u8],
@@ -121,15 +123,17 @@ fn flag_left_between(
 ) -> bool
     requires { ⌜ SoundTemplate template ⌝ }
     requires { ⌜ 1 ≤ length (now word) ⌝ }
-    requires { ⌜ (from ≤ to) × (to ≤ length (now letters)) × (length (now letters) ≤ length (now flags)) × (length (now letters) ≤ length (now spare)) ⌝ }
-    ensures { λ r. ⌜ r ≡ left? (last-starts (cut (components template) (now (word .entry))) (take (to - from) (drop from (now (letters .entry))))) ⌝ }
+    requires { ⌜ (from .0 ≤ to .0) × (to .0 ≤ length (now letters)) × (length (now letters) ≤ length (now flags)) × (length (now letters) ≤ length (now spare)) ⌝ }
+    ensures { λ r. ⌜ r ≡ left? (last-starts (cut (components template) (now (word .entry))) (take (to .0 - from .0) (drop (from .0) (now (letters .entry))))) ⌝ }
 {
+    let begin = from.0;
+    let end = to.0;
     flag_left(
         template,
         word,
-        &letters[from..to],
-        &mut flags[from..to],
-        &mut spare[from..to],
+        &letters[begin..end],
+        &mut flags[begin..end],
+        &mut spare[begin..end],
     )
 }
 
@@ -155,9 +159,18 @@ pub fn mark_all(
     while i < lengths.len() {
         let n = lengths[i] as usize;
         let to = from + n;
-        let found = flag_left_between(from, to, template, word, letters, flags, spare);
-        marks::mark(words, i, found);
+        let found = flag_left_between(
+            Offset(from),
+            Offset(to),
+            template,
+            word,
+            letters,
+            flags,
+            spare,
+        );
+        let number = i + 1;
+        marks::mark(words, SequenceNumber(number), found);
         from = to;
-        i += 1;
+        i = number;
     }
 }

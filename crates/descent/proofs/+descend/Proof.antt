@@ -50,7 +50,7 @@ calls t = (
 )
 
 abbrev descend-Inv-loop : descend-lts.InvT-loop
-descend-Inv-loop template component letters flags out₀ count next width end row p₀ q₀ out longer p q =
+descend-Inv-loop template component starts letters flags out₀ count next width end row p₀ q₀ out longer p q =
     let on = handed (drop component (components template)) letters flags row component in
     (length out ≡ length out₀)
     × Inside p (length out)
@@ -61,7 +61,7 @@ descend-Inv-loop template component letters flags out₀ count next width end ro
     × (on q end (buffer p out) ≡ on q₀ end (buffer p₀ out₀))
 
 abbrev descend-μ-loop : descend-lts.MeasureT-loop
-descend-μ-loop template component letters flags out₀ count next width end row p₀ q₀ out longer p q = end - q
+descend-μ-loop template component starts letters flags out₀ count next width end row p₀ q₀ out longer p q = end - q
 
 descend-cast-count : (t : ℕ) → descend-lts.Need-cast-count (calls t) (descend-at t) descend.Post descend-Inv-loop descend-μ-loop
 descend-cast-count t c = search needs
@@ -82,7 +82,7 @@ descend-returns t c =
     let b = c .before .before .before .before .before .before .before .before in
     let a = b .args in
     let r = c .before .before .list-last .ensures in
-    (r .0, handed-last (a .template) (b .pre .1 .0 .few) (a .letters) (a .flags .now) (a .row) (a .component) (a .starts .from) (a .starts .end) (buffer (a .done) (a .out .now)) (omega (arith, c .before .before .before .before .if1 .taken)) (r .1))
+    (r .0, handed-last (a .template) (b .pre .1 .0 .few) (a .letters) (a .flags .now) (a .row) (a .component) (a .starts .from .0) (a .starts .end .0) (buffer (a .done) (a .out .now)) (omega (arith, c .before .before .before .before .if1 .taken)) (r .1))
 
 descend-add-width : (t : ℕ) → descend-lts.Need-add-width (calls t) (descend-at t) descend.Post descend-Inv-loop descend-μ-loop
 descend-add-width t c = search needs
@@ -105,8 +105,8 @@ descend-returns-2 t c =
     let a = b .args in
     let l = c .before .before .before .loop in
     let xs = drop (a .component) (components (a .template)) in
-    let left = handed-full (a .template) (b .pre .1 .0 .few) (a .letters) (a .flags .now) (a .row) (a .component) (l .q) (a .starts .end) (l .p) (l .out) (omega (arith, b .pre .1 .1 .0)) (l .inv .1 .ends) (c .before .full .ensures) (c .if2 .taken) in
-    (l .inv .1, sym left ∙ l .inv .6 ∙ sym (handed-past xs (a .letters) (a .flags .now) (a .row) (a .component) (a .starts .from) _ _ _ (c .before .before .before .before .seek .ensures .0)))
+    let left = handed-full (a .template) (b .pre .1 .0 .few) (a .letters) (a .flags .now) (a .row) (a .component) (l .q) (a .starts .end .0) (l .p) (l .out) (omega (arith, b .pre .1 .1 .0)) (l .inv .1 .ends) (c .before .full .ensures) (c .if2 .taken) in
+    (l .inv .1, sym left ∙ l .inv .6 ∙ sym (handed-past xs (a .letters) (a .flags .now) (a .row) (a .component) (a .starts .from .0) _ _ _ (c .before .before .before .before .seek .ensures .0)))
 
 descend-cast-longer : (t : ℕ) → descend-lts.Need-cast-longer (calls t) (descend-at t) descend.Post descend-Inv-loop descend-μ-loop
 descend-cast-longer t c = search needs
@@ -125,10 +125,10 @@ descend-descend-requires t c κs =
     let b = c .before .before .before .before .before .before .before .before .before .before .before in
     let l = c .before .before .before .before .before .loop in
     let some : 1 ≤ l .q = omega (arith, b .pre .1 .1 .0, c .before .before .before .before .before .before .seek .ensures .0 .0) in
-    (omega arith, (b .pre .1 .0, (omega (arith, c .before .next-starts .ensures), ((length-set (l .longer) (b .args .component + 1) (l .q) ∙ l .inv .2, b .pre .1 .1 .1 .0 .1), l .inv .1))))
+    (omega arith, (b .pre .1 .0, (omega (arith, c .before .next-starts .ensures, c .before .before .before .before .before .before .before .if1 .left, b .pre .1 .1 .0), ((length-set (l .longer) (b .args .component + 1) (l .q) ∙ l .inv .2, b .pre .1 .1 .1 .0 .1), l .inv .1))))
 
-descend-add-seek : (t : ℕ) → descend-lts.Need-add-seek (calls t) (descend-at t) descend.Post descend-Inv-loop descend-μ-loop
-descend-add-seek t c = omega (arith, c .before .before .before .before .before .before .before .loop-test .taken, c .before .before .before .before .before .before .before .before .before .before .before .before .before .before .pre .1 .1 .0)
+descend-add-t23 : (t : ℕ) → descend-lts.Need-add-t23 (calls t) (descend-at t) descend.Post descend-Inv-loop descend-μ-loop
+descend-add-t23 t c = omega (arith, c .before .before .before .before .before .before .before .loop-test .taken, c .before .before .before .before .before .before .before .before .before .before .before .before .before .before .pre .1 .1 .0)
 
 descend-seek-requires-2 : (t : ℕ) → descend-lts.Need-seek-requires-2 (calls t) (descend-at t) descend.Post descend-Inv-loop descend-μ-loop
 descend-seek-requires-2 t c κs =
@@ -168,8 +168,8 @@ descend-returns-3 t c =
     let a = b .args in
     let l = c .before .loop in
     let xs = drop (a .component) (components (a .template)) in
-    let left = handed-done xs (a .letters) (a .flags .now) (a .row) (a .component) (l .q) (a .starts .end) (buffer (l .p) (l .out)) (c .loop-test .left) in
-    (l .inv .1, sym left ∙ l .inv .6 ∙ sym (handed-past xs (a .letters) (a .flags .now) (a .row) (a .component) (a .starts .from) _ _ _ (c .before .before .seek .ensures .0)))
+    let left = handed-done xs (a .letters) (a .flags .now) (a .row) (a .component) (l .q) (a .starts .end .0) (buffer (l .p) (l .out)) (c .loop-test .left) in
+    (l .inv .1, sym left ∙ l .inv .6 ∙ sym (handed-past xs (a .letters) (a .flags .now) (a .row) (a .component) (a .starts .from .0) _ _ _ (c .before .before .seek .ensures .0)))
 
 pub +descend-spec : {M : Type 1} → statement M
 +descend-spec = close μ-descend λ t. descend-lts.spec (calls t)
@@ -193,7 +193,7 @@ pub +descend-spec : {M : Type 1} → statement M
     (descend-array-write-longer t)
     (descend-next-starts-requires t)
     (descend-descend-requires t)
-    (descend-add-seek t)
+    (descend-add-t23 t)
     (descend-seek-requires-2 t)
     (descend-loop-less t)
     (descend-loop-again t)

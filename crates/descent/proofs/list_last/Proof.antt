@@ -18,7 +18,7 @@ use Rattle.descent.proofs.list_last.Statement.{statement}
 use Rattle.descent.proofs.list_last.Tie as tie
 
 abbrev Inv-loop : tie.InvT-loop
-Inv-loop component letters flags out₀ last width end row p₀ q₀ out longer p q =
+Inv-loop component starts letters flags out₀ last width end row p₀ q₀ out longer p q =
     let on = handed (none ∷ []) letters flags row component in
     (length out ≡ length out₀)
     × Inside p (length out)
@@ -29,7 +29,7 @@ Inv-loop component letters flags out₀ last width end row p₀ q₀ out longer 
     × (on q end (buffer p out) ≡ on q₀ end (buffer p₀ out₀))
 
 abbrev μ-loop : tie.MeasureT-loop
-μ-loop component letters flags out₀ last width end row p₀ q₀ out longer p q = end - q
+μ-loop component starts letters flags out₀ last width end row p₀ q₀ out longer p q = end - q
 
 add-last : tie.Need-add-last Inv-loop μ-loop
 add-last c = search needs
@@ -61,8 +61,8 @@ slice-aggregate-emit c = simp (length-take, length-set) (omega arith)
 emit-requires : tie.Need-emit-requires Inv-loop μ-loop
 emit-requires c κs = (simp (length-take, length-set) (omega arith), c .before .before .before .loop .inv .1)
 
-add-seek : tie.Need-add-seek Inv-loop μ-loop
-add-seek c = omega (arith, c .before .before .before .before .before .loop-test .taken, c .before .before .before .before .before .before .before .before .before .before .pre .0)
+add-t17 : tie.Need-add-t17 Inv-loop μ-loop
+add-t17 c = omega (arith, c .before .before .before .before .before .loop-test .taken, c .before .before .before .before .before .before .before .before .before .before .pre .0)
 
 seek-requires-2 : tie.Need-seek-requires-2 Inv-loop μ-loop
 seek-requires-2 c κs = let b = c .before .before .before .before .before .before .before .before .before .before in (omega (arith, b .pre .0), b .pre .1 .0 .1)
@@ -95,7 +95,7 @@ returns c =
     let a = c .before .before .before .before .before .args in
     let l = c .before .loop in
     let done = handed-done (none ∷ []) (a .letters) (a .flags .now) (a .row) (a .component) (l .q) _ (buffer (l .p) (l .out)) (c .loop-test .left) in
-    (l .inv .1, sym done ∙ l .inv .6 ∙ sym (handed-past (none ∷ []) (a .letters) (a .flags .now) (a .row) (a .component) (a .starts .from) _ _ _ (c .before .before .seek .ensures .0)))
+    (l .inv .1, sym done ∙ l .inv .6 ∙ sym (handed-past (none ∷ []) (a .letters) (a .flags .now) (a .row) (a .component) (a .starts .from .0) _ _ _ (c .before .before .seek .ensures .0)))
 
 pub list-last-spec : {M : Type 1} → statement M
 list-last-spec =
@@ -113,7 +113,7 @@ list-last-spec =
     array-share-prefix-longer
     slice-aggregate-emit
     emit-requires
-    add-seek
+    add-t17
     seek-requires-2
     loop-less
     loop-again

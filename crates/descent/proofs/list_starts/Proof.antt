@@ -69,8 +69,8 @@ list-start-requires c κs =
     let l = c .before .before .before .before .loop in
     (b .pre .0, (omega arith, ((refl, b .pre .1 .1 .0), (l .inv .1, b .pre .1 .1 .1 .1 (l .at) (omega arith) (omega arith)))))
 
-add-seek : tie.Need-add-seek Inv-loop μ-loop
-add-seek c = omega (arith, c .before .before .before .before .before .before .loop-test .taken, c .before .before .before .before .before .before .before .before .before .before .before .before .before .before .pre .1 .0)
+add-t22 : tie.Need-add-t22 Inv-loop μ-loop
+add-t22 c = omega (arith, c .before .before .before .before .before .before .loop-test .taken, c .before .before .before .before .before .before .before .before .before .before .before .before .before .before .pre .1 .0)
 
 seek-requires-2 : tie.Need-seek-requires-2 Inv-loop μ-loop
 seek-requires-2 c κs = let b = c .before .before .before .before .before .before .before .before .before .before .before .before .before .before in (omega (arith, b .pre .1 .0), b .pre .1 .1 .0)
@@ -116,7 +116,7 @@ list-starts-spec =
     same-length
     returns
     list-start-requires
-    add-seek
+    add-t22
     seek-requires-2
     loop-less
     loop-again

@@ -33,8 +33,8 @@ wide-requires-3 c κs = search needs
 add-after : tie.Need-add-after
 add-after c = search needs
 
-add-t14 : tie.Need-add-t14
-add-t14 c = search needs
+add-t16 : tie.Need-add-t16
+add-t16 c = search needs
 
 add-least : tie.Need-add-least
 add-least c = search needs
@@ -42,8 +42,8 @@ add-least c = search needs
 least-requires : tie.Need-least-requires
 least-requires c κs = search needs
 
-add-t22 : tie.Need-add-t22
-add-t22 c = search needs
+add-t23 : tie.Need-add-t23
+add-t23 c = search needs
 
 returns : tie.Need-returns
 returns c =
@@ -67,8 +67,8 @@ next-starts-spec =
     wide-requires-2
     wide-requires-3
     add-after
-    add-t14
+    add-t16
     add-least
     least-requires
-    add-t22
+    add-t23
     returns)

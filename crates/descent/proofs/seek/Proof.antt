@@ -9,10 +9,10 @@ use Rattle.descent.proofs.seek.Statement.{statement}
 use Rattle.descent.proofs.seek.Tie as tie
 
 abbrev Inv-loop : tie.InvT-loop
-Inv-loop flags component from end letters q₀ q = (from ≤ q) × Unflagged letters flags component from q
+Inv-loop flags component letters last q₀ q = (q₀ ≤ q) × Unflagged letters flags component q₀ q
 
 abbrev μ-loop : tie.MeasureT-loop
-μ-loop flags component from end letters q₀ q = end - q
+μ-loop flags component letters last q₀ q = last - q
 
 loop-holds : tie.Need-loop-holds Inv-loop μ-loop
 loop-holds c = (omega arith, λ p h l. absurd (omega arith))

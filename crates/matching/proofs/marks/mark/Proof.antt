@@ -4,6 +4,9 @@ use Rattle.matching.proofs.Held.{held-mark}
 use Rattle.matching.proofs.marks.mark.Statement.{statement}
 use Rattle.matching.proofs.marks.mark.Tie as tie
 
+sub-i : tie.Need-sub-i
+sub-i c = search needs
+
 mul-words : tie.Need-mul-words
 mul-words c = search needs
 
@@ -26,12 +29,13 @@ same-length : tie.Need-same-length
 same-length c = search needs
 
 returns : tie.Need-returns
-returns c = held-mark _ _ (search needs) (search needs) (c .before .before .before .args .found) (c .one .ensures)
+returns c = held-mark _ _ (search needs) (search needs) (c .before .before .before .before .args .found) (c .one .ensures)
 
 pub mark-spec : {M : Type 1} → statement M
 mark-spec =
     tie.close
     (tie.spec
+    sub-i
     mul-words
     slice-read-words
     one-requires

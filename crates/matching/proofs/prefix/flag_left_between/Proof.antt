@@ -35,13 +35,13 @@ part-flag-left-end-3 c = search needs
 flag-left-requires : tie.Need-flag-left-requires
 flag-left-requires c κs =
     let a = c .before .before .before .before .before .before .before .args in
-    let n = mid-len (a .from) (a .to) (a .letters .now) (search needs) in (
+    let n = mid-len (a .from .0) (a .to .0) (a .letters .now) (search needs) in (
       search needs,
       (
         search needs,
         (
-          mid-len (a .from) (a .to) (a .flags .now) (search needs) ∙ sym n,
-          mid-len (a .from) (a .to) (a .spare .now) (search needs) ∙ sym n,
+          mid-len (a .from .0) (a .to .0) (a .flags .now) (search needs) ∙ sym n,
+          mid-len (a .from .0) (a .to .0) (a .spare .now) (search needs) ∙ sym n,
         ),
       ),
     )

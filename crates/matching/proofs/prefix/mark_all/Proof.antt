@@ -58,19 +58,21 @@ flag-left-between-requires c κs =
     sum-next (s .args .lengths .now) (s .args .letters .now) (l .i) (l .from) (c .before .before .before .loop-test .taken) (l .inv .4) in
     (search needs, (search needs, (omega arith, omega (arith, e), search needs, search needs)))
 
+add-number : tie.Need-add-number Inv-loop μ-loop
+add-number c = search needs
+
 mark-requires : tie.Need-mark-requires Inv-loop μ-loop
 mark-requires c κs =
     let s = c .before .before .before .before .before .before .before .before .before .before .before .before .before .before .before .before .before in
     let l = c .before .before .before .before .before .before .before .before .before .before .loop in
     let e : l .from + getD (s .args .lengths .now) (l .i) 0 + sum (drop (l .i + 1) (s .args .lengths .now)) ≡ length (s .args .letters .now) =
     sum-next (s .args .lengths .now) (s .args .letters .now) (l .i) (l .from) (c .before .before .before .before .before .before .before .before .before .loop-test .taken) (l .inv .4) in
-    let n = ap length (s .pre .1 .1 .1 .1) in (
+    let n = ap length (s .pre .1 .1 .1 .1) in
+    let same : l .i + 1 - 1 ≡ l .i = omega arith in (
+      omega arith,
       omega (arith, s .pre .0 .few, l .inv .3, n),
-      mark-free _ _ Mark-WORDS _ (s .pre .1 .1 .1 .1) (l .inv .6),
+      rw same (mark-free _ _ Mark-WORDS _ (s .pre .1 .1 .1 .1) (l .inv .6)),
     )
-
-add-i : tie.Need-add-i Inv-loop μ-loop
-add-i c = search needs
 
 loop-less : tie.Need-loop-less Inv-loop μ-loop
 loop-less c = search needs
@@ -82,14 +84,15 @@ loop-again c =
     let e : l .from + getD (s .args .lengths .now) (l .i) 0 + sum (drop (l .i + 1) (s .args .lengths .now)) ≡ length (s .args .letters .now) =
     sum-next (s .args .lengths .now) (s .args .letters .now) (l .i) (l .from) (c .before .before .before .before .before .before .before .before .before .before .before .before .loop-test .taken) (l .inv .4) in
     let n = ap length (s .pre .1 .1 .1 .1) in
-    let h = c .before .before .before .before .before .before .before .before .before .before .before .before .loop-test .taken in (
+    let h = c .before .before .before .before .before .before .before .before .before .before .before .before .loop-test .taken in
+    let same : l .i + 1 - 1 ≡ l .i = omega arith in (
       search needs,
       search needs,
       search needs,
       search needs,
       e,
       later-sequences _ _ _ _ h (l .inv .5),
-      c .before .before .mark .ensures
+      rw same at (c .before .before .mark .ensures)
           ∙ over-put _ _ _ (l .inv .6) (mark-next _ _ _ _ _ h (l .inv .5) (c .before .before .before .before .before .before .before .before .flag-left-between .ensures))
           (rw length-held (omega (arith, s .pre .0 .few, n))),
     )
@@ -120,8 +123,8 @@ mark-all-spec =
     cast-n
     add-to
     flag-left-between-requires
+    add-number
     mark-requires
-    add-i
     loop-less
     loop-again
     same-length
