@@ -2,6 +2,7 @@
 // call; the others are its parts.
 use rules::Checked;
 use rules::Joined;
+use rules::Position;
 use rules::Refusal;
 use rules::SequenceSet;
 use rules::Template;
@@ -33,10 +34,10 @@ fn check_range(low: u16, high: u16) -> Checked
 }
 
 // Whether a position may come after another in a list: it is higher, and not past the last letter that there may be.
-fn follows(last: usize, p: usize) -> bool
-    ensures { λ r. ⌜ r ≡ follows? last p ⌝ }
+fn follows(last: Position, p: Position) -> bool
+    ensures { λ r. ⌜ r ≡ follows? (last .0) (p .0) ⌝ }
 {
-    (last < p) & (p <= SequenceSet::LETTERS)
+    (last.0 < p.0) & (p.0 <= SequenceSet::LETTERS)
 }
 
 // Whether the positions rise strictly from 1 on and none is past the last letter that there may be.
@@ -47,7 +48,7 @@ fn rises(list: &[u32]) -> bool
     let mut i = 0;
     while i < list.len() {
         let p = list[i] as usize;
-        if !follows(last, p) {
+        if !follows(Position(last), Position(p)) {
             return false;
         }
         last = p;
@@ -81,13 +82,15 @@ fn check_join(first: &[u32], second: &[u32], head: u16, low: u16, high: u16, out
 }
 
 // The index of the first position of a list that is not before `from`, looked for from `at` on: all up to there are.
-fn skip(list: &[u32], at: usize, from: u32) -> usize
-    requires { ⌜ (at ≤ length (now list)) × Before (now list) at from ⌝ }
-    ensures { λ r. ⌜ Reached (now (list .entry)) from r ⌝ }
+fn skip(list: &[u32], at: usize, from: Position) -> usize
+    requires { ⌜ (at ≤ length (now list)) × Before (now list) at (from .0) ⌝ }
+    ensures { λ r. ⌜ Reached (now (list .entry)) (from .0) r ⌝ }
 {
+    let least = from.0;
     let mut j = at;
     while j < list.len() {
-        if from <= list[j] {
+        let p = list[j] as usize;
+        if least <= p {
             return j;
         }
         j += 1;
@@ -96,11 +99,12 @@ fn skip(list: &[u32], at: usize, from: u32) -> usize
 }
 
 // Whether a list has a position at `at`, and it is at most `to`.
-fn within(list: &[u32], at: usize, to: u32) -> bool
-    ensures { λ r. ⌜ r ≡ within? (now (list .entry)) at to ⌝ }
+fn within(list: &[u32], at: usize, to: Position) -> bool
+    ensures { λ r. ⌜ r ≡ within? (now (list .entry)) at (to .0) ⌝ }
 {
     if at < list.len() {
-        list[at] <= to
+        let p = list[at] as usize;
+        p <= to.0
     } else {
         false
     }
@@ -126,17 +130,18 @@ fn pass(first: &[u32], second: &[u32], head: u16, low: u16, high: u16, out: &mut
     ensures { λ r. ⌜ r ≡ length (partnered (now (first .entry)) (now (second .entry)) head low high) ⌝ }
     ensures { λ r. ⌜ now (out .exit) ≡ put (partnered (now (first .entry)) (now (second .entry)) head low high) (now (out .entry)) ⌝ }
 {
-    let letters = head as u32;
-    let least = low as u32;
-    let most = high as u32;
+    let letters = head as usize;
+    let least = low as usize;
+    let most = high as usize;
     let mut n = 0;
     let mut j = 0;
     let mut i = 0;
     while i < first.len() {
         let p = first[i];
-        let end = p + letters;
-        j = skip(second, j, end + least);
-        n = keep(within(second, j, end + most), p, n, out);
+        let start = p as usize;
+        let end = start + letters;
+        j = skip(second, j, Position(end + least));
+        n = keep(within(second, j, Position(end + most)), p, n, out);
         i += 1;
     }
     n

@@ -39,17 +39,20 @@ shared-slice-read-p c = search needs
 in-letters : (c : tie.In-loop Inv-loop μ-loop) → getD (c .before .before .before .before .before .args .first .now) (c .before .loop .i) 0 ≤ SequenceSet-LETTERS
 in-letters c = rising-at 0 _ (join-sound _ _ _ _ _ _ (c .before .before .before .before .before .pre) .first-rising) (c .before .loop .i) (search needs) .1
 
+cast-start : tie.Need-cast-start Inv-loop μ-loop
+cast-start c = omega (arith, in-letters (c .before))
+
 add-end : tie.Need-add-end Inv-loop μ-loop
 add-end c = omega (arith, in-letters (c .before))
 
-add-skip : tie.Need-add-skip Inv-loop μ-loop
-add-skip c = omega (arith, in-letters (c .before))
+add-t16 : tie.Need-add-t16 Inv-loop μ-loop
+add-t16 c = omega (arith, in-letters (c .before))
 
 skip-requires : tie.Need-skip-requires Inv-loop μ-loop
 skip-requires c κs = let l = c .before .before .loop in (l .inv .1, l .inv .4 .before (l .i) (search needs) (search needs))
 
-add-within : tie.Need-add-within Inv-loop μ-loop
-add-within c = omega (arith, in-letters (c .before .before))
+add-t16-2 : tie.Need-add-t16-2 Inv-loop μ-loop
+add-t16-2 c = omega (arith, in-letters (c .before .before))
 
 within-requires : tie.Need-within-requires Inv-loop μ-loop
 within-requires c κs = search needs
@@ -97,10 +100,11 @@ pass-spec =
     loop-holds
     mul-p
     shared-slice-read-p
+    cast-start
     add-end
-    add-skip
+    add-t16
     skip-requires
-    add-within
+    add-t16-2
     within-requires
     keep-requires
     add-i

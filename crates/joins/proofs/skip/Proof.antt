@@ -9,19 +9,22 @@ use Rattle.joins.proofs.skip.Statement.{statement}
 use Rattle.joins.proofs.skip.Tie as tie
 
 abbrev Inv-loop : tie.InvT-loop
-Inv-loop list at from j₀ j = (j ≤ length list) × Before list j from
+Inv-loop list at least j₀ j = (j ≤ length list) × Before list j least
 
 abbrev μ-loop : tie.MeasureT-loop
-μ-loop list at from j₀ j = length list - j
+μ-loop list at least j₀ j = length list - j
 
 loop-holds : tie.Need-loop-holds Inv-loop μ-loop
 loop-holds c = c .pre
 
-mul-if1 : tie.Need-mul-if1 Inv-loop μ-loop
-mul-if1 c = search needs
+mul-p : tie.Need-mul-p Inv-loop μ-loop
+mul-p c = search needs
 
-shared-slice-read-if1 : tie.Need-shared-slice-read-if1 Inv-loop μ-loop
-shared-slice-read-if1 c = search needs
+shared-slice-read-p : tie.Need-shared-slice-read-p Inv-loop μ-loop
+shared-slice-read-p c = search needs
+
+cast-p : tie.Need-cast-p Inv-loop μ-loop
+cast-p c = omega (arith, c .shared-slice-known .given (c .before .before .loop .j))
 
 returns : tie.Need-returns Inv-loop μ-loop
 returns c =
@@ -49,8 +52,9 @@ skip-spec =
     Inv-loop
     μ-loop
     loop-holds
-    mul-if1
-    shared-slice-read-if1
+    mul-p
+    shared-slice-read-p
+    cast-p
     returns
     add-j
     loop-less
