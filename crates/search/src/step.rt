@@ -9,7 +9,7 @@ ghost use Rattle.rules.specs.Limits.{Letter-BASES, Template-LETTERS};
 ghost use Rattle.rules.specs.Walk.{place, up, next};
 ghost use Rattle.search.specs.Four.{four};
 
-// The last letter's number, that of T.
+// The value of the last letter, T.
 const LAST: u64 = Letter::BASES - 1;
 
 // The way up from a candidate: trailing Ts are dropped and the last letter goes up by one; when nothing is left the search
