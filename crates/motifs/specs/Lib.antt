@@ -1,4 +1,5 @@
 -- What the contracts of this crate say, beside the definitions of `rules` and `text`.
+pub mod Came
 pub mod Left
 pub mod Pages
 pub mod Input

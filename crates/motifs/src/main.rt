@@ -16,6 +16,7 @@ use pages::more;
 use pages::next;
 use pages::opening;
 use rules::Text;
+use stdin::Came;
 use stdin::read_all;
 ghost use mathlib.Core.Path.{_≡_};
 ghost use Prim.Native.Nat.{_≤_};
@@ -46,6 +47,11 @@ fn write_pages(
     }
 }
 
+// Says that standard input failed; nothing is printed.
+fn not_read() {
+    io::write_all(STDERR_FILENO, b"motifs: standard input cannot be read\n");
+}
+
 // Answers an input.
 fn answer(input: &[u8], letters: &mut [u8], lengths: &mut [u32], out: &mut [u8])
     requires { ⌜ (Text-BYTES ≤ length (now letters)) × (Text-BYTES ≤ length (now lengths)) × (Page-BYTES ≤ length (now out)) ⌝ }
@@ -72,13 +78,14 @@ fn answer(input: &[u8], letters: &mut [u8], lengths: &mut [u32], out: &mut [u8])
 fn main() {
     let mut input = [0u8; Text::BYTES + 1];
     let came = read_all(&mut input);
-    if !came.whole {
-        io::write_all(STDERR_FILENO, b"motifs: standard input cannot be read\n");
-        return;
+    match came {
+        Came::All(n) => {
+            let mut letters = [0u8; Text::BYTES];
+            let mut lengths = [0u32; Text::BYTES];
+            let mut out = [0u8; BYTES];
+            answer(&input[..n], &mut letters, &mut lengths, &mut out);
+        }
+        Came::Failed => not_read(),
+        Came::More(_) => not_read(),
     }
-    let n = came.bytes;
-    let mut letters = [0u8; Text::BYTES];
-    let mut lengths = [0u32; Text::BYTES];
-    let mut out = [0u8; BYTES];
-    answer(&input[..n], &mut letters, &mut lengths, &mut out);
 }

@@ -2,61 +2,79 @@
 // failed, and nothing of the bytes.
 use libc::STDIN_FILENO;
 ghost use mathlib.Core.Path.{_≡_};
-ghost use Prim.Native.Nat.{_+_, _≤_};
+ghost use Prim.Native.Nat.{_-_, _≤_, _<_};
+ghost use lib.IntN.{ℤ};
 ghost use lib.ListN.{length};
-ghost use lib.Signed.{nonNeg};
-ghost use Rattle.io.specs.Counts.{clamped};
+ghost use Rattle.libc.specs.Io.{Moved};
+ghost use Rattle.motifs.specs.Came.{came-after, more-of, bytes-of, AtEnd};
 
-// What came: so many bytes at the front of a buffer, and whether they are all that there is room for. They are not where a read
-// failed, and then they are not to be used.
-pub struct Came {
-    pub bytes: usize,
-    pub whole: bool,
+// What came to the front of a buffer: so many bytes, and perhaps more to come; all that there are, or that the buffer has room
+// for; or nothing that may be used, since a read failed.
+pub enum Came {
+    More(usize),
+    All(usize),
+    Failed,
 }
 
-// What a read answered: how many of a buffer's bytes it filled, or, below 0, that it failed.
-fn counted(got: isize, buffer: &[u8]) -> Came
-    ensures { λ r. ⌜ (r .bytes ≡ clamped got (length (now (buffer .entry)))) × (r .whole ≡ nonNeg got) ⌝ }
+// Whether more may come.
+fn more(came: Came) -> bool
+    ensures { λ r. ⌜ r ≡ more-of came ⌝ }
 {
-    let bytes = io::count(got, buffer);
+    match came {
+        Came::More(_) => true,
+        Came::All(_) => false,
+        Came::Failed => false,
+    }
+}
+
+// How many bytes came.
+fn bytes(came: Came) -> usize
+    ensures { λ r. ⌜ r ≡ bytes-of came ⌝ }
+{
+    match came {
+        Came::More(n) => n,
+        Came::All(n) => n,
+        Came::Failed => 0,
+    }
+}
+
+// What came, after a read behind the first n bytes of a buffer answered `got`.
+fn after(n: usize, got: isize, buffer: &[u8]) -> Came
+    requires { ⌜ (n < length (now buffer)) × Moved (length (now buffer) - n) got ⌝ }
+    ensures { λ r. ⌜ r ≡ came-after (length (now (buffer .entry))) n got ⌝ }
+{
     let whole = got >= 0;
-    Came { bytes, whole }
+    let moved = io::count(got, buffer);
+    let all = n + moved;
+    if !whole {
+        return Came::Failed;
+    }
+    if (moved == 0) | (all == buffer.len()) {
+        Came::All(all)
+    } else {
+        Came::More(all)
+    }
 }
 
-// One read, to a buffer from a place on.
-fn read_from(at: usize, buffer: &mut [u8]) -> Came
-    requires { ⌜ at ≤ length (now buffer) ⌝ }
-    ensures { λ r. ⌜ at + r .bytes ≤ length (now (buffer .entry)) ⌝ }
+// One read more.
+fn read_more(n: usize, buffer: &mut [u8]) -> Came
+    requires { ⌜ n < length (now buffer) ⌝ }
+    ensures { λ r. ⌜ ((got : ℤ) × Moved (length (now (buffer .entry)) - n) got × (r ≡ came-after (length (now (buffer .entry))) n got)) ⌝ }
 {
-    let got = libc::read(STDIN_FILENO, &mut buffer[at..]);
-    counted(got, buffer)
+    let got = libc::read(STDIN_FILENO, &mut buffer[n..]);
+    after(n, got, buffer)
 }
 
 // Reads until the input ends, the buffer is full or a read fails. A failed read is not the input's end: what came before it may
 // look whole and is not.
 pub fn read_all(buffer: &mut [u8]) -> Came
-    ensures { λ r. ⌜ r .bytes ≤ length (now (buffer .exit)) ⌝ }
+    requires { ⌜ 1 ≤ length (now buffer) ⌝ }
+    ensures { λ r. ⌜ AtEnd (length (now (buffer .entry))) r ⌝ }
 {
-    let mut n: usize = 0;
-    while n < buffer.len() {
-        let came = read_from(n, buffer);
-        if !came.whole {
-            return Came {
-                bytes: 0,
-                whole: false,
-            };
-        }
-        let more = came.bytes;
-        if more == 0 {
-            return Came {
-                bytes: n,
-                whole: true,
-            };
-        }
-        n += more;
+    let mut came = Came::More(0);
+    while more(came) {
+        let n = bytes(came);
+        came = read_more(n, buffer);
     }
-    Came {
-        bytes: n,
-        whole: true,
-    }
+    came
 }

@@ -1,7 +1,9 @@
 -- What came stands at the front of the buffer.
 use borrow.Author.Needs.{needs}
+use mathlib.Core.Path.{subst}
 use native.Mathlib.Omega.{arith}
 use lib.ListN.{length-take}
+use Rattle.motifs.specs.Came.{AtEnd}
 use Rattle.motifs.proofs.main.Statement.{statement}
 use Rattle.motifs.proofs.main.Tie as tie
 
@@ -11,20 +13,14 @@ slice-aggregate-read-all c = search needs
 read-all-requires : tie.Need-read-all-requires
 read-all-requires c κs = search needs
 
-slice-aggregate-write-all : tie.Need-slice-aggregate-write-all
-slice-aggregate-write-all c = search needs
-
-write-all-requires : tie.Need-write-all-requires
-write-all-requires c κs = search needs
-
-returns : tie.Need-returns
-returns c = search needs
+enum-known-came : tie.Need-enum-known-came
+enum-known-came c = search needs
 
 array-share-prefix-input : tie.Need-array-share-prefix-input
-array-share-prefix-input c = search needs
+array-share-prefix-input c = let h = subst (AtEnd _) (c .before .came .given .1) (c .before .before .before .before .read-all .ensures) in omega (arith, h)
 
 slice-aggregate-answer : tie.Need-slice-aggregate-answer
-slice-aggregate-answer c = simp length-take (omega (arith, c .before .before .before .before .read-all .ensures))
+slice-aggregate-answer c = let h = subst (AtEnd _) (c .before .before .came .given .1) (c .before .before .before .before .before .read-all .ensures) in simp length-take (omega (arith, h))
 
 slice-aggregate-answer-2 : tie.Need-slice-aggregate-answer-2
 slice-aggregate-answer-2 c = search needs
@@ -38,8 +34,26 @@ slice-aggregate-answer-4 c = search needs
 answer-requires : tie.Need-answer-requires
 answer-requires c κs = search needs
 
+enum-told : tie.Need-enum-told
+enum-told c = search needs
+
+not-read-requires : tie.Need-not-read-requires
+not-read-requires c κs = search needs
+
+enum-told-2 : tie.Need-enum-told-2
+enum-told-2 c = search needs
+
+not-read-requires-2 : tie.Need-not-read-requires-2
+not-read-requires-2 c κs = search needs
+
+returns : tie.Need-returns
+returns c = search needs
+
 returns-2 : tie.Need-returns-2
 returns-2 c = search needs
+
+returns-3 : tie.Need-returns-3
+returns-3 c = search needs
 
 pub main-spec : {M : Type 1} → statement M
 main-spec =
@@ -47,13 +61,17 @@ main-spec =
     (tie.spec
     slice-aggregate-read-all
     read-all-requires
-    slice-aggregate-write-all
-    write-all-requires
-    returns
+    enum-known-came
     array-share-prefix-input
     slice-aggregate-answer
     slice-aggregate-answer-2
     slice-aggregate-answer-3
     slice-aggregate-answer-4
     answer-requires
-    returns-2)
+    enum-told
+    not-read-requires
+    enum-told-2
+    not-read-requires-2
+    returns
+    returns-2
+    returns-3)

@@ -1,49 +1,41 @@
--- Each turn that goes on reads a byte at least, and no more than there is room for.
+-- Each read leaves less to come, and where no more may come it is the end.
 use borrow.Author.Needs.{needs}
-use mathlib.Core.Path.{_≡_}
-use Prim.Native.Nat.{_-_, _≤_}
+use mathlib.Core.Path.{_≡_, refl, sym, _∙_}
+use native.Mathlib.Omega.{arith}
 use lib.ListN.{length}
+use Rattle.motifs.proofs.Counted.{Fits, to-come, at-end, room-left, read-on}
 use Rattle.motifs.proofs.stdin.read_all.Statement.{statement}
 use Rattle.motifs.proofs.stdin.read_all.Tie as tie
 
 abbrev Inv-loop : tie.InvT-loop
-Inv-loop buffer₀ n₀ buffer n = (length buffer ≡ length buffer₀) × (n ≤ length buffer)
+Inv-loop buffer₀ came₀ buffer came = (length buffer ≡ length buffer₀) × Fits (length buffer₀) came
 
 abbrev μ-loop : tie.MeasureT-loop
-μ-loop buffer₀ n₀ buffer n = length buffer - n
+μ-loop buffer₀ came₀ buffer came = to-come (length buffer₀) came
 
 loop-holds : tie.Need-loop-holds Inv-loop μ-loop
-loop-holds c = search needs
+loop-holds c = (refl, c .before .pre)
 
-read-from-requires : tie.Need-read-from-requires Inv-loop μ-loop
-read-from-requires c κs = search needs
+more-requires : tie.Need-more-requires Inv-loop μ-loop
+more-requires c κs = search needs
+
+bytes-requires : tie.Need-bytes-requires Inv-loop μ-loop
+bytes-requires c κs = search needs
+
+read-more-requires : tie.Need-read-more-requires Inv-loop μ-loop
+read-more-requires c κs = omega (arith, c .before .before .before .before .loop .inv .0, c .before .bytes .ensures, room-left (length (c .before .before .before .before .before .before .args .buffer .now)) (c .before .before .before .before .loop .came) (c .before .before .before .before .loop .inv .1) (sym (c .before .before .before .more .ensures) ∙ c .before .before .if1 .taken))
+
+loop-less : tie.Need-loop-less Inv-loop μ-loop
+loop-less c = read-on (length (c .before .before .before .before .before .before .before .before .before .args .buffer .now)) _ (c .before .before .before .before .bytes .result) (c .before .before .before .before .before .before .before .loop .came) (c .before .before .before .before .before .before .before .loop .inv .1) (sym (c .before .before .before .before .before .before .more .ensures) ∙ c .before .before .before .before .before .if1 .taken) (c .before .before .before .before .before .before .before .loop .inv .0) (c .before .before .before .before .bytes .ensures) (c .before .before .read-more .ensures) .1
+
+loop-again : tie.Need-loop-again Inv-loop μ-loop
+loop-again c = (search needs, read-on (length (c .before .before .before .before .before .before .before .before .before .args .buffer .now)) _ (c .before .before .before .before .bytes .result) (c .before .before .before .before .before .before .before .loop .came) (c .before .before .before .before .before .before .before .loop .inv .1) (sym (c .before .before .before .before .before .before .more .ensures) ∙ c .before .before .before .before .before .if1 .taken) (c .before .before .before .before .before .before .before .loop .inv .0) (c .before .before .before .before .bytes .ensures) (c .before .before .read-more .ensures) .0)
 
 same-length : tie.Need-same-length Inv-loop μ-loop
 same-length c = search needs
 
 returns : tie.Need-returns Inv-loop μ-loop
-returns c = search needs
-
-same-length-2 : tie.Need-same-length-2 Inv-loop μ-loop
-same-length-2 c = search needs
-
-returns-2 : tie.Need-returns-2 Inv-loop μ-loop
-returns-2 c = search needs
-
-add-n : tie.Need-add-n Inv-loop μ-loop
-add-n c = search needs
-
-loop-less : tie.Need-loop-less Inv-loop μ-loop
-loop-less c = search needs
-
-loop-again : tie.Need-loop-again Inv-loop μ-loop
-loop-again c = search needs
-
-same-length-3 : tie.Need-same-length-3 Inv-loop μ-loop
-same-length-3 c = search needs
-
-returns-3 : tie.Need-returns-3 Inv-loop μ-loop
-returns-3 c = search needs
+returns c = at-end (length (c .before .before .before .before .args .buffer .now)) (c .before .before .loop .came) (c .before .before .loop .inv .1) (sym (c .before .more .ensures) ∙ c .if1 .left)
 
 pub read-all-spec : {M : Type 1} → statement M
 read-all-spec =
@@ -52,13 +44,10 @@ read-all-spec =
     Inv-loop
     μ-loop
     loop-holds
-    read-from-requires
-    same-length
-    returns
-    same-length-2
-    returns-2
-    add-n
+    more-requires
+    bytes-requires
+    read-more-requires
     loop-less
     loop-again
-    same-length-3
-    returns-3)
+    same-length
+    returns)
