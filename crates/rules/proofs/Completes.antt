@@ -2,12 +2,11 @@
 -- laws, read of the search that begins.
 use mathlib.Core.Path.{_≡_, sym, ap, _∙_, fun-ext}
 use mathlib.Core.List.{List, [], _∷_, map}
-use Prim.Native.Nat.{ℕ, _+_, _*_, _≤_}
+use Prim.Native.Nat.{ℕ, _≤_}
 use native.Mathlib.Omega.{arith}
-use lib.ListN.{length, take, replicate, length-map, length-replicate}
+use lib.ListN.{length, take, length-map}
 use Rattle.rules.specs.Calls.{begun, motif-parts, supports-of, weights-of, begin-rule, LegRule, leg-rule}
 use Rattle.rules.specs.Legs.{Stop, ended, Stretch, leg, legs}
-use Rattle.rules.specs.Limits.{Record-BYTES, Record-EXTRA}
 use Rattle.rules.specs.Relay.{frequent-motifs, their-supports, their-weights, whole-steps, Complete, Lent, Roomy, Ample, Relayed, alone, after, relay}
 use Rattle.rules.specs.Sequences.{sequences}
 use Rattle.rules.specs.Support.{support, weight, parts}
@@ -21,7 +20,7 @@ use Rattle.rules.proofs.Candidates.{start-first}
 use Rattle.rules.proofs.Legs as walked
 use Rattle.rules.proofs.Searches.{walk-lawful}
 use Rattle.rules.proofs.Relay.{all-listed, all-tried, legs-enough, leg-enough}
-use Rattle.rules.proofs.Relayed.{granted, rows-of, leg-answers, relay-legs}
+use Rattle.rules.proofs.Relayed.{granted, rows-of, Unrefused, leg-answers, relay-legs}
 use Rattle.rules.proofs.Sound.{search-fine}
 use Rattle.rules.proofs.Trimmed.{trimmed-size, trimmed-parts}
 
@@ -50,10 +49,10 @@ module _ (letters lengths : List ℕ) (t : Template) (quorum : ℕ) (s : Search)
   unfolding W
   L = walk-lawful t quorum ss (b .template)
 
-  -- the relay of a new search is legs of the walk from its start
-  from-start : (gs : List Lent) → Roomy t gs → relay letters lengths gs s ≡ rows-of letters lengths s (legs W (map granted gs) (start W))
+  -- the relay of a new search is legs of the walk from its start, unless a save is refused
+  from-start : (gs : List Lent) → Unrefused t gs (relay letters lengths gs s) → relay letters lengths gs s ≡ rows-of letters lengths s (legs W (map granted gs) (start W))
   unfolding W ss
-  from-start gs h = relay-legs letters lengths gs s (b .sound) (b .trim) (b .roomy gs h) ∙ rw (b .walk, b .at, start-first W L)
+  from-start gs h = relay-legs letters lengths gs s (b .sound) (b .trim) (λ refused short. h refused (λ k. short (b .roomy gs k))) ∙ rw (b .walk, b .at, start-first W L)
 
   -- the search's template reads as the one given
   parts-same : (m : ℕ) → parts (s .template) (size (s .template)) m ≡ parts t (size t) m
@@ -76,28 +75,29 @@ module _ (letters lengths : List ℕ) (t : Template) (quorum : ℕ) (s : Search)
       }
 
   -- legs that end have listed exactly the walk's motifs, in as many steps as it has candidates
-  pub relay-complete : (gs : List Lent) → Roomy t gs → (relay letters lengths gs s) .answer ≡ gives ended
+  pub relay-complete : (gs : List Lent) → (relay letters lengths gs s) .answer ≡ gives ended
       → let r = relay letters lengths gs s in Complete t quorum (sequences letters lengths) (r .steps) (r .motifs) (r .supports) (r .weights)
   unfolding W ss
-  relay-complete gs h a =
+  relay-complete gs a =
       let l = legs W (map granted gs) (start W) in
-      let q : l .stop ≡ ended = gives-same _ _ (sym (ap (λ r. r .answer) (from-start gs h)) ∙ a) in
-      rw (from-start gs h) (complete l (all-listed W L (map granted gs) q) (all-tried W L (map granted gs) q))
+      let r : relay letters lengths gs s ≡ rows-of letters lengths s l = from-start gs (λ refused short. refused ended a) in
+      let q : l .stop ≡ ended = gives-same _ _ (sym (ap (λ r. r .answer) r) ∙ a) in
+      rw r (complete l (all-listed W L (map granted gs) q) (all-tried W L (map granted gs) q))
 
   -- legs with budget and room end, if there are as many as the whole search has steps
   pub relay-ends : (gs : List Lent) → Roomy t gs → Ample gs → whole-steps t quorum (sequences letters lengths) ≤ length gs → (relay letters lengths gs s) .answer ≡ gives ended
   unfolding W ss whole-steps walk-in
   relay-ends gs h a k =
-      ap (λ r. r .answer) (from-start gs h) ∙ ap gives (legs-enough W L (map granted gs) (ample-granted gs a) (omega (arith, k, length-map gs granted)))
+      ap (λ r. r .answer) (from-start gs (λ refused short. short h)) ∙ ap gives (legs-enough W L (map granted gs) (ample-granted gs a) (omega (arith, k, length-map gs granted)))
 
   -- and no call on the way is refused
   pub relay-answers : (gs : List Lent) → Roomy t gs → (a : Stop) × ((relay letters lengths gs s) .answer ≡ gives a)
-  relay-answers gs h = ((legs W (map granted gs) (start W)) .stop, ap (λ r. r .answer) (from-start gs h))
+  relay-answers gs h = ((legs W (map granted gs) (start W)) .stop, ap (λ r. r .answer) (from-start gs (λ refused short. short h)))
 
-  -- ONE LEG, with any buffer that holds a save
+  -- ONE LEG, after which nothing is saved
   module _ (budget : ℕ) (motifs supports weights : List ℕ) where
     lent : Lent
-    lent = record { budget = budget; motifs = motifs; supports = supports; weights = weights; buffer = replicate (Record-BYTES * (t .count + Record-EXTRA)) 0 }
+    lent = record { budget = budget; motifs = motifs; supports = supports; weights = weights; buffer = [] }
 
     -- where it ends it is all there is of the relay, and so complete
     pub leg-complete : (leg-rule letters lengths s budget motifs supports weights) .told .answer ≡ gives ended
@@ -107,7 +107,7 @@ module _ (letters lengths : List ℕ) (t : Template) (quorum : ℕ) (s : Search)
     leg-complete a =
         let l : LegRule = leg-rule letters lengths s budget motifs supports weights in
         let q : relay letters lengths (lent ∷ []) s ≡ alone l = ended-alone (l .told .answer) (alone l) _ a in
-        rw q at (relay-complete (lent ∷ []) (omega (arith, length-replicate {A = ℕ} (Record-BYTES * (t .count + Record-EXTRA)) 0), tt) (ap (λ r. r .answer) q ∙ a))
+        rw q at (relay-complete (lent ∷ []) (ap (λ r. r .answer) q ∙ a))
 
     -- and it ends, if it has the budget and the room for all
     pub leg-ends : whole-steps t quorum (sequences letters lengths) ≤ budget → let n = length (frequent-motifs t quorum (sequences letters lengths)) in

@@ -163,7 +163,7 @@ Through letters lengths s = (s .place ≡ ended-place) ⊎ List·Memᴰ (s .plac
 
 pub record Demand3 : Type 0 where
   -- the lists of a new search's legs, laid end to end, are demand 2's list once one answers ended, and the steps add up
-  pub end-to-end : (letters lengths : List ℕ) (t : Template) (quorum : ℕ) (s : Search) (gs : List Lent) → begin-rule letters lengths t quorum ≡ gives s → Roomy t gs
+  pub end-to-end : (letters lengths : List ℕ) (t : Template) (quorum : ℕ) (s : Search) (gs : List Lent) → begin-rule letters lengths t quorum ≡ gives s
       → (relay letters lengths gs s) .answer ≡ gives ended
       → let r = relay letters lengths gs s in Complete t quorum (sequences letters lengths) (r .steps) (r .motifs) (r .supports) (r .weights)
   -- it ends within that many legs, if each has a budget and room of at least one

@@ -1,24 +1,24 @@
--- Legs with a save and a restore between them are legs laid end to end: what a leg leaves can be saved, and the save restores
--- to it. So the laws of `Relay` hold of them.
-use mathlib.Core.Path.{_≡_, refl, ap, _∙_}
+-- Legs with a save and a restore between them are legs laid end to end: what a leg leaves can be saved if there is room, and
+-- the save restores to it. So the laws of `Relay` hold of them.
+use mathlib.Core.Path.{_≡_, refl, sym, ap, _∙_}
 use mathlib.Core.Bool.{Bool, true, false}
 use mathlib.Core.List.{List, [], _∷_, _++_, map, map-append}
-use Prim.Native.Nat.{ℕ, _+_, _*_, _≤_, min}
+use Prim.Native.Nat.{ℕ, min}
 use native.Mathlib.Omega.{arith}
 use lib.ListN.{length, take, length-map}
-use Rattle.rules.specs.Calls.{LegRule, moved, stretch, supports-of, weights-of, leg-rule, Written, save-rule}
+use Rattle.rules.specs.Calls.{LegRule, moved, stretch, supports-of, weights-of, leg-rule, Written, written-unless, save-rule}
 use Rattle.rules.specs.Legs.{Stop, ended, spent, full, ended?, Stretch, on, Grant, grant, leg, legs}
-use Rattle.rules.specs.Limits.{Record-BYTES, Record-EXTRA}
 use Rattle.rules.specs.Lists.{if}
-use Rattle.rules.specs.Refusals.{first, search-checks}
+use Rattle.rules.specs.Refusals.{first, search-checks, save-checks}
 use Rattle.rules.specs.Relay.{Lent, Roomy, Relayed, alone, followed, go-on, restored, after, relay}
 use Rattle.rules.specs.Saved.{bytes}
 use Rattle.rules.specs.Sequences.{sequences}
 use Rattle.rules.specs.Template.{trimmed}
-use Rattle.rules.specs.Told.{Told, gives, fine}
+use Rattle.rules.specs.Told.{Verdict, fine, refused, Told, gives}
 use Rattle.rules.specs.Walk.{Walk, walk-of, from, listed}
 use Rattle.rules.specs.declared.Place.{Place}
 use Rattle.rules.specs.declared.Search.{Search}
+use Rattle.rules.specs.declared.Template.{Template}
 use Rattle.rules.proofs.Legs.{Passed, leg-law}
 use Rattle.rules.proofs.Passing.{Passing, passing-leg}
 use Rattle.rules.proofs.Places.{sound-passing, moved-sound, place-deep}
@@ -28,6 +28,7 @@ use Rattle.rules.proofs.Saves.{restore-saved}
 use Rattle.rules.proofs.Sound.{SoundSearch, search-sound, search-fine, save-fine}
 use Rattle.rules.proofs.Tables.{put-front}
 use Rattle.rules.proofs.Trimmed.{trimmed-same}
+use Rattle.rules.proofs.Verdicts.{never}
 
 -- what a leg may use of what it is lent
 abbrev pub granted : Lent → Grant
@@ -49,6 +50,10 @@ after-stop : (a : Told Stop) (st : Stop) (k m : Relayed) → a ≡ gives st → 
 after-stop a ended k m e = rw e
 after-stop a spent k m e = rw e
 after-stop a full k m e = rw e
+
+-- no save on the way is refused: if one were, the last answer would be its refusal, and some buffer would have no room
+abbrev pub Unrefused : Template → List Lent → Relayed → Type 0
+Unrefused t gs r = ((a : Stop) → r .answer ≡ gives a → ⊥) → (Roomy t gs → ⊥) → ⊥
 
 module _ (letters lengths : List ℕ) where
   -- what an accepted leg comes to
@@ -95,25 +100,35 @@ module _ (letters lengths : List ℕ) where
   pub leg-passing : (s : Search) → SoundSearch letters lengths s → (b r : ℕ) (p : Place) → Passing (walk-of letters lengths s) p → Passing (walk-of letters lengths s) ((leg (walk-of letters lengths s) b r p) .at)
   leg-passing s o = passing-leg (walk-of letters lengths s) (walk-lawful (s .template) (s .quorum) (sequences letters lengths) (o .template))
 
-  -- what is saved into a buffer with room restores to the search
-  saved-restores : (s : Search) (buffer : List ℕ) → SoundSearch letters lengths s → trimmed (s .template) ≡ s .template → Record-BYTES * (s .template .count + Record-EXTRA) ≤ length buffer
-      → restored letters lengths ((save-rule letters lengths s buffer) .told) ((save-rule letters lengths s buffer) .out) ≡ gives s
+  -- goes on with what a save wrote
+  abbrev resumed : Written ℕ → (Search → Relayed) → Relayed
+  resumed w f = go-on (restored letters lengths (w .told) (w .out)) f
+
+  -- what goes on is the search that was saved, unless the save is refused
+  saved-resumes : (s : Search) (g : Lent) (f : Search → Relayed) → SoundSearch letters lengths s → trimmed (s .template) ≡ s .template
+      → let more = resumed (save-rule letters lengths s (g .buffer)) f in Unrefused (s .template) (g ∷ []) more → more ≡ f s
   unfolding save-rule
-  saved-restores s buffer o t h =
-      rw (save-fine letters lengths s buffer o (omega (arith, bytes-counted s (o .template .few))), put-front (length (bytes s)) (bytes s) buffer refl)
-      (restore-saved letters lengths s (search-fine letters lengths s o) ∙ ap gives (trimmed-same s t))
+  saved-resumes s g f o t = go (first (save-checks letters lengths s (g .buffer))) refl
+    where
+      go : (v : Verdict) → first (save-checks letters lengths s (g .buffer)) ≡ v
+          → let more = resumed (written-unless v (length (bytes s)) (bytes s) (g .buffer)) f in Unrefused (s .template) (g ∷ []) more → more ≡ f s
+      go fine e h = rw (put-front (length (bytes s)) (bytes s) (g .buffer) refl, restore-saved letters lengths s (search-fine letters lengths s o), trimmed-same s t)
+      go (refused n p) e h =
+          absurd (h (λ a z. let c : _≡_ {A = ℕ} 0 1 = cc in omega arith) (λ k. never n p (sym e ∙ save-fine letters lengths s (g .buffer) o (omega (arith, k .0, bytes-counted s (o .template .few))))))
 
   -- one stretch after another, with their rows
   rows-on : (s : Search) (k l : Stretch) → followed (rows-of letters lengths s k) (rows-of letters lengths s l) ≡ rows-of letters lengths s (on k l)
   unfolding supports-of weights-of
   rows-on s k l = rw (map-append _ (k .motifs) (l .motifs), map-append _ (k .motifs) (l .motifs))
 
-  -- legs with saves and restores between them are legs laid end to end
-  pub relay-legs : (gs : List Lent) (s : Search) → SoundSearch letters lengths s → trimmed (s .template) ≡ s .template → Roomy (s .template) gs
+  -- legs with saves and restores between them are legs laid end to end, unless a save is refused
+  pub relay-legs : (gs : List Lent) (s : Search) → SoundSearch letters lengths s → trimmed (s .template) ≡ s .template → Unrefused (s .template) gs (relay letters lengths gs s)
       → relay letters lengths gs s ≡ rows-of letters lengths s (legs (walk-of letters lengths s) (map granted gs) (s .place))
   unfolding relay legs supports-of weights-of
   relay-legs [] s o t h = refl
-  relay-legs (g ∷ gs) s o t h = after-stop (r .told .answer) (l .stop) (alone r) more (leg-answers s g e) ∙ go (ended? (l .stop)) (λ o′. relay-legs gs (moved s (l .at)) o′ t (h .1))
+  relay-legs (g ∷ gs) s o t h =
+      let w = after-stop (r .told .answer) (l .stop) (alone r) more (leg-answers s g e) in
+      w ∙ go (ended? (l .stop)) (rw w at h) (relay-legs gs (moved s (l .at)) left t)
     where
       l : Stretch
       l = leg (walk-of letters lengths s) (granted g .budget) (granted g .room) (s .place)
@@ -130,23 +145,24 @@ module _ (letters lengths : List ℕ) where
       x : Stretch
       x = legs (walk-of letters lengths s) (map granted gs) (l .at)
 
-      w : Written ℕ
-      w = save-rule letters lengths (r .told .search) (g .buffer)
-
       more : Relayed
-      more = go-on (restored letters lengths (w .told) (w .out)) (relay letters lengths gs)
+      more = resumed (save-rule letters lengths (r .told .search) (g .buffer)) (relay letters lengths gs)
 
-      more-is : relay letters lengths gs (moved s (l .at)) ≡ rows-of letters lengths s x → more ≡ rows-of letters lengths s x
-      more-is q = rw (leg-leaves s g e, saved-restores (moved s (l .at)) (g .buffer) left t (h .0)) q
+      rest : Relayed
+      rest = relay letters lengths gs (moved s (l .at))
+
+      more-is : Unrefused (s .template) (g ∷ gs) more → more ≡ rest
+      more-is h = rw (leg-leaves s g e) (saved-resumes (moved s (l .at)) g (relay letters lengths gs) left t (λ u k. h (rw (leg-leaves s g e) u) (λ m. k (m .0, tt))))
 
       -- what is left after the leg
-      goes-on : (SoundSearch letters lengths (moved s (l .at)) → relay letters lengths gs (moved s (l .at)) ≡ rows-of letters lengths s x) → followed (alone r) more ≡ rows-of letters lengths s (on l x)
-      goes-on ih =
+      goes-on : Unrefused (s .template) (g ∷ gs) more → (Unrefused (s .template) gs rest → rest ≡ rows-of letters lengths s x) → followed (alone r) more ≡ rows-of letters lengths s (on l x)
+      goes-on h ih =
+          let q = more-is h in
           ap (λ k. followed k more) (leg-alone s g e)
-          ∙ ap (followed (rows-of letters lengths s l)) (more-is (ih left))
+          ∙ ap (followed (rows-of letters lengths s l)) (q ∙ ih (λ u k. h (rw q u) (λ m. k (m .1))))
           ∙ rows-on s l x
 
-      go : (b : Bool) → (SoundSearch letters lengths (moved s (l .at)) → relay letters lengths gs (moved s (l .at)) ≡ rows-of letters lengths s x)
-          → if b (alone r) (followed (alone r) more) ≡ rows-of letters lengths s (if b l (on l x))
-      go true ih = leg-alone s g e
-      go false ih = goes-on ih
+      go : (b : Bool) → let k = if b (alone r) (followed (alone r) more) in Unrefused (s .template) (g ∷ gs) k → (Unrefused (s .template) gs rest → rest ≡ rows-of letters lengths s x)
+          → k ≡ rows-of letters lengths s (if b l (on l x))
+      go true h ih = leg-alone s g e
+      go false h ih = goes-on h ih

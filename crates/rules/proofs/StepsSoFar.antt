@@ -53,7 +53,7 @@ module _ (letters lengths : List ℕ) (t : Template) (quorum : ℕ) (s : Search)
       let W : Walk = walk-over t quorum (sequences letters lengths) in
       let L = walk-lawful t quorum (sequences letters lengths) (b .template) in
       let r = passed-most W first-place (legs W (map granted gs) first-place) (legs-law W (L .pos) (map granted gs) first-place (L .lettered)) in
-      rw (relay-legs letters lengths gs s (b .sound) (b .trim) (b .roomy gs h), b .walk, b .at)
+      rw (relay-legs letters lengths gs s (b .sound) (b .trim) (λ refused short. short (b .roomy gs h)), b .walk, b .at)
       (omega (arith, r, from-first t quorum (sequences letters lengths) (b .template)))
 
   -- so a leg of it never uses up a budget of 2 ^ 63
