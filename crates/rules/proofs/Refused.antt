@@ -5,7 +5,7 @@ use mathlib.Core.Path.{_≡_, refl, sym, ap, _∙_}
 use mathlib.Core.Logic.{_↔_, Iff·trans, Iff·rfl, _⊎_, inl, inr, ⊎-elim, ⊎-swap}
 use mathlib.Core.Bool.{Bool, true, false, _&&_, not, false≢true}
 use mathlib.Core.List.{List, [], _∷_}
-use Prim.Native.Nat.{ℕ, zero, suc, _-_, _*_, _/_, _^_, _≤_, _<_}
+use Prim.Native.Nat.{ℕ, zero, suc, _+_, _-_, _*_, _/_, _^_, _≤_, _<_}
 use native.Mathlib.Omega.{arith}
 use lib.Dec.{eqb, leb, ltb}
 use lib.ListN.{length, getD}
@@ -18,7 +18,7 @@ use Rattle.rules.specs.Profile.{exactly, profile-of}
 use Rattle.rules.specs.Recovery.{whole-list}
 use Rattle.rules.specs.Refusals.{refuse-if, outside, bad-byte, bad-length, bad-range, bad-gap, check1, check2, check3, check4, check5, check6, check7, check8, check9, check10, check11, check11-place, check12, passes?, check13, check14, check15, check6-head, check8-range, check16, check17}
 use Rattle.rules.specs.Refused.{FirstBad, RefusesAt, RefusesIf, Outside, IsLetter, numbered, BadRange, BadGap, RecordsLaid, saved-size, saved-lengths, saved-place, PlaceRule, Frequent, CandidateIn, BadList}
-use Rattle.rules.specs.Saved.{record-count, component-count, read-template, read-search, sized?}
+use Rattle.rules.specs.Saved.{bytes, record-count, component-count, read-template, read-search, sized?}
 use Rattle.rules.specs.Sequences.{sequences}
 use Rattle.rules.specs.Support.{frequent, reaches}
 use Rattle.rules.specs.Template.{components, size, none}
@@ -33,6 +33,7 @@ use Rattle.rules.proofs.First.{first-bad-at}
 use Rattle.rules.proofs.Laid.{place-rule-says, saved-read, laid-says, laid-fails}
 use Rattle.rules.proofs.Places.{same-place}
 use Rattle.rules.proofs.Plain.{candidate-plain}
+use Rattle.rules.proofs.Records.{bytes-counted}
 use Rattle.rules.proofs.Tests.{neither, and-false, two, either, denied, one-fails, of-three-fails}
 use Rattle.rules.proofs.Verdicts.{never}
 
@@ -88,6 +89,8 @@ pub record EachRefusal : Type 0 where
   pub sixteen : (xs ys : List ℕ) → RefusesIf (check16 xs ys) 16 (BadList xs ⊎ BadList ys)
   -- 17: save buffer shorter than the save, or join table shorter than the first list
   pub seventeen : (needed : ℕ) (out : List ℕ) → RefusesIf (check17 needed out) 17 (length out < needed)
+  -- a save has 16 bytes for each record, and k + 2 records. By then 5 has been fine, and so k is no more than a template has
+  pub seventeen-save : (s : Search) → s .template .count ≤ Template-COMPONENTS → length (bytes s) ≡ Record-BYTES * (s .template .count + Record-EXTRA)
 
 -- ---- one check
 
@@ -282,4 +285,5 @@ each-refusal =
       fifteen = λ letters lengths t m f. refuses-if _ 15 (less _ f);
       sixteen = λ xs ys. refuses-unless _ 16 (one-fails _ _ (rising-says xs) (rising-says ys));
       seventeen = λ needed out. refuses-if _ 17 (less (length out) needed);
+      seventeen-save = bytes-counted;
     }
