@@ -13,16 +13,10 @@ use borrow.Author.Tests.{leb-true, le-leb, eqb-true, eqb-false, eq-eqb, ltb-true
 use Rattle.rules.specs.Lists.{if, all?}
 use Rattle.rules.specs.Motif.{number, spell}
 use Rattle.rules.specs.Text.{Parsed, parsed, malformed, well-formed?, between, number?, digits, parse-number, digits-of, decimal}
+use Rattle.rules.specs.TextRefused.{NumberText}
 use Rattle.rules.proofs.All.{all-members, member-at}
 use Rattle.rules.proofs.Spelling.{spell-more, length-spell, number-spell, number-below, spell-number}
 use Rattle.rules.proofs.Tests.{both, fails, or-cases, or-true}
-
--- THE PAPER'S SENTENCE: 1 to `most` digits, with no leading zero but 0 itself
-pub record NumberText (most : ℕ) (text : List ℕ) : Type 0 where
-  pub some : 1 ≤ length text
-  pub few : length text ≤ most
-  pub all-digits : (b : ℕ) → List·Memᴰ b text → (48 ≤ b) × (b ≤ 57)
-  pub no-leading-zero : getD text 0 0 ≡ 48 → length text ≡ 1
 
 -- a test of every byte for the digits says that each is one
 pub digits-all : (text : List ℕ) → (all? (between 48 57) text ≡ true) ↔ ((b : ℕ) → List·Memᴰ b text → (48 ≤ b) × (b ≤ 57))

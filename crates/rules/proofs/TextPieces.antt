@@ -9,15 +9,8 @@ use lib.Dec.{eqb}
 use borrow.Author.Tests.{eqb-true, eqb-false, eq-eqb, ne-eqb}
 use Rattle.rules.specs.Lists.{if, each}
 use Rattle.rules.specs.Text.{pieces, onto, but-last, last, lines, unended}
+use Rattle.rules.specs.TextRefused.{Without, WithoutAll, with-end, Lined}
 use Rattle.rules.proofs.All.{no-member, members}
-
--- a text that does not hold byte b
-abbrev pub Without : ℕ → List ℕ → Type 0
-Without b text = List·Memᴰ b text → ⊥
-
--- none of some texts does
-abbrev pub WithoutAll : ℕ → List (List ℕ) → Type 0
-WithoutAll b texts = (text : List ℕ) → List·Memᴰ text texts → Without b text
 
 -- a text is its first piece and the others, each after a byte b, and none of them holds one
 pub record Cut (b : ℕ) (text piece : List ℕ) (others : List (List ℕ)) : Type 0 where
@@ -78,22 +71,12 @@ pieces-are b text p ps = (λ e. subst (CutIn b text) e (cut-in b text), λ c. rw
 
 -- ---- lines
 
--- a line with its end
-abbrev pub ended : List ℕ → List ℕ
-ended l = l ++ (10 ∷ [])
-
--- an input is its lines, each with a byte 10 after it, and what follows the last of them; none of these holds a 10
-pub record Lined (input : List ℕ) (ls : List (List ℕ)) (rest : List ℕ) : Type 0 where
-  pub whole : input ≡ each ended ls ++ rest
-  pub none : WithoutAll 10 ls
-  pub none-after : Without 10 rest
-
 -- all but the last, with their ends, and the last
-lines-join : (p : List ℕ) (ps : List (List ℕ)) → each ended (but-last (p ∷ ps)) ++ last (p ∷ ps) ≡ p ++ each (λ p. 10 ∷ p) ps
+lines-join : (p : List ℕ) (ps : List (List ℕ)) → each with-end (but-last (p ∷ ps)) ++ last (p ∷ ps) ≡ p ++ each (λ p. 10 ∷ p) ps
 unfolding each but-last last
 lines-join p [] = sym (append-nil p)
 lines-join p (q ∷ qs) =
-    append-assoc (p ++ (10 ∷ [])) (each ended (but-last (q ∷ qs))) (last (q ∷ qs))
+    append-assoc (p ++ (10 ∷ [])) (each with-end (but-last (q ∷ qs))) (last (q ∷ qs))
     ∙ append-assoc p (10 ∷ []) _
     ∙ ap (λ (l : List ℕ). p ++ 10 ∷ l) (lines-join q qs)
 
@@ -118,17 +101,17 @@ lined input = go (pieces 10 input) (cut-in 10 input)
     go [] c = absurd c
     go (p ∷ ps) c = record {
       whole = c .whole ∙ sym (lines-join p ps);
-      none = λ l m. c .none l (but-last-in (p ∷ ps) m);
-      none-after = c .none (last (p ∷ ps)) (last-in p ps);
+      no-end-within = λ l m. c .none l (but-last-in (p ∷ ps) m);
+      no-end-after = c .none (last (p ∷ ps)) (last-in p ps);
     }
 
 -- lines and a rest that are so are its pieces
-pieces-lined : (ls : List (List ℕ)) (rest : List ℕ) → WithoutAll 10 ls → Without 10 rest → pieces 10 (each ended ls ++ rest) ≡ ls ++ (rest ∷ [])
+pieces-lined : (ls : List (List ℕ)) (rest : List ℕ) → WithoutAll 10 ls → Without 10 rest → pieces 10 (each with-end ls ++ rest) ≡ ls ++ (rest ∷ [])
 unfolding each
 pieces-lined [] rest h k = pieces-one 10 rest k
 pieces-lined (l ∷ ls) rest h k =
-    rw (append-assoc (l ++ (10 ∷ [])) (each ended ls) rest, append-assoc l (10 ∷ []) (each ended ls ++ rest))
-    (pieces-more 10 l (each ended ls ++ rest) (h l (List·Memᴰ·head refl)) ∙ ap (λ (ps : List (List ℕ)). l ∷ ps) (pieces-lined ls rest (λ p m. h p (List·Memᴰ·tail m)) k))
+    rw (append-assoc (l ++ (10 ∷ [])) (each with-end ls) rest, append-assoc l (10 ∷ []) (each with-end ls ++ rest))
+    (pieces-more 10 l (each with-end ls ++ rest) (h l (List·Memᴰ·head refl)) ∙ ap (λ (ps : List (List ℕ)). l ∷ ps) (pieces-lined ls rest (λ p m. h p (List·Memᴰ·tail m)) k))
 
 -- of which the lines are all but the last, and the rest is the last
 but-last-append : (ls : List (List ℕ)) (rest : List ℕ) → but-last (ls ++ (rest ∷ [])) ≡ ls
@@ -147,5 +130,5 @@ last-append (l ∷ m ∷ ls) rest = last-append (m ∷ ls) rest
 pub lined-only : (input : List ℕ) (ls : List (List ℕ)) (rest : List ℕ) → Lined input ls rest → (ls ≡ lines input) × (rest ≡ unended input)
 unfolding lines unended
 lined-only input ls rest h =
-    let e : pieces 10 input ≡ ls ++ (rest ∷ []) = rw (h .whole) (pieces-lined ls rest (h .none) (h .none-after)) in
+    let e : pieces 10 input ≡ ls ++ (rest ∷ []) = rw (h .whole) (pieces-lined ls rest (h .no-end-within) (h .no-end-after)) in
     (rw (e, but-last-append), rw (e, last-append))

@@ -1,5 +1,5 @@
--- THE PRINTING PROGRAM'S INPUT, in the paper's words ("The printing program"): what is read of it, and what is refused with 18.
--- The statements stand in front, the proofs behind them.
+-- THE PRINTING PROGRAM'S INPUT, in the paper's words ("The printing program"; specs/TextRefused.antt): what is read of it, and
+-- what is refused with 18. The statements stand in front, the proofs behind them.
 use mathlib.Core.Path.{_≡_, refl, sym, ap, _∙_}
 use mathlib.Core.Logic.{_↔_}
 use mathlib.Core.Bool.{false, false≢true}
@@ -16,22 +16,15 @@ use Rattle.rules.specs.Lists.{each, joined, some?}
 use Rattle.rules.specs.Refusals.{first}
 use Rattle.rules.specs.Sequences.{split, sequences}
 use Rattle.rules.specs.Text.{parsed, malformed, parse-number, parse-components, template-of, lines, unended, line, text-checks, parse-template, parse-quorum, parse-letters, parse-lengths, decimal, template-text, print-refused, print-told, print-rule}
+use Rattle.rules.specs.TextRefused.{Without, WithoutAll, with-end, Lined, NumberText, component-text, Writable, TemplateText, BadLine, too-long, missing, no-template, no-quorum, no-end, LowestBad, Reads}
 use Rattle.rules.specs.Told.{fine, refused}
 use Rattle.rules.specs.declared.Component.{Component}
 use Rattle.rules.proofs.All.{members}
 use Rattle.rules.proofs.Tests.{not-false}
-use Rattle.rules.proofs.TextLines.{Bad, too-long, missing, no-template, no-quorum, no-end, Lowest, text-passes, refused-lowest, fine-none}
-use Rattle.rules.proofs.TextNumbers.{NumberText, decimal-digits, well-parsed, number-parsed, number-malformed, number-well}
-use Rattle.rules.proofs.TextPieces.{Lined, Without, WithoutAll, ended, lined, lined-only}
-use Rattle.rules.proofs.TextTemplate.{Written, TemplateText, piece-text, first-text, template-parsed, template-malformed, template-well, template-bytes}
-
--- an input that is read: the template's text, the quorum, then one sequence a line, each line ended by byte 10
-pub record Reads (input : List ℕ) (cs : List Component) (quorum : ℕ) (ss : List (List ℕ)) : Type 0 where
-  pub short : length input ≤ Text-BYTES
-  pub whole : input ≡ each ended (template-text cs ∷ decimal quorum ∷ ss)
-  pub written : Written cs
-  pub few-digits : quorum < 10 ^ Text-QUORUM-DIGITS
-  pub none : WithoutAll 10 ss
+use Rattle.rules.proofs.TextLines.{text-passes, refused-lowest, fine-none}
+use Rattle.rules.proofs.TextNumbers.{decimal-digits, well-parsed, number-parsed, number-malformed, number-well}
+use Rattle.rules.proofs.TextPieces.{lined, lined-only}
+use Rattle.rules.proofs.TextTemplate.{first-text, template-parsed, template-malformed, template-well, template-bytes}
 
 -- what the paper says of the input
 pub record TextRefused : Type 0 where
@@ -42,21 +35,21 @@ pub record TextRefused : Type 0 where
   pub no-number : (most : ℕ) (text : List ℕ) → (parse-number most text ≡ malformed) ↔ (NumberText most text → ⊥)
   -- a text of so many digits is read as the number below that power of ten of which it is the decimal text
   pub number : (most : ℕ) (text : List ℕ) (n : ℕ) → 1 ≤ most → most ≤ 20 → (parse-number most text ≡ parsed n) ↔ ((text ≡ decimal n) × (n < 10 ^ most))
-  -- template text is runs of N with [l,u] between: a run, and for each later component a [ and its piece, l,u] and its run
-  pub runs : (c : Component) (cs : List Component) → template-text (c ∷ cs) ≡ replicate (c .length) 78 ++ each (λ p. 91 ∷ p) (map piece-text cs)
+  -- template text is runs of N with [l,u] between: a run, and for each later component a [ and its text, l,u] and its run
+  pub runs : (c : Component) (cs : List Component) → template-text (c ∷ cs) ≡ replicate (c .length) 78 ++ each (λ p. 91 ∷ p) (map component-text cs)
   -- a line is read as the components that it is the text of, if they have at least one N each and numbers of 1 to 3 digits
-  pub components : (text : List ℕ) (cs : List Component) → (parse-components text ≡ parsed cs) ↔ ((text ≡ template-text cs) × Written cs)
+  pub components : (text : List ℕ) (cs : List Component) → (parse-components text ≡ parsed cs) ↔ ((text ≡ template-text cs) × Writable cs)
   -- and a line that is the text of none is malformed
   pub no-components : (text : List ℕ) → (parse-components text ≡ malformed) ↔ (TemplateText text → ⊥)
   -- an input is refused with 18 and the number of its lowest bad line: too long (0), the first or second malformed or missing,
   -- or the last without its end
-  pub lowest-line : (input : List ℕ) (n p : ℕ) → (first (text-checks input) ≡ refused n p) ↔ ((n ≡ 18) × Lowest input p)
+  pub lowest-line : (input : List ℕ) (n p : ℕ) → (first (text-checks input) ≡ refused n p) ↔ ((n ≡ 18) × LowestBad input p)
   -- it passes exactly if no line is bad
-  pub no-line : (input : List ℕ) → (first (text-checks input) ≡ fine) ↔ ((p : ℕ) → Bad input p → ⊥)
+  pub no-line : (input : List ℕ) → (first (text-checks input) ≡ fine) ↔ ((p : ℕ) → BadLine input p → ⊥)
   -- and that is exactly if it is the text of a template, a quorum and sequences
   pub passes : (input : List ℕ) → (first (text-checks input) ≡ fine) ↔ ((cs : List Component) × (quorum : ℕ) × (ss : List (List ℕ)) × Reads input cs quorum ss)
   -- 18 comes before all others
-  pub before-all : (input : List ℕ) (p : ℕ) → Lowest input p → print-rule input ≡ print-refused 18 p
+  pub before-all : (input : List ℕ) (p : ℕ) → LowestBad input p → print-rule input ≡ print-refused 18 p
   -- and else what is printed is what a search with that template and quorum over these sequences tells
   pub searched : (input : List ℕ) (cs : List Component) (quorum : ℕ) (ss : List (List ℕ)) → Reads input cs quorum ss
       → print-rule input ≡ print-told (map (map value) ss) (begin-rule (joined ss) (map length ss) (template-of cs) quorum)
@@ -68,7 +61,7 @@ lined-says : (input : List ℕ) (ls : List (List ℕ)) (rest : List ℕ) → Lin
 lined-says input ls rest = (lined-only input ls rest, λ h. rw (h .0, h .1) (lined input))
 
 -- what is told of the text is printed before a search begins
-told-first : (input : List ℕ) (p : ℕ) → Lowest input p → print-rule input ≡ print-refused 18 p
+told-first : (input : List ℕ) (p : ℕ) → LowestBad input p → print-rule input ≡ print-refused 18 p
 unfolding print-rule
 told-first input p l = rw (refused-lowest input 18 p .1 (refl, l))
 
@@ -91,13 +84,13 @@ module _ (input : List ℕ) where
     read-lines : (template-text cs ∷ decimal quorum ∷ ss ≡ lines input) × ([] ≡ unended input)
     read-lines = lined-only input (template-text cs ∷ decimal quorum ∷ ss) [] (record {
       whole = r .whole ∙ sym (append-nil _);
-      none = members (Without 10) (λ m. omega (arith, template-bytes cs 10 m)) (members (Without 10) (λ m. omega (arith, decimal-digits quorum 10 m .0)) (r .none));
-      none-after = List·Memᴰ·not-nil;
+      no-end-within = members (Without 10) (λ m. omega (arith, template-bytes cs 10 m)) (members (Without 10) (λ m. omega (arith, decimal-digits quorum 10 m .0)) (r .no-end-within));
+      no-end-after = List·Memᴰ·not-nil;
     })
 
     -- its template and its quorum
     read-template : parse-components (line input 1) ≡ parsed cs
-    read-template = rw (← read-lines .0) (template-parsed (template-text cs) cs .1 (refl, r .written))
+    read-template = rw (← read-lines .0) (template-parsed (template-text cs) cs .1 (refl, r .writable))
 
     read-quorum : parse-number Text-QUORUM-DIGITS (line input 2) ≡ parsed quorum
     read-quorum = rw (← read-lines .0) (number-parsed Text-QUORUM-DIGITS (decimal quorum) quorum (omega arith) (omega arith) .1 (refl, r .few-digits))
@@ -106,7 +99,7 @@ module _ (input : List ℕ) where
     read-fine : first (text-checks input) ≡ fine
     read-fine = fine-none input .1 go
       where
-        go : (p : ℕ) → Bad input p → ⊥
+        go : (p : ℕ) → BadLine input p → ⊥
         go p (too-long e h) = omega (arith, r .short)
         go p (missing a b h) = omega (arith, ap length (read-lines .0))
         go p (no-template e l h) = h (template-well (line input 1) .0 (well-parsed _ .1 (cs, read-template)))
@@ -126,13 +119,13 @@ module _ (input : List ℕ) where
       let q = well-parsed (parse-number Text-QUORUM-DIGITS (line input 2)) .0 (not-false _ .0 (t .2)) in
       let n = number-parsed Text-QUORUM-DIGITS (line input 2) (q .0) (omega arith) (omega arith) .0 (q .1) in
       let r = go (lines input) (rw (none-left (unended input) (t .3)) at (lined input)) (λ h. fine-none input .0 e 2 (missing (omega arith) (omega arith) h)) (c .1) (n .0) in
-      (c .0, q .0, r .0, record { short = ltb-false Text-BYTES (length input) (t .0); whole = r .1; written = c .2; few-digits = n .1; none = r .2 })
+      (c .0, q .0, r .0, record { short = ltb-false Text-BYTES (length input) (t .0); whole = r .1; writable = c .2; few-digits = n .1; no-end-within = r .2 })
     where
       go : (ls : List (List ℕ)) → Lined input ls [] → (length ls < 2 → ⊥) → {a b : List ℕ} → getD ls 0 [] ≡ a → getD ls 1 [] ≡ b
-          → (ss : List (List ℕ)) × (input ≡ each ended (a ∷ b ∷ ss)) × WithoutAll 10 ss
+          → (ss : List (List ℕ)) × (input ≡ each with-end (a ∷ b ∷ ss)) × WithoutAll 10 ss
       go [] l h p q = absurd (h (omega arith))
       go (x ∷ []) l h p q = absurd (h (omega arith))
-      go (x ∷ y ∷ ss) l h p q = (ss, rw (← p, ← q) (l .whole ∙ append-nil _), λ s m. l .none s (List·Memᴰ·tail (List·Memᴰ·tail m)))
+      go (x ∷ y ∷ ss) l h p q = (ss, rw (← p, ← q) (l .whole ∙ append-nil _), λ s m. l .no-end-within s (List·Memᴰ·tail (List·Memᴰ·tail m)))
 
 pub text-refused : TextRefused
 text-refused =

@@ -6,43 +6,29 @@ use mathlib.Core.Bool.{Bool, true, false, false≢true}
 use mathlib.Core.List.{List, [], _∷_, _++_, map, append-nil, append-assoc, List·Memᴰ, List·Memᴰ·head, List·Memᴰ·tail, Memᴰ·of-map}
 use Prim.Native.Nat.{ℕ, suc, _+_, _^_, _≤_, _<_}
 use native.Mathlib.Omega.{arith}
-use lib.ListN.{length, take, drop, getD, replicate, length-append, length-replicate, replicate-append-replicate}
+use lib.ListN.{length, take, drop, replicate, length-append, length-replicate, replicate-append-replicate}
 use lib.Seq.{take-at, drop-at}
 use borrow.Author.Tests.{eqb-true}
 use Rattle.rules.specs.Limits.{Text-GAP-DIGITS}
 use Rattle.rules.specs.Lists.{if, each, some?, sum}
-use Rattle.rules.specs.Template.{component, none}
+use Rattle.rules.specs.Template.{component}
 use Rattle.rules.specs.Text.{Parsed, parsed, malformed, well-formed?, pieces, run?, ranged, parse-number, parse-ranged, parse-pair, parse-component, parse-first, cons, parse-rest, parse-pieces, parse-components, decimal, shape-rest, shape, template-text}
+use Rattle.rules.specs.TextRefused.{Without, component-text, Writable, TemplateText}
 use Rattle.rules.specs.declared.Component.{Component}
 use Rattle.rules.proofs.All.{no-member, members, members-append, all-members, all-one, one-all}
 use Rattle.rules.proofs.Members.{each-out}
 use Rattle.rules.proofs.Tests.{fails}
 use Rattle.rules.proofs.TextNumbers.{decimal-digits, parsed-is, no-value, malformed-fails, well-parsed, number-parsed}
-use Rattle.rules.proofs.TextPieces.{Without, pieces-are}
-
--- THE PAPER'S SENTENCE: runs of at least one N with [l,u] between, where a number has 1 to 3 digits. So these components can be
--- written: there is a first, which has no range before it; each has a letter; and the ranges are of such numbers
-pub record Written (cs : List Component) : Type 0 where
-  pub some : 1 ≤ length cs
-  pub runs : (c : Component) → List·Memᴰ c cs → 1 ≤ c .length
-  pub no-range : (getD cs 0 none .low ≡ 0) × (getD cs 0 none .high ≡ 0)
-  pub ranges : (c : Component) → List·Memᴰ c (drop 1 cs) → (c .low < 10 ^ Text-GAP-DIGITS) × (c .high < 10 ^ Text-GAP-DIGITS)
-
--- a line that is a template's text
-abbrev pub TemplateText : List ℕ → Type 0
-TemplateText line = (cs : List Component) × (line ≡ template-text cs) × Written cs
+use Rattle.rules.proofs.TextPieces.{pieces-are}
 
 -- ---- the text, component by component
 
--- what stands after the [ of a component, its range and its run; and after the comma
-abbrev pub piece-text : Component → List ℕ
-piece-text c = decimal (c .low) ++ 44 ∷ decimal (c .high) ++ 93 ∷ replicate (c .length) 78
-
+-- what stands after the comma of a component
 abbrev end-text : Component → List ℕ
 end-text c = decimal (c .high) ++ 93 ∷ replicate (c .length) 78
 
--- it is the lower limit, a comma and the rest
-piece-is : (c : Component) → piece-text c ≡ decimal (c .low) ++ 44 ∷ end-text c
+-- its text is the lower limit, a comma and that
+piece-is : (c : Component) → component-text c ≡ decimal (c .low) ++ 44 ∷ end-text c
 piece-is c = append-assoc (decimal (c .low)) (44 ∷ decimal (c .high)) (93 ∷ replicate (c .length) 78)
 
 -- the first n of n + m times b, and the others
@@ -52,14 +38,14 @@ front b n m = rw (← replicate-append-replicate n m b) (take-at (replicate n b)
 others : (b n m : ℕ) → drop n (replicate (n + m) b) ≡ replicate m b
 others b n m = rw (← replicate-append-replicate n m b) (drop-at (replicate n b) (replicate m b) n (length-replicate n b))
 
--- each component after the first is a [ and its piece
-rest-text : (cs : List Component) → shape-rest cs (replicate (sum (map (λ c. c .length) cs)) 78) ≡ each (λ p. 91 ∷ p) (map piece-text cs)
+-- each component after the first is a [ and its text
+rest-text : (cs : List Component) → shape-rest cs (replicate (sum (map (λ c. c .length) cs)) 78) ≡ each (λ p. 91 ∷ p) (map component-text cs)
 unfolding shape-rest each sum
 rest-text [] = refl
 rest-text (c ∷ cs) = rw (front, others, rest-text cs)
 
 -- and before them stands the first, a run
-pub first-text : (c : Component) (cs : List Component) → template-text (c ∷ cs) ≡ replicate (c .length) 78 ++ each (λ p. 91 ∷ p) (map piece-text cs)
+pub first-text : (c : Component) (cs : List Component) → template-text (c ∷ cs) ≡ replicate (c .length) 78 ++ each (λ p. 91 ∷ p) (map component-text cs)
 unfolding template-text shape sum
 first-text c cs = rw (front, others, rest-text cs)
 
@@ -76,24 +62,24 @@ end-bytes c =
     (λ b m. let d = decimal-digits (c .high) b m in (d .0, λ e. omega (arith, d .1, e)))
     (members _ (omega arith, λ e. omega (arith, e)) (λ b m. let e = run-bytes (c .length) b m in (omega (arith, e), λ f. omega (arith, e, f))))
 
--- nor does a piece hold a [
-piece-bytes : (c : Component) (b : ℕ) → List·Memᴰ b (piece-text c) → (44 ≤ b) × (b ≡ 91 → ⊥)
+-- nor does a component's text hold a [
+piece-bytes : (c : Component) (b : ℕ) → List·Memᴰ b (component-text c) → (44 ≤ b) × (b ≡ 91 → ⊥)
 piece-bytes c =
     rw (piece-is c) (members-append _ (decimal (c .low)) (44 ∷ end-text c)
     (λ b m. let d = decimal-digits (c .low) b m in (omega (arith, d .0), λ e. omega (arith, d .1, e)))
     (members _ (omega arith, λ e. omega (arith, e)) (λ b m. let d = end-bytes c b m in (omega (arith, d .0), d .1))))
 
-pieces-bytes : (cs : List Component) (p : List ℕ) → List·Memᴰ p (map piece-text cs) → (b : ℕ) → List·Memᴰ b p → (44 ≤ b) × (b ≡ 91 → ⊥)
-pieces-bytes cs p m = let r = Memᴰ·of-map piece-text cs m in rw (← r .2) (piece-bytes (r .0))
+pieces-bytes : (cs : List Component) (p : List ℕ) → List·Memᴰ p (map component-text cs) → (b : ℕ) → List·Memᴰ b p → (44 ≤ b) × (b ≡ 91 → ⊥)
+pieces-bytes cs p m = let r = Memᴰ·of-map component-text cs m in rw (← r .2) (piece-bytes (r .0))
 
 -- all bytes of a template's text lie above a line's end
 pub template-bytes : (cs : List Component) (b : ℕ) → List·Memᴰ b (template-text cs) → 44 ≤ b
 unfolding template-text shape
 template-bytes [] = no-member (λ b. 44 ≤ b)
 template-bytes (c ∷ cs) =
-    rw (first-text c cs) (members-append _ (replicate (c .length) 78) (each (λ p. 91 ∷ p) (map piece-text cs))
+    rw (first-text c cs) (members-append _ (replicate (c .length) 78) (each (λ p. 91 ∷ p) (map component-text cs))
     (λ b m. omega (arith, run-bytes (c .length) b m))
-    (λ b m. let r = each-out (λ p. 91 ∷ p) (map piece-text cs) m in members (λ b. 44 ≤ b) (omega arith) (λ b m. pieces-bytes cs (r .0) (r .1) b m .0) b (r .2)))
+    (λ b m. let r = each-out (λ p. 91 ∷ p) (map component-text cs) m in members (λ b. 44 ≤ b) (omega arith) (λ b m. pieces-bytes cs (r .0) (r .1) b m .0) b (r .2)))
 
 -- the test of a run says that it is so many N, and at least one
 run-says : (text : List ℕ) → (run? text ≡ true) ↔ ((text ≡ replicate (length text) 78) × (1 ≤ length text))
@@ -151,8 +137,8 @@ module _ (c : Component) where
           rw (number-parsed Text-GAP-DIGITS l (c .low) (omega arith) (omega arith) .1 (h .0, h .3 .low), number-parsed Text-GAP-DIGITS u (c .high) (omega arith) (omega arith) .1 (h .1, h .3 .high), r, n)
 
   -- at its comma and its ] the text falls into these three
-  two-parts : pieces 44 (piece-text c) ≡ decimal (c .low) ∷ end-text c ∷ []
-  two-parts = in-two 44 (piece-text c) (decimal (c .low)) (end-text c) .1 (
+  two-parts : pieces 44 (component-text c) ≡ decimal (c .low) ∷ end-text c ∷ []
+  two-parts = in-two 44 (component-text c) (decimal (c .low)) (end-text c) .1 (
     piece-is c,
     λ m. omega (arith, decimal-digits (c .low) 44 m .0),
     λ m. omega (arith, end-bytes c 44 m .0),
@@ -166,11 +152,11 @@ module _ (c : Component) where
   )
 
   -- a text is parsed as a component exactly if it is that component's
-  component-parsed : (text : List ℕ) → (parse-component text ≡ parsed c) ↔ ((text ≡ piece-text c) × Ranged c)
+  component-parsed : (text : List ℕ) → (parse-component text ≡ parsed c) ↔ ((text ≡ component-text c) × Ranged c)
   unfolding parse-component
   component-parsed text = (λ e. at-comma (pieces 44 text) refl e, back)
     where
-      at-end : (l rest : List ℕ) (qs : List (List ℕ)) → pieces 93 rest ≡ qs → parse-ranged l qs ≡ parsed c → (l ++ 44 ∷ rest ≡ piece-text c) × Ranged c
+      at-end : (l rest : List ℕ) (qs : List (List ℕ)) → pieces 93 rest ≡ qs → parse-ranged l qs ≡ parsed c → (l ++ 44 ∷ rest ≡ component-text c) × Ranged c
       at-end l rest [] p e = no-value e
       at-end l rest (u ∷ []) p e = no-value e
       at-end l rest (u ∷ ns ∷ []) p e =
@@ -178,13 +164,13 @@ module _ (c : Component) where
           (rw (in-two 93 rest u ns .0 p .0, h .0, h .1, h .2) (sym (piece-is c)), h .3)
       at-end l rest (u ∷ ns ∷ more ∷ others) p e = no-value e
 
-      at-comma : (ps : List (List ℕ)) → pieces 44 text ≡ ps → parse-pair ps ≡ parsed c → (text ≡ piece-text c) × Ranged c
+      at-comma : (ps : List (List ℕ)) → pieces 44 text ≡ ps → parse-pair ps ≡ parsed c → (text ≡ component-text c) × Ranged c
       at-comma [] p e = no-value e
       at-comma (l ∷ []) p e = no-value e
       at-comma (l ∷ rest ∷ []) p e = rw (in-two 44 text l rest .0 p .0) (at-end l rest (pieces 93 rest) refl e)
       at-comma (l ∷ rest ∷ more ∷ others) p e = no-value e
 
-      back : (text ≡ piece-text c) × Ranged c → parse-pair (pieces 44 text) ≡ parsed c
+      back : (text ≡ component-text c) × Ranged c → parse-pair (pieces 44 text) ≡ parsed c
       back h = rw (h .0, two-parts, end-parts) (ranged-parsed _ _ _ .1 (refl, refl, refl, h .1))
 
 -- ---- all of them
@@ -206,7 +192,7 @@ not-empty : {A B : Type 0} {x : A} {xs : List A} → x ∷ xs ≡ [] → B
 not-empty e = let z : _≡_ {A = ℕ} 0 1 = cc in absurd (omega arith)
 
 -- the pieces are parsed as some components exactly if they are theirs
-rest-parsed : (ps : List (List ℕ)) (cs : List Component) → (parse-rest ps ≡ parsed cs) ↔ ((ps ≡ map piece-text cs) × ((c : Component) → List·Memᴰ c cs → Ranged c))
+rest-parsed : (ps : List (List ℕ)) (cs : List Component) → (parse-rest ps ≡ parsed cs) ↔ ((ps ≡ map component-text cs) × ((c : Component) → List·Memᴰ c cs → Ranged c))
 unfolding parse-rest
 rest-parsed [] [] = (λ e. (refl, no-member Ranged), λ h. refl)
 rest-parsed [] (c ∷ cs) = (λ e. not-empty (sym (parsed-is e)), λ h. not-empty (sym (h .0)))
@@ -244,36 +230,36 @@ first-parsed text c = (λ e. out (run? text) refl e, back)
 
 module _ (line : List ℕ) where
   -- a line is parsed as some components exactly if it is their text
-  pub template-parsed : (cs : List Component) → (parse-components line ≡ parsed cs) ↔ ((line ≡ template-text cs) × Written cs)
+  pub template-parsed : (cs : List Component) → (parse-components line ≡ parsed cs) ↔ ((line ≡ template-text cs) × Writable cs)
   unfolding parse-components
   template-parsed cs = (λ e. out cs (pieces 91 line) refl e, back cs)
     where
-      written : (c : Component) (ds : List Component) → Plain c → ((d : Component) → List·Memᴰ d ds → Ranged d) → Written (c ∷ ds)
-      written c ds p h = record {
+      writable : (c : Component) (ds : List Component) → Plain c → ((d : Component) → List·Memᴰ d ds → Ranged d) → Writable (c ∷ ds)
+      writable c ds p h = record {
         some = omega arith;
         runs = members (λ (d : Component). 1 ≤ d .length) (p .some) (λ d m. h d m .some);
         no-range = (p .low, p .high);
         ranges = λ d m. (h d m .low, h d m .high);
       }
 
-      out : (cs : List Component) (ps : List (List ℕ)) → pieces 91 line ≡ ps → parse-pieces ps ≡ parsed cs → (line ≡ template-text cs) × Written cs
+      out : (cs : List Component) (ps : List (List ℕ)) → pieces 91 line ≡ ps → parse-pieces ps ≡ parsed cs → (line ≡ template-text cs) × Writable cs
       out cs [] p e = no-value e
       out [] (q ∷ qs) p e = cons-some (parse-first q) (parse-rest qs) e
       out (c ∷ ds) (q ∷ qs) p e =
           let r = cons-parsed (parse-first q) (parse-rest qs) c ds .0 e in
           let f = first-parsed q c .0 (r .0) in
           let k = rest-parsed qs ds .0 (r .1) in
-          (pieces-are 91 line q qs .0 p .whole ∙ rw (f .0, k .0) (sym (first-text c ds)), written c ds (f .1) (k .1))
+          (pieces-are 91 line q qs .0 p .whole ∙ rw (f .0, k .0) (sym (first-text c ds)), writable c ds (f .1) (k .1))
 
-      back : (cs : List Component) → (line ≡ template-text cs) × Written cs → parse-pieces (pieces 91 line) ≡ parsed cs
+      back : (cs : List Component) → (line ≡ template-text cs) × Writable cs → parse-pieces (pieces 91 line) ≡ parsed cs
       back [] h = absurd (omega (arith, h .1 .some))
       back (c ∷ ds) h =
           let w = h .1 in
-          let p = pieces-are 91 line (replicate (c .length) 78) (map piece-text ds) .1
+          let p = pieces-are 91 line (replicate (c .length) 78) (map component-text ds) .1
           (record { whole = h .0 ∙ first-text c ds; none = members (Without 91) (λ m. omega (arith, run-bytes (c .length) 91 m)) (λ p m n. pieces-bytes ds p m 91 n .1 refl) }) in
-          rw p (cons-parsed (parse-first (replicate (c .length) 78)) (parse-rest (map piece-text ds)) c ds .1 (
+          rw p (cons-parsed (parse-first (replicate (c .length) 78)) (parse-rest (map component-text ds)) c ds .1 (
             first-parsed (replicate (c .length) 78) c .1 (refl, record { some = w .runs c (List·Memᴰ·head refl); low = w .no-range .0; high = w .no-range .1 }),
-            rest-parsed (map piece-text ds) ds .1 (refl, λ d m. record { some = w .runs d (List·Memᴰ·tail m); low = w .ranges d m .0; high = w .ranges d m .1 }),
+            rest-parsed (map component-text ds) ds .1 (refl, λ d m. record { some = w .runs d (List·Memᴰ·tail m); low = w .ranges d m .0; high = w .ranges d m .1 }),
           ))
 
   -- it is well formed exactly if it is a template's text, and else malformed
@@ -287,6 +273,6 @@ module _ (line : List ℕ) where
 pub template-some : TemplateText [] → ⊥
 template-some h = none (h .0) (h .1) (h .2)
   where
-    none : (cs : List Component) → [] ≡ template-text cs → Written cs → ⊥
+    none : (cs : List Component) → [] ≡ template-text cs → Writable cs → ⊥
     none [] e w = omega (arith, w .some)
-    none (c ∷ cs) e w = omega (arith, w .runs c (List·Memᴰ·head refl), ap length (e ∙ first-text c cs), length-append (replicate (c .length) 78) (each (λ p. 91 ∷ p) (map piece-text cs)), length-replicate {A = ℕ} (c .length) 78)
+    none (c ∷ cs) e w = omega (arith, w .runs c (List·Memᴰ·head refl), ap length (e ∙ first-text c cs), length-append (replicate (c .length) 78) (each (λ p. 91 ∷ p) (map component-text cs)), length-replicate {A = ℕ} (c .length) 78)

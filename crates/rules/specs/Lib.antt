@@ -21,5 +21,6 @@ pub mod Sound
 pub mod Calls
 pub mod Relay
 pub mod Text
+pub mod TextRefused
 pub mod Facts
 pub mod Kinds
