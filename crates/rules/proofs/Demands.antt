@@ -46,6 +46,7 @@ use Rattle.rules.proofs.Searches.{walk-lawful, list-rises, list-holds}
 use Rattle.rules.proofs.Saves.{written-gives, restore-exactly, restore-saved, ended-restores, save-restored, restored-cut, saved-cut}
 use Rattle.rules.proofs.Sound.{SoundBytes}
 use Rattle.rules.proofs.Stays.{save-stays, recover-stays, join-stays, leg-stays}
+use Rattle.rules.proofs.TextRefused.{TextRefused, text-refused}
 use Rattle.rules.proofs.Ways.{support-counts, support-sequences}
 
 -- ---- DEMAND 1: a call refuses exactly what its checks refuse, with the number and place of the first that applies. A refused
@@ -57,6 +58,8 @@ pub record Demand1 : Type 0 where
   pub first-applies : (vs : List Verdict) (n p : ℕ) → (first vs ≡ refused n p) ↔ FirstOf vs n p
   -- and each of 1 to 17 applies exactly if the paper's sentence holds, and tells the place that the paper names
   pub each : EachRefusal
+  -- 18 is the printing program's: it comes before all others, exactly if a line of its input is bad, and tells the lowest that is
+  pub text : TextRefused
   pub begin : (letters lengths : List ℕ) (t : Template) (quorum n p : ℕ)
       → (begin-rule letters lengths t quorum ≡ refuses n p) ↔ (first (new-checks letters lengths t quorum) ≡ refused n p)
   pub restore : (letters lengths bs : List ℕ) (n p : ℕ)
@@ -198,6 +201,7 @@ demand1 =
     record {
       first-applies = first-applies;
       each = each-refusal;
+      text = text-refused;
       begin = λ letters lengths t quorum n p. unless-refuses _ _ n p;
       restore = λ letters lengths bs n p. unless-refuses _ _ n p;
       leg = λ letters lengths s budget motifs supports weights n p. leg-refused (first (search-checks letters lengths s)) _ _ n p _ (λ n p. refl) refl;
