@@ -98,6 +98,15 @@ begin "a program that is stopped"
 ) || status=$?
 not_whole
 
+begin "a run that is stopped"
+./run motifs "$work/slow" >"$work/out" 2>"$work/err" &
+until [ -s "$work/out" ] || ! kill -0 $!; do sleep 1; done
+kill $!
+wait $! || status=$?
+not_whole
+said "it was stopped"
+printed_rows
+
 # ---- what is not run
 
 begin "no such file"
