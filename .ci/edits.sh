@@ -10,8 +10,14 @@ for edit in crates/*/must-fail/*.edit; do
     crate=${edit#crates/}
     crate=${crate%%/*}
     log=target/must-fail/$crate/$(basename "$edit" .edit)/.log
+    # A function that has no proof file of its own is refused by a note that names what is not proved.
     first=$(sed -n '/: error/ { p; q; }' "$log")
+    [ -n "$first" ] || first=$(sed -n '/^note: .*: it is not proved / { p; q; }' "$log")
     case $first in
+    '')
+        printf '%s: its log says of no fact that it is not proved\n' "$edit"
+        status=1
+        ;;
     *' is not in scope'* | *' has no `Need-'* | *' that can be named from here'*)
         printf '%s: refused for a name, and for no fact: %s\n' "$edit" "$first"
         status=1
