@@ -85,8 +85,10 @@ fn search(head: &[u8; Ask::BYTES]) -> Search {
 }
 
 impl Ask {
-    // The bytes of a head.
-    pub const BYTES: usize = 8 * 40;
+    // The numbers of a head, and its bytes.
+    const NUMBERS: usize = 40;
+
+    pub const BYTES: usize = 8 * Ask::NUMBERS;
 
     // The kinds of call.
     pub const BEGIN: u64 = 1;

@@ -8,12 +8,16 @@ mod wire;
 
 use ask::Ask;
 use libc::STDIN_FILENO;
+use rules::SequenceSet;
 use told::Told;
 use wire::room8;
 use wire::room32;
 use wire::room64;
 
-// The room of the tables here: a list or one of a leg's tables, the rows of a recovery or of a join, and a saved search.
+// The room of the tables here: letters, more than a set may have; a list or one of a leg's tables; the rows of a recovery or of
+// a join; and a saved search.
+const LETTERS: usize = SequenceSet::LETTERS + 464;
+
 const LIST: usize = 4096;
 
 const ROWS: usize = 8192;
@@ -252,7 +256,7 @@ fn main() {
     if got < 8 {
         return;
     }
-    let mut letters = [0u8; 66000];
+    let mut letters = [0u8; LETTERS];
     let mut first = [0u32; LIST];
     let mut bytes = [0u8; 8 * LIST];
     answer_all(wire::eight(&count, 0), &mut letters, &mut first, &mut bytes);

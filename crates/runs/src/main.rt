@@ -33,6 +33,9 @@ fn sequences(what: &[u8], lengths: &[u32]) {
     tell::begun(b"", lengths, search::begin(b"", lengths, pair(), 1));
 }
 
+// The most letters that a set may have, as a length.
+const LETTERS: u32 = SequenceSet::LETTERS as u32;
+
 // One sequence of these letters.
 fn letters(what: &[u8], buffer: &[u8], length: u32) {
     io::write_all(STDOUT_FILENO, what);
@@ -100,9 +103,9 @@ fn bytes() {
 
 fn many_letters() {
     let most = [b'A'; SequenceSet::LETTERS];
-    letters(b"65536 letters", &most, 65536);
+    letters(b"65536 letters", &most, LETTERS);
     let more = [b'A'; SequenceSet::LETTERS + 1];
-    letters(b"65537 letters", &more, 65537);
+    letters(b"65537 letters", &more, LETTERS + 1);
 }
 
 fn many_sequences() {
