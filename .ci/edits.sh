@@ -10,9 +10,8 @@ for edit in crates/*/must-fail/*.edit; do
     crate=${edit#crates/}
     crate=${crate%%/*}
     log=target/must-fail/$crate/$(basename "$edit" .edit)/.log
-    # A function that has no proof file of its own is refused by a note that names what is not proved.
-    first=$(sed -n '/: error/ { p; q; }' "$log")
-    [ -n "$first" ] || first=$(sed -n '/^note: .*: it is not proved / { p; q; }' "$log")
+    # A function that has no proof file of its own is refused by a note; what cites a refused one is an error after it.
+    first=$(sed -n -e '/was not admitted/d' -e '/: error/ { p; q; }' -e '/^note: .*: it is not proved / { p; q; }' "$log")
     case $first in
     '')
         printf '%s: its log says of no fact that it is not proved\n' "$edit"

@@ -13,6 +13,13 @@
 set -eu
 cd "$(dirname "$0")/.."
 
+# rt expects to be alone in target/: this is the lock that `run` takes too.
+if command -v flock >/dev/null 2>&1; then
+    mkdir -p target/run
+    exec 9>target/run/lock
+    flock 9
+fi
+
 # Runs a command, and shows what it said only if it fails.
 quietly() {
     chatter=$("$@" 2>&1 </dev/null) || {

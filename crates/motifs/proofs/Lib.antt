@@ -1,5 +1,5 @@
 -- The laws of this crate, in the order in which they build on each other. `Program` is the file to read first.
-pub mod Counted
+pub mod Came
 pub mod Leg
 pub mod Laid
 pub mod Reading

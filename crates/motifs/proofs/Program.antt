@@ -38,7 +38,7 @@ left-of input n = left-at (parse-letters input) (parse-lengths input) n (opening
 pub record Program : Type 0 where
   -- some number of pages, laid end to end, is the whole printout, and nothing is left after them
   pub whole : (input : List ℕ) → (n : ℕ) × (left-of input n ≡ nothing) × (pages-of input n ≡ print-rule input)
-  -- as long as something may be left, the pages so far are the front of the printout, and the rest of it is the text of what is left
+  -- and the first n pages, whatever n, are the front of the printout: the rest of it is the text of what is left after them
   pub front : (input : List ℕ) (n : ℕ) → print-rule input ≡ pages-of input n ++ text-left (parse-letters input) (parse-lengths input) (left-of input n)
 
 -- ---- THE PROOF

@@ -4,7 +4,7 @@ use mathlib.Core.Bool.{true, false}
 use mathlib.Core.Path.{sym}
 use lib.ListN.{length}
 use mir.Facts.{toZ-ofZ}
-use Rattle.motifs.proofs.Counted.{failed-after, moved-after}
+use Rattle.motifs.proofs.Came.{failed-after, moved-after}
 use Rattle.motifs.proofs.stdin.after.Statement.{statement}
 use Rattle.motifs.proofs.stdin.after.Tie as tie
 

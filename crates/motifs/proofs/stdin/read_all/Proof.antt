@@ -3,7 +3,7 @@ use borrow.Author.Needs.{needs}
 use mathlib.Core.Path.{_≡_, refl, sym, _∙_}
 use native.Mathlib.Omega.{arith}
 use lib.ListN.{length}
-use Rattle.motifs.proofs.Counted.{Fits, to-come, at-end, room-left, read-on}
+use Rattle.motifs.proofs.Came.{Fits, to-come, at-end, room-left, read-on}
 use Rattle.motifs.proofs.stdin.read_all.Statement.{statement}
 use Rattle.motifs.proofs.stdin.read_all.Tie as tie
 
