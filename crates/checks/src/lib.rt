@@ -1,21 +1,22 @@
 // An inner crate: what a call refuses, each check by its number in the paper, and the orders in which the calls check. Every
 // check is total, so that an order may make all of them and keep the first that applies; but what is long is read only where
 // nothing was refused before.
-mod letters;
+pub mod letters;
 
 use letters::value;
 use letters::values;
 ghost use mathlib.Core.List.{map};
 ghost use mathlib.Core.Path.{_≡_};
-ghost use Prim.Native.Nat.{_^_};
+ghost use Prim.Native.Nat.{ℕ, _+_, _^_};
 ghost use lib.Dec.{ltb};
+ghost use lib.ListN.{length};
 ghost use Rattle.checks.specs.Orders.{template-checks, value-checks-before-13};
 ghost use Rattle.rules.specs.Letters.{value};
 ghost use Rattle.rules.specs.Limits.{Letter-BASES, Template-LENGTH};
-ghost use Rattle.rules.specs.Lists.{run};
-ghost use Rattle.rules.specs.Refusals.{_else_, first, outside, bad-gap, check1, check2, check3, check4, check5, check6, check7, check8, check9, check11-place, check12, set-checks, new-checks};
+ghost use Rattle.rules.specs.Lists.{if, run};
+ghost use Rattle.rules.specs.Refusals.{_else_, first, first-bad, bad-byte, outside, bad-gap, check1, check2, check3, check4, check5, check6, check7, check8, check9, check11-place, check12, set-checks, new-checks};
 ghost use Rattle.rules.specs.Saved.{place-rule?};
-ghost use Rattle.rules.specs.Told.{toldChecked};
+ghost use Rattle.rules.specs.Told.{fine, refused, toldChecked};
 use rules::Checked;
 use rules::Component;
 use rules::Letter;
@@ -62,19 +63,19 @@ pub fn check_sum(letters: &[u8], lengths: &[u32]) -> Checked
     Checked::refuse_if(left != 0, Refusal::LengthSum)
 }
 
-// The first byte that is no letter, by a table of their values.
-fn find_mark(values: &[u8], letters: &[u8]) -> Checked
+// Where the first byte stands that is no letter, by a table of their values; the end where all are letters.
+pub fn find_mark(values: &[u8], bytes: &[u8]) -> usize
     requires { ⌜ now values ≡ map value (run 0 256) ⌝ }
-    ensures { λ r. ⌜ toldChecked r ≡ check4 (now (letters .entry)) ⌝ }
+    ensures { λ r. ⌜ ((o : ℕ) → first-bad 4 bad-byte o (now (bytes .entry)) ≡ if (ltb r (length (now (bytes .entry)))) (refused 4 (o + r)) fine) ⌝ }
 {
     let mut i = 0;
-    while i < letters.len() {
-        if value(values, letters[i]) == Letter::MARK {
-            return Checked::Refused(Refusal::NotALetter(Offset(i)));
+    while i < bytes.len() {
+        if value(values, bytes[i]) == Letter::MARK {
+            return i;
         }
         i += 1;
     }
-    Checked::Fine
+    i
 }
 
 // 4: the first byte that is no letter.
@@ -82,7 +83,8 @@ pub fn check_bytes(letters: &[u8]) -> Checked
     ensures { λ r. ⌜ toldChecked r ≡ check4 (now (letters .entry)) ⌝ }
 {
     let table = values();
-    find_mark(&table, letters)
+    let mark = find_mark(&table, letters);
+    Checked::refuse_if(mark < letters.len(), Refusal::NotALetter(Offset(mark)))
 }
 
 // 5: no components, or too many.

@@ -22,5 +22,6 @@ pub mod Calls
 pub mod Relay
 pub mod Text
 pub mod TextRefused
+pub mod Fasta
 pub mod Facts
 pub mod Kinds

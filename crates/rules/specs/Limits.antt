@@ -65,3 +65,11 @@ Text-GAP-DIGITS = 3
 
 abbrev pub Text-QUORUM-DIGITS : ℕ
 Text-QUORUM-DIGITS = 5
+
+-- a FASTA file: the most bytes of one that the program `lines` holds, and the most letters of a record, which a row of the
+-- lengths table, of 32 bits, can hold
+abbrev pub Fasta-BYTES : ℕ
+Fasta-BYTES = 1048576
+
+abbrev pub Fasta-LENGTH : ℕ
+Fasta-LENGTH = 4294967295

@@ -2,7 +2,7 @@
 use mathlib.Core.Bool.{Bool, true, false, _&&_}
 use mathlib.Core.List.{List, [], _∷_, _++_, map}
 use Prim.Native.Nat.{ℕ, zero, suc, _+_}
-use lib.ListN.{length, drop}
+use lib.ListN.{length, take, drop}
 use lib.Dec.{eqb, ltb}
 
 abbrev pub if : {A : Type 0} → Bool → A → A → A
@@ -53,6 +53,10 @@ sum (x ∷ xs) = x + sum xs
 -- what a table holds once a list has been written to its front: the list, and past it what was there
 unfoldable pub put : {A : Type 0} → List A → List A → List A
 put xs table = xs ++ drop (length xs) table
+
+-- and once it has been written from place n on
+unfoldable pub put-at : {A : Type 0} → ℕ → List A → List A → List A
+put-at n xs table = take n table ++ put xs (drop n table)
 
 -- f at the first n places of a list, and past them what was there: how far a loop is that fills it from the front
 unfoldable pub over : (ℕ → ℕ) → ℕ → List ℕ → List ℕ

@@ -5,6 +5,10 @@ use Rattle.rules.specs.declared.Begun.{Begun}
 use Rattle.rules.specs.declared.Begun.the-variants as begun
 use Rattle.rules.specs.declared.Checked.{Checked}
 use Rattle.rules.specs.declared.Checked.the-variants as checked
+use Rattle.rules.specs.declared.FileRefusal.{FileRefusal}
+use Rattle.rules.specs.declared.FileRefusal.the-variants as file-refusal
+use Rattle.rules.specs.declared.Handed.{Handed}
+use Rattle.rules.specs.declared.Handed.the-variants as handed
 use Rattle.rules.specs.declared.Joined.{Joined}
 use Rattle.rules.specs.declared.Joined.the-variants as joined
 use Rattle.rules.specs.declared.Leg.{Leg}
@@ -60,6 +64,17 @@ refusal-place JoinList = 0
 refusal-place Room = 0
 refusal-place (TextLine n) = n
 
+-- the number and the place of a refusal of the FASTA reader: 4 tells the offset in the file
+abbrev pub file-refusal-number : FileRefusal → ℕ
+file-refusal-number file-refusal.TextBefore = 19
+file-refusal-number file-refusal.NoRoom = 20
+file-refusal-number (file-refusal.NotALetter o) = 4
+
+abbrev pub file-refusal-place : FileRefusal → ℕ
+file-refusal-place file-refusal.TextBefore = 0
+file-refusal-place file-refusal.NoRoom = 0
+file-refusal-place (file-refusal.NotALetter o) = o .0
+
 -- what a check finds: nothing, or a refusal's number and place
 pub data Verdict : Type 0 where
   fine : Verdict
@@ -74,6 +89,12 @@ pub data Told (A : Type 0) : Type 0 where
 pub record Counts : Type 0 where
   pub rows : ℕ
   pub length : ℕ
+
+-- what the FASTA reader hands out: a record, by where in the file its name starts and ends and by the number of its letters; or
+-- none, at the file's end
+pub data Handing : Type 0 where
+  entry : ℕ → ℕ → ℕ → Handing
+  no-entry : Handing
 
 -- what a leg tells. Its counts are 0 and its search is the one given where it refuses
 pub record LegTold : Type 0 where
@@ -110,3 +131,8 @@ toldRecovered (recovered.Refused r) = refuses (refusal-number r) (refusal-place 
 abbrev pub toldJoined : Joined → Told ℕ
 toldJoined (joined.Kept n) = gives n
 toldJoined (joined.Refused r) = refuses (refusal-number r) (refusal-place r)
+
+abbrev pub toldHanded : Handed → Told Handing
+toldHanded (handed.Record name letters) = gives (entry (name .start .0) (name .end .0) letters)
+toldHanded handed.End = gives no-entry
+toldHanded (handed.Refused r) = refuses (file-refusal-number r) (file-refusal-place r)

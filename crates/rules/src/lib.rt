@@ -7,7 +7,7 @@ mod shape;
 
 ghost use mathlib.Core.Path.{_≡_};
 ghost use Prim.Native.Nat.{min};
-ghost use Rattle.rules.specs.Limits.{Letter-BASES, Letter-MARK, Template-COMPONENTS, Template-LENGTH, Template-LETTERS, Template-GAP, SequenceSet-SEQUENCES, SequenceSet-LETTERS, Record-BYTES, Record-SIZE, Record-COMPONENT, Record-PLACE, Record-EXTRA, Text-BYTES, Text-GAP-DIGITS, Text-QUORUM-DIGITS};
+ghost use Rattle.rules.specs.Limits.{Letter-BASES, Letter-MARK, Template-COMPONENTS, Template-LENGTH, Template-LETTERS, Template-GAP, SequenceSet-SEQUENCES, SequenceSet-LETTERS, Record-BYTES, Record-SIZE, Record-COMPONENT, Record-PLACE, Record-EXTRA, Text-BYTES, Text-GAP-DIGITS, Text-QUORUM-DIGITS, Fasta-BYTES, Fasta-LENGTH};
 ghost use Rattle.rules.specs.Lists.{sign};
 
 // The three countings, each a type of its own, so that none can be taken for another.
@@ -17,6 +17,9 @@ pub struct SequenceNumber(pub usize);
 pub struct Position(pub usize);
 // An offset in the whole buffer of letters, from 0.
 pub struct Offset(pub usize);
+
+// An offset in a FASTA file, from 0: a counting beside those three, since a file holds more than its letters.
+pub struct FileOffset(pub usize);
 
 // The letters A, C, G, T: how many there are, and the mark that every other byte has for a value.
 pub struct Letter {}
@@ -73,6 +76,16 @@ impl Text {
     pub const GAP_DIGITS: usize = 3;
 
     pub const QUORUM_DIGITS: usize = 5;
+}
+
+// A FASTA file: the most bytes of one that the program `lines` holds, and the most letters of a record, which a row of the lengths
+// table can hold.
+pub struct Fasta {}
+
+impl Fasta {
+    pub const BYTES: usize = 1048576;
+
+    pub const LENGTH: usize = 4294967295;
 }
 
 // Why a call refuses, one name for each number from 1 to 18, with the place where one is told.
@@ -143,6 +156,27 @@ pub enum Joined {
     Refused(Refusal),
 }
 
+// A record's name, as a part of its file: from one offset up to another.
+pub struct Name {
+    pub start: FileOffset,
+    pub end: FileOffset,
+}
+
+// Why the FASTA reader refuses: text before the first record, no room for the next one, or a byte that is no letter, with its
+// place in the file.
+pub enum FileRefusal {
+    TextBefore,
+    NoRoom,
+    NotALetter(FileOffset),
+}
+
+// What a call of the FASTA reader hands out: the next record's name and how many letters it has, or the file's end.
+pub enum Handed {
+    Record { name: Name, letters: usize },
+    End,
+    Refused(FileRefusal),
+}
+
 // The smaller of two numbers.
 pub fn least(a: usize, b: usize) -> usize
     ensures { λ r. ⌜ r ≡ min a b ⌝ }
@@ -175,4 +209,6 @@ pub fn limits()
     ensures { λ r. do ⌜ (← ⟦Text::BYTES⟧ .entry) ≡ Text-BYTES ⌝ }
     ensures { λ r. do ⌜ (← ⟦Text::GAP_DIGITS⟧ .entry) ≡ Text-GAP-DIGITS ⌝ }
     ensures { λ r. do ⌜ (← ⟦Text::QUORUM_DIGITS⟧ .entry) ≡ Text-QUORUM-DIGITS ⌝ }
+    ensures { λ r. do ⌜ (← ⟦Fasta::BYTES⟧ .entry) ≡ Fasta-BYTES ⌝ }
+    ensures { λ r. do ⌜ (← ⟦Fasta::LENGTH⟧ .entry) ≡ Fasta-LENGTH ⌝ }
 {}

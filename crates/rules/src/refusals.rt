@@ -2,8 +2,9 @@
 ghost use mathlib.Core.Path.{_≡_};
 ghost use Rattle.rules.specs.Lists.{if};
 ghost use Rattle.rules.specs.Refusals.{_else_};
-ghost use Rattle.rules.specs.Told.{fine, refused, refusal-number, refusal-place, toldChecked};
+ghost use Rattle.rules.specs.Told.{fine, refused, refusal-number, refusal-place, file-refusal-number, file-refusal-place, toldChecked};
 use crate::Checked;
+use crate::FileRefusal;
 use crate::Refusal;
 
 impl Refusal {
@@ -56,6 +57,30 @@ impl Refusal {
             Refusal::JoinList => 0,
             Refusal::Room => 0,
             Refusal::TextLine(n) => n as u64,
+        }
+    }
+}
+
+impl FileRefusal {
+    // Its number in the paper.
+    pub fn number(self) -> u64
+        ensures { λ r. ⌜ r ≡ file-refusal-number self ⌝ }
+    {
+        match self {
+            FileRefusal::TextBefore => 19,
+            FileRefusal::NoRoom => 20,
+            FileRefusal::NotALetter(_) => 4,
+        }
+    }
+
+    // The place that it tells, and 0 where it tells none.
+    pub fn place(self) -> u64
+        ensures { λ r. ⌜ r ≡ file-refusal-place self ⌝ }
+    {
+        match self {
+            FileRefusal::TextBefore => 0,
+            FileRefusal::NoRoom => 0,
+            FileRefusal::NotALetter(o) => o.0 as u64,
         }
     }
 }

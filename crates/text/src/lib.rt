@@ -1,6 +1,6 @@
 // The printing program's text: what its input says, and the bytes that it prints. An inner crate: the program hands over its
 // input as one slice, and writes out what stands at the front of a buffer.
 mod parse;
-mod pieces;
+pub mod pieces;
 pub mod print;
 pub mod read;

@@ -6,7 +6,7 @@ ghost use Rattle.rules.specs.Text.{pieces, last};
 ghost use Rattle.text.specs.Pieces.{find, after, two?};
 
 // Where a byte stands first from a place on; the text's end where it does not.
-pub(crate) fn find(b: u8, from: usize, text: &[u8]) -> usize
+pub fn find(b: u8, from: usize, text: &[u8]) -> usize
     requires { ⌜ from ≤ length (now text) ⌝ }
     ensures { λ r. ⌜ r ≡ from + find b (drop from (now (text .entry))) ⌝ }
 {

@@ -121,7 +121,7 @@ pub struct Sequences {
 }
 
 // Writes a part of the input to a table.
-fn copy_part(start: usize, end: usize, input: &[u8], at: usize, to: &mut [u8]) -> usize
+pub fn copy_part(start: usize, end: usize, input: &[u8], at: usize, to: &mut [u8]) -> usize
     requires { ⌜ (start ≤ end) × (end ≤ length (now input)) × (at + (end - start) ≤ length (now to)) ⌝ }
     ensures { λ r. ⌜ Wrote at (take (end - start) (drop start (now (input .entry)))) (now (to .entry)) (now (to .exit)) r ⌝ }
 {

@@ -1,0 +1,33 @@
+-- `check_bytes`: the first mark, as a refusal.
+use mathlib.Core.Path.{sym, _∙_}
+use native.Mathlib.Nat.{zero-add}
+use borrow.Author.Needs.{needs}
+use Rattle.rules.specs.Refusals.{check4}
+use Rattle.checks.proofs.check_bytes.Statement.{statement}
+use Rattle.checks.proofs.check_bytes.Tie as tie
+
+values-requires : tie.Need-values-requires
+values-requires c κs = search needs
+
+slice-aggregate-find-mark : tie.Need-slice-aggregate-find-mark
+slice-aggregate-find-mark c = search needs
+
+find-mark-requires : tie.Need-find-mark-requires
+find-mark-requires c κs = search needs
+
+refuse-if-requires : tie.Need-refuse-if-requires
+refuse-if-requires c κs = search needs
+
+returns : tie.Need-returns
+unfolding check4
+returns c = c .refuse-if .ensures ∙ sym (c .before .find-mark .ensures 0 ∙ rw zero-add)
+
+pub check-bytes-spec : {M : Type 1} → statement M
+check-bytes-spec =
+    tie.close
+    (tie.spec
+    values-requires
+    slice-aggregate-find-mark
+    find-mark-requires
+    refuse-if-requires
+    returns)
