@@ -1,0 +1,44 @@
+-- The first mark of the line's text, counted from the line's start.
+use borrow.Author.Needs.{needs}
+use Rattle.fasta.proofs.Body.{bad-here, bad-none}
+use Rattle.fasta.proofs.record.bad_in.Statement.{statement}
+use Rattle.fasta.proofs.record.bad_in.Tie as tie
+
+sub-text : tie.Need-sub-text
+sub-text c = search needs
+
+part-text-start : tie.Need-part-text-start
+part-text-start c = search needs
+
+part-text-end : tie.Need-part-text-end
+part-text-end c = search needs
+
+find-mark-requires : tie.Need-find-mark-requires
+find-mark-requires c κs = search needs
+
+add-result : tie.Need-add-result
+add-result c = search needs
+
+returns : tie.Need-returns
+returns c =
+    let a = c .before .before .before .before .before .args in
+    let p = c .before .before .before .before .before .pre in
+    bad-here (a .file .now) (a .start) (a .end) (c .before .find-mark .result) (p .1) (p .2) (c .before .find-mark .ensures) (c .if1 .taken)
+
+returns-2 : tie.Need-returns-2
+returns-2 c =
+    let a = c .before .before .before .before .before .args in
+    let p = c .before .before .before .before .before .pre in
+    bad-none (a .file .now) (a .start) (a .end) (c .before .find-mark .result) (p .1) (p .2) (c .before .find-mark .ensures) (c .if1 .left)
+
+pub bad-in-spec : {M : Type 1} → statement M
+bad-in-spec =
+    tie.close
+    (tie.spec
+    sub-text
+    part-text-start
+    part-text-end
+    find-mark-requires
+    add-result
+    returns
+    returns-2)
