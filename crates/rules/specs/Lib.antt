@@ -24,4 +24,5 @@ pub mod Text
 pub mod TextRefused
 pub mod Fasta
 pub mod Facts
+pub mod FastaFacts
 pub mod Kinds
