@@ -3,12 +3,19 @@
 use mathlib.Core.Path.{_≡_, refl, sym, ap, _∙_}
 use mathlib.Core.List.{List, [], _∷_}
 use Prim.Native.Nat.{ℕ, _-_}
+use lib.Dec.{eqb}
 use lib.ListN.{getD}
 use Rattle.rules.specs.Calls.{begin-rule, LegRule, leg-rule, Written, save-rule, restore-rule, recover-rule, join-rule}
+use Rattle.rules.specs.Fasta.{ReaderRule, reader-rule}
 use Rattle.rules.specs.Legs.{Stop, ended, spent, full}
-use Rattle.rules.specs.Told.{refusal-number, refusal-place, Told, gives, refuses, Counts, toldBegun, toldAnswer, toldLeg, toldSaved, toldRecovered, toldJoined}
+use Rattle.rules.specs.Lists.{if}
+use Rattle.rules.specs.Told.{refusal-number, refusal-place, file-refusal-number, file-refusal-place, Told, gives, refuses, Counts, Handing, entry, no-entry, toldBegun, toldAnswer, toldLeg, toldSaved, toldRecovered, toldJoined, toldHanded}
 use Rattle.rules.specs.declared.Begun.{Begun}
 use Rattle.rules.specs.declared.Begun.the-variants as begun
+use Rattle.rules.specs.declared.FileRefusal.{FileRefusal}
+use Rattle.rules.specs.declared.FileRefusal.the-variants as file-refusal
+use Rattle.rules.specs.declared.Handed.{Handed}
+use Rattle.rules.specs.declared.Handed.the-variants as handed
 use Rattle.rules.specs.declared.Joined.{Joined}
 use Rattle.rules.specs.declared.Joined.the-variants as joined
 use Rattle.rules.specs.declared.Leg.{Leg}
@@ -133,14 +140,41 @@ same-answer = one toldAnswer (back stop answer.Refused) told
 pub same-leg : (a b : Leg) → toldLeg a ≡ toldLeg b → a ≡ b
 same-leg a b e = λ i. record { answer = same-answer (a .answer) (b .answer) (ap (λ l. l .answer) e) i; steps = e i .steps; rows = e i .rows; search = e i .search }
 
+-- the FASTA reader's refusals have names of their own
+file-named : ℕ → ℕ → FileRefusal
+file-named n p = if (eqb n 4) (file-refusal.NotALetter (record { 0 = p })) (if (eqb n 19) file-refusal.TextBefore file-refusal.NoRoom)
+
+file-named-told : (r : FileRefusal) → file-named (file-refusal-number r) (file-refusal-place r) ≡ r
+unfolding file-named
+file-named-told file-refusal.TextBefore = refl
+file-named-told file-refusal.NoRoom = refl
+file-named-told (file-refusal.NotALetter o) = refl
+
+abbrev handed-back : Told Handing → Handed
+handed-back (gives (entry start end size)) = handed.Record (record { start = record { 0 = start }; end = record { 0 = end } }) size
+handed-back (gives no-entry) = handed.End
+handed-back (refuses n p) = handed.Refused (file-named n p)
+
+pub same-handed : (a b : Handed) → toldHanded a ≡ toldHanded b → a ≡ b
+same-handed = one toldHanded handed-back told
+  where
+    told : (a : Handed) → handed-back (toldHanded a) ≡ a
+    told (handed.Record name letters) = refl
+    told handed.End = refl
+    told (handed.Refused r) = ap handed.Refused (file-named-told r)
+
 -- ---- the calls
 
--- an answer and what a lent buffer holds afterwards keep a rule; and for a leg its three tables
+-- an answer and what a lent buffer holds afterwards keep a rule; for a leg its three tables; and for the FASTA reader its cursor, the
+-- buffer of letters and the lengths table
 abbrev pub Keeps : {A B : Type 0} → (B → Told A) → Written A → B → List ℕ → Type 0
 Keeps tell rule a out = (tell a ≡ rule .told) × (out ≡ rule .out)
 
 abbrev pub KeepsLeg : LegRule → Leg → List ℕ → List ℕ → List ℕ → Type 0
 KeepsLeg rule a motifs supports weights = (toldLeg a ≡ rule .told) × (motifs ≡ rule .motifs) × (supports ≡ rule .supports) × (weights ≡ rule .weights)
+
+abbrev pub KeepsReader : ReaderRule → Handed → ℕ → List ℕ → List ℕ → Type 0
+KeepsReader rule a at letters lengths = (toldHanded a ≡ rule .told) × (at ≡ rule .at) × (letters ≡ rule .letters) × (lengths ≡ rule .lengths)
 
 written-one : {A B : Type 0} (tell : B → Told A) → ((a b : B) → tell a ≡ tell b → a ≡ b) → (rule : Written A) (a b : B) (x y : List ℕ) → Keeps tell rule a x → Keeps tell rule b y → (a ≡ b) × (x ≡ y)
 written-one tell same rule a b x y k l = (same a b (k .0 ∙ sym (l .0)), k .1 ∙ sym (l .1))
@@ -174,3 +208,10 @@ module _ (letters lengths : List ℕ) where
 pub join-one : (first second : List ℕ) (head low high : ℕ) (out : List ℕ) (a b : Joined) (x y : List ℕ)
     → Keeps toldJoined (join-rule first second head low high out) a x → Keeps toldJoined (join-rule first second head low high out) b y → (a ≡ b) × (x ≡ y)
 join-one first second head low high out = written-one toldJoined same-joined (join-rule first second head low high out)
+
+-- the FASTA reader: its answer, its cursor, its buffer of letters and its lengths table
+pub reader-one : (file : List ℕ) (at : ℕ) (letters : List ℕ) (used : ℕ) (lengths : List ℕ) (count : ℕ) (a b : Handed) (i j : ℕ) (x y v w : List ℕ)
+    → KeepsReader (reader-rule file at letters used lengths count) a i x v
+    → KeepsReader (reader-rule file at letters used lengths count) b j y w
+    → (a ≡ b) × (i ≡ j) × (x ≡ y) × (v ≡ w)
+reader-one file at letters used lengths count a b i j x y v w k l = (same-handed a b (k .0 ∙ sym (l .0)), k .1 ∙ sym (l .1), k .2 ∙ sym (l .2), k .3 ∙ sym (l .3))
