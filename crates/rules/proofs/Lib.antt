@@ -37,6 +37,7 @@ pub mod TextNumbers
 pub mod TextTemplate
 pub mod TextLines
 pub mod TextRefused
+pub mod FastaLines
 pub mod LaidOut
 pub mod Sound
 pub mod Wide

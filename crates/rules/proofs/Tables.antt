@@ -5,9 +5,9 @@ use Prim.Native.Nat.{ℕ, zero, suc, _+_, _≤_, _<_, min}
 use native.Mathlib.Nat.{zero-min, min-zero, suc-min-suc}
 use native.Mathlib.Numerals.{add-one}
 use native.Mathlib.Omega.{arith}
-use lib.ListN.{length, take, drop, getD, set, length-append, drop-of-length-le}
-use lib.Seq.{drop-cons, set-append-seam, take-append-seam}
-use Rattle.rules.specs.Lists.{sum, put}
+use lib.ListN.{length, take, drop, getD, set, take-append-drop, length-append, length-drop, drop-of-length-le}
+use lib.Seq.{drop-cons, drop-drop, length-take-le, set-append-seam, take-append-seam, take-at, drop-at}
+use Rattle.rules.specs.Lists.{sum, put, put-at}
 
 -- ---- f of a list
 
@@ -67,3 +67,25 @@ pub put-more : (xs table : List ℕ) (v : ℕ) → length xs < length table → 
 unfolding put
 put-more xs table v h =
     rw (drop-cons table (length xs) 0 h, length-append xs (v ∷ []), add-one) (set-append-seam xs _ _ v ∙ sym (append-assoc xs (v ∷ []) _))
+
+-- ---- and from place n on
+
+-- nothing written changes nothing
+pub put-at-none : {A : Type 0} (n : ℕ) (table : List A) → put-at n [] table ≡ table
+unfolding put-at put
+put-at-none n table = take-append-drop n table
+
+-- a table is as long as before, if what is written fits
+pub put-at-long : {A : Type 0} (n : ℕ) (xs table : List A) → n + length xs ≤ length table → length (put-at n xs table) ≡ length table
+unfolding put-at put
+put-at-long n xs table h =
+    omega (arith, length-append (take n table) (xs ++ drop (length xs) (drop n table)), length-take-le n table (omega arith), length-append xs (drop (length xs) (drop n table)), length-drop (length xs) (drop n table), length-drop n table)
+
+-- more, written behind what was written
+pub put-at-more : {A : Type 0} (n : ℕ) (xs ys table : List A) → n + length xs ≤ length table → put-at (n + length xs) ys (put-at n xs table) ≡ put-at n (xs ++ ys) table
+unfolding put-at put
+put-at-more n xs ys table h =
+    let rest = drop (length xs) (drop n table) in
+    let a : length (take n table ++ xs) ≡ n + length xs = omega (arith, length-append (take n table) xs, length-take-le n table (omega arith)) in
+    rw (← (append-assoc (take n table) xs rest), take-at (take n table ++ xs) rest (n + length xs) a, drop-at (take n table ++ xs) rest (n + length xs) a, length-append xs ys, ← (drop-drop (length ys) (length xs) (drop n table)), append-assoc xs ys)
+    (append-assoc (take n table) xs _)

@@ -23,6 +23,7 @@ pub mod Relay
 pub mod Text
 pub mod TextRefused
 pub mod Fasta
+pub mod FastaRead
 pub mod Facts
 pub mod FastaFacts
 pub mod Kinds
