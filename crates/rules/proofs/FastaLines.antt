@@ -1,8 +1,8 @@
 -- The lines and records of a file from an offset on. A scan that begins where a line begins finds that line and the same lines after
 -- it, so each line is the first of those from its own offset on; and so the records from the > of a record on are it and those
 -- after it.
-use mathlib.Core.Path.{_≡_, refl, sym, ap, _∙_}
-use mathlib.Core.Bool.{Bool, true, false, not}
+use mathlib.Core.Path.{_≡_, refl, ap}
+use mathlib.Core.Bool.{Bool, true, false}
 use mathlib.Core.List.{List, [], _∷_, _++_, List·Memᴰ·tail}
 use Prim.Native.Nat.{ℕ, _+_}
 use native.Mathlib.Omega.{arith}

@@ -52,6 +52,8 @@ pub mod Saves
 pub mod Places
 pub mod Refused
 pub mod Stays
+pub mod FastaChecks
+pub mod Reading
 pub mod Begins
 pub mod Relayed
 pub mod Completes

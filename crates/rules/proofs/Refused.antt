@@ -100,11 +100,11 @@ refuses-at true n k s m p = (λ e. let q : m ≡ n = cc in let z : p ≡ k = cc 
 refuses-at false n k s m p = (λ e. never m p (sym e), λ h. absurd (false≢true (s .1 (h .1 .1))))
 
 -- or at none
-refuses-if : {P : Type 0} (b : Bool) (n : ℕ) → (b ≡ true) ↔ P → RefusesIf (refuse-if b n) n P
+pub refuses-if : {P : Type 0} (b : Bool) (n : ℕ) → (b ≡ true) ↔ P → RefusesIf (refuse-if b n) n P
 refuses-if b n = refuses-at b n 0
 
 -- a check that wants a test to pass refuses if it fails
-not-says : {P : Type 0} (b : Bool) → (b ≡ false) ↔ P → (not b ≡ true) ↔ P
+pub not-says : {P : Type 0} (b : Bool) → (b ≡ false) ↔ P → (not b ≡ true) ↔ P
 not-says true s = (λ e. absurd (false≢true e), λ x. absurd (false≢true (sym (s .1 x))))
 not-says false s = (λ e. s .0 refl, λ x. refl)
 
@@ -114,7 +114,7 @@ refuses-unless b n s = refuses-if (not b) n (not-says b s)
 -- ---- numbers
 
 -- a test of numbers that applies, or fails
-less : (a b : ℕ) → (ltb a b ≡ true) ↔ (a < b)
+pub less : (a b : ℕ) → (ltb a b ≡ true) ↔ (a < b)
 less a b = (ltb-true a b, lt-ltb a b)
 
 above : (a b : ℕ) → (leb a b ≡ false) ↔ (b < a)
@@ -131,14 +131,14 @@ differ a b = denied (eqb a b) (same a b)
 -- ---- the first bad one
 
 -- two ways to be bad that say the same have the same first one
-first-same : {P Q : ℕ → Type 0} {v : Verdict} {n k l : ℕ} → ((p : ℕ) → P p ↔ Q p) → RefusesAt v n (FirstBad k l P) → RefusesAt v n (FirstBad k l Q)
+pub first-same : {P Q : ℕ → Type 0} {v : Verdict} {n k l : ℕ} → ((p : ℕ) → P p ↔ Q p) → RefusesAt v n (FirstBad k l P) → RefusesAt v n (FirstBad k l Q)
 first-same {P} {Q} s r m p = (
   λ e. let h = r m p .0 e in let f = h .1 in (h .0, record { least = f .least; most = f .most; bad = s p .0 (f .bad); before = λ q a b c. f .before q a b (s q .1 c) }),
   λ h. let f = h .1 in r m p .1 (h .0, record { least = f .least; most = f .most; bad = s p .1 (f .bad); before = λ q a b c. f .before q a b (s q .0 c) }),
 )
 
 -- a byte is a letter exactly if it is one of the four
-letter-says : (b : ℕ) → (letter? b ≡ true) ↔ IsLetter b
+pub letter-says : (b : ℕ) → (letter? b ≡ true) ↔ IsLetter b
 unfolding letter? value
 letter-says b = (go (eqb b 65) (eqb b 67) (eqb b 71) (eqb b 84) (same b 65 .0) (same b 67 .0) (same b 71 .0) (same b 84 .0), back)
   where

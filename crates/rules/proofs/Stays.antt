@@ -33,7 +33,7 @@ use Rattle.rules.proofs.Sound.{save-sound, recover-sound, join-sound}
 -- ---- a list put to the front of a table
 
 -- if it fits, and is no longer than n, the table stays past the first n
-put-stays : (n : ℕ) (xs table : List ℕ) → length xs ≤ length table → length xs ≤ n → Stays n table (put xs table)
+pub put-stays : (n : ℕ) (xs table : List ℕ) → length xs ≤ length table → length xs ≤ n → Stays n table (put xs table)
 unfolding put
 put-stays n xs table fits few = record { long = omega (arith, length-append xs (drop (length xs) table), length-drop (length xs) table); past = past }
   where

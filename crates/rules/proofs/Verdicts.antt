@@ -95,7 +95,7 @@ refuse-at-fine true n p = (λ e. never n p e, λ e. absurd (false≢true (sym e)
 -- THE FIRST BAD ONE, counted from k
 module _ {A : Type 0} (n : ℕ) (bad : ℕ → A → Bool) where
   -- it is neither the first nor among the others
-  bad-cons : (k : ℕ) (x : A) (xs : List A) → (first-bad n bad k (x ∷ xs) ≡ fine) ↔ ((bad k x ≡ false) × (first-bad n bad (suc k) xs ≡ fine))
+  pub bad-cons : (k : ℕ) (x : A) (xs : List A) → (first-bad n bad k (x ∷ xs) ≡ fine) ↔ ((bad k x ≡ false) × (first-bad n bad (suc k) xs ≡ fine))
   unfolding first-bad
   bad-cons k x xs = go (bad k x)
     where
