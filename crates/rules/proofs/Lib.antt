@@ -38,6 +38,7 @@ pub mod TextTemplate
 pub mod TextLines
 pub mod TextRefused
 pub mod FastaLines
+pub mod FastaLaid
 pub mod LaidOut
 pub mod Sound
 pub mod Wide
