@@ -50,7 +50,7 @@ module _ (letters : List ℕ) (used : ℕ) (lengths : List ℕ) (count : ℕ) wh
 abbrev pub AllLetters : List ℕ → Type 0
 AllLetters text = (b : ℕ) → List·Memᴰ b text → IsLetter b
 
-text-fine : (o : ℕ) (text : List ℕ) → (first-bad 4 bad-byte o text ≡ fine) ↔ AllLetters text
+pub text-fine : (o : ℕ) (text : List ℕ) → (first-bad 4 bad-byte o text ≡ fine) ↔ AllLetters text
 unfolding first-bad
 text-fine o [] = (λ e. no-member IsLetter, λ h. refl)
 text-fine o (x ∷ text) =
@@ -60,7 +60,7 @@ text-fine o (x ∷ text) =
       λ h. c .1 (not-false _ .1 (letter-says x .1 (h x (List·Memᴰ·head refl))), r .1 (λ b m. h b (List·Memᴰ·tail m))),
     )
 
-lines-fine : (ls : List Line) → (check-lines ls ≡ fine) ↔ AllLetters (texts ls)
+pub lines-fine : (ls : List Line) → (check-lines ls ≡ fine) ↔ AllLetters (texts ls)
 unfolding check-lines texts each first
 lines-fine [] = (λ e. no-member IsLetter, λ h. refl)
 lines-fine (l ∷ ls) =

@@ -2,15 +2,15 @@
 -- further on, since the pieces between the bytes 10 follow each other in the file and a text without its 13 is the front of one.
 use mathlib.Core.Path.{_≡_, refl, sym, ap, _∙_}
 use mathlib.Core.Logic.{_⊎_, inl, inr}
-use mathlib.Core.Bool.{Bool, true, false, false≢true}
-use mathlib.Core.List.{List, [], _∷_, _++_, append-nil, List·Memᴰ, List·Memᴰ·not-nil, List·Memᴰ·cases-cons}
+use mathlib.Core.Bool.{Bool, true, false}
+use mathlib.Core.List.{List, [], _∷_, _++_, List·Memᴰ, List·Memᴰ·not-nil, List·Memᴰ·cases-cons}
 use Prim.Native.Nat.{ℕ, _+_, _-_, _≤_, _<_}
 use native.Mathlib.Omega.{arith}
 use lib.Dec.{eqb}
 use lib.ListN.{length, take, drop, getD}
 use lib.Seq.{take-take, take-length, take-append-seam, length-take-le, drop-drop, getD-take, getD-drop}
 use Rattle.rules.specs.Fasta.{Line, line, without-return, lines-of, text?, lines-from, header?, Entry, up-to-header, entries}
-use Rattle.rules.specs.Lists.{if, keep, each}
+use Rattle.rules.specs.Lists.{if, keep}
 use Rattle.rules.specs.Text.{pieces}
 use Rattle.rules.proofs.FastaLines.{pieces-next}
 use Rattle.rules.proofs.TextPieces.{pieces-are}

@@ -54,6 +54,8 @@ pub mod Places
 pub mod Refused
 pub mod Stays
 pub mod FastaChecks
+pub mod FastaBytes
+pub mod FastaRefused
 pub mod Reading
 pub mod Begins
 pub mod Relayed

@@ -24,6 +24,20 @@ each-out f (y ∷ ys) {b} m = go (List·Memᴰ·append-cases (f y) m) (λ m. eac
     go (inl m) ih = (y, List·Memᴰ·head refl, m)
     go (inr m) ih = (ih m .0, List·Memᴰ·tail (ih m .1), ih m .2)
 
+-- what is kept passes the test
+pub keep-passes : {A : Type 0} (f : A → Bool) (xs : List A) {x : A} → List·Memᴰ x (keep f xs) → f x ≡ true
+unfolding keep
+keep-passes f [] m = absurd (List·Memᴰ·not-nil m)
+keep-passes f (y ∷ ys) {x} m = go (f y) refl m (λ m. keep-passes f ys m)
+  where
+    here : f y ≡ true → (x ≡ y) ⊎ List·Memᴰ x (keep f ys) → (List·Memᴰ x (keep f ys) → f x ≡ true) → f x ≡ true
+    here p (inl e) ih = rw e p
+    here p (inr m) ih = ih m
+
+    go : (b : Bool) → f y ≡ b → List·Memᴰ x (if b (y ∷ keep f ys) (keep f ys)) → (List·Memᴰ x (keep f ys) → f x ≡ true) → f x ≡ true
+    go true p m ih = here p (List·Memᴰ·cases-cons m) ih
+    go false p m ih = ih m
+
 -- the numbers of a run that pass a test are kept, and nothing else
 pub keep-run-in : (f : ℕ → Bool) (a n x : ℕ) → a ≤ x → x < a + n → f x ≡ true → List·Memᴰ x (keep f (run a n))
 unfolding keep run

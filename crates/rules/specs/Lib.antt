@@ -24,6 +24,7 @@ pub mod Text
 pub mod TextRefused
 pub mod Fasta
 pub mod FastaRead
+pub mod FastaRefused
 pub mod Facts
 pub mod FastaFacts
 pub mod Kinds

@@ -1,0 +1,39 @@
+-- What is said of the FASTA reader's refusals, in the request's words. The checks of Fasta.antt are tests; here stand the sentences
+-- that they test, about the file's own bytes. proofs/FastaRefused.antt shows that each check says its sentence.
+use mathlib.Core.Logic.{_⊎_}
+use mathlib.Core.List.{List, _∷_, List·Memᴰ}
+use mathlib.Core.Path.{_≡_}
+use Prim.Native.Nat.{ℕ, _+_, _≤_, _<_}
+use lib.ListN.{length, getD}
+use Rattle.rules.specs.Fasta.{Line, lines-from, Entry, entries, size-of}
+use Rattle.rules.specs.Limits.{Fasta-LENGTH}
+use Rattle.rules.specs.Refused.{IsLetter}
+
+-- 19: the first line from a cursor on that is not empty does not begin with >
+abbrev pub TextBefore : List ℕ → ℕ → Type 0
+TextBefore file at = (l : Line) × (ls : List Line) × (lines-from file at ≡ l ∷ ls) × (getD file (l .at) 0 ≡ 62 → ⊥)
+
+-- 20: a record's letter lines have more bytes than the buffer has left, whatever bytes they are; or the lengths table has no row
+-- left, or none that holds their number
+abbrev pub NoRoom : List ℕ → ℕ → List ℕ → ℕ → ℕ → Type 0
+NoRoom letters used lengths count size = (length letters < used + size) ⊎ (length lengths ≤ count) ⊎ (Fasta-LENGTH < size)
+
+-- 4: p is the offset in the file of the first byte of some lines that is no letter. A byte of one of these lines
+abbrev pub InLines : List Line → ℕ → Type 0
+InLines ls p = (l : Line) × List·Memᴰ l ls × (l .at ≤ p) × (p < l .at + length (l .text))
+
+pub record FirstNoLetter (file : List ℕ) (ls : List Line) (p : ℕ) : Type 0 where
+  pub inside : InLines ls p
+  pub bad : IsLetter (getD file p 0) → ⊥
+  pub before : (q : ℕ) → InLines ls q → q < p → IsLetter (getD file q 0)
+
+-- THE ORDER of what a call refuses: 19; then, of the next record, 20; then 4. 19 and 20 tell place 0
+module _ (file : List ℕ) (at : ℕ) (letters : List ℕ) (used : ℕ) (lengths : List ℕ) (count : ℕ) where
+  -- e is the next record, and no text stands before it
+  abbrev pub NextIs : Entry → Type 0
+  NextIs e = (TextBefore file at → ⊥) × (es : List Entry) × (entries (lines-from file at) ≡ e ∷ es)
+
+  pub data RefusesNext (n p : ℕ) : Type 0 where
+    text-before : n ≡ 19 → p ≡ 0 → TextBefore file at → RefusesNext n p
+    no-room : n ≡ 20 → p ≡ 0 → (e : Entry) → NextIs e → NoRoom letters used lengths count (size-of e) → RefusesNext n p
+    no-letter : n ≡ 4 → (e : Entry) → NextIs e → (NoRoom letters used lengths count (size-of e) → ⊥) → FirstNoLetter file (e .lines) p → RefusesNext n p
