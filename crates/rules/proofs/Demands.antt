@@ -4,10 +4,12 @@ use mathlib.Core.Path.{_≡_, refl, ap}
 use mathlib.Core.Logic.{_⊎_, _↔_}
 use mathlib.Core.Bool.{true}
 use mathlib.Core.List.{List, [], _∷_, _++_, List·Memᴰ}
-use Prim.Native.Nat.{ℕ, suc, _*_, _≤_, _<_, _^_}
+use Prim.Native.Nat.{ℕ, suc, _+_, _*_, _≤_, _<_, _^_}
 use lib.Dec.{leb}
 use lib.ListN.{length, take, getD}
 use Rattle.rules.specs.Calls.{begin-rule, trimmed-search, leg-rule, save-rule, restore-rule, recover-rule, join-rule}
+use Rattle.rules.specs.Fasta.{reader-checks, stays, reader-rule, Held, call}
+use Rattle.rules.specs.FastaRead.{ReadToEnd, ReadWhole, Readable}
 use Rattle.rules.specs.Legs.{Stop, ended}
 use Rattle.rules.specs.Limits.{Letter-BASES}
 use Rattle.rules.specs.Lists.{joined, keep, put, some?}
@@ -17,14 +19,14 @@ use Rattle.rules.specs.Order.{InOrder, Rising}
 use Rattle.rules.specs.Profile.{exactly, profile-of, base-of}
 use Rattle.rules.specs.Recovery.{whole-list, page}
 use Rattle.rules.specs.Refusals.{first, new-checks, restore-checks, search-checks, save-checks, recover-checks, join-checks}
-use Rattle.rules.specs.Refused.{FirstOf, Stays}
+use Rattle.rules.specs.Refused.{FirstOf, Stays, StaysOutside}
 use Rattle.rules.specs.Relay.{frequent-motifs, whole-steps, Complete, Lent, Roomy, Ample, relay, RefusedAsCut}
 use Rattle.rules.specs.Saved.{bytes, sized?, laid-out?, read-search}
 use Rattle.rules.specs.Sequences.{sequences}
 use Rattle.rules.specs.Sound.{SoundSet, SoundTemplate}
 use Rattle.rules.specs.Support.{support, counted, valid, parts, parts-in}
 use Rattle.rules.specs.Template.{none, components, size}
-use Rattle.rules.specs.Told.{gives, refuses, Verdict, fine, refused, Counts}
+use Rattle.rules.specs.Told.{gives, refuses, Verdict, fine, refused, Counts, Handing, entry, no-entry}
 use Rattle.rules.specs.Walk.{ended-place, walk-in, walk-over, walk-of, from, start, listed, goods}
 use Rattle.rules.specs.declared.Place.{Place}
 use Rattle.rules.specs.declared.Search.{Search}
@@ -32,6 +34,7 @@ use Rattle.rules.specs.declared.Template.{Template}
 use Rattle.rules.proofs.Bound.{list-bound}
 use Rattle.rules.proofs.Completes.{relay-complete, relay-ends, relay-answers, leg-complete, leg-ends}
 use Rattle.rules.proofs.Exact.{exact-search, exact-occurs, exact-motifs, exact-frequent, exact-steps}
+use Rattle.rules.proofs.FastaRefused.{FastaRefused, reader-refuses, fasta-refused}
 use Rattle.rules.proofs.First.{first-applies, unless-refuses, written-refuses, leg-refused}
 use Rattle.rules.proofs.Sentence.{follows-gap}
 use Rattle.rules.proofs.LowFirst.{Bytes}
@@ -40,6 +43,7 @@ use Rattle.rules.proofs.Occurs.{parts-worded, parts-some, rows-are}
 use Rattle.rules.proofs.Passing.{passing-from, from-passing}
 use Rattle.rules.proofs.Places.{sound-passing, passing-rule, passing-passes}
 use Rattle.rules.proofs.Prefix.{size-some}
+use Rattle.rules.proofs.Reading.{handed-stays, none-stays, read-whole, reads}
 use Rattle.rules.proofs.Refused.{EachRefusal, each-refusal}
 use Rattle.rules.proofs.Relayed.{leg-between}
 use Rattle.rules.proofs.Searches.{walk-lawful, list-rises, list-holds}
@@ -51,7 +55,7 @@ use Rattle.rules.proofs.Ways.{support-counts, support-sequences}
 
 -- ---- DEMAND 1: a call refuses exactly what its checks refuse, with the number and place of the first that applies. A refused
 -- leg has counts of 0, hands back the search that it was given and leaves its tables; a refused save, recovery or join leaves
--- its buffer.
+-- its buffer; a refused FASTA reader leaves its buffer and table, and stands where it stood.
 pub record Demand1 : Type 0 where
   -- of a call's checks, in their order, the first that applies is told, all before it being fine; so a call is refused only if one
   -- of its checks applies
@@ -60,6 +64,8 @@ pub record Demand1 : Type 0 where
   pub each : EachRefusal
   -- 18 is the printing program's: it comes before all others, exactly if a line of its input is bad, and tells the lowest that is
   pub text : TextRefused
+  -- 19 and 20 are the FASTA reader's, and so is 4 by the offset in the file: each applies exactly if the request's sentence holds
+  pub fasta : FastaRefused
   pub begin : (letters lengths : List ℕ) (t : Template) (quorum n p : ℕ)
       → (begin-rule letters lengths t quorum ≡ refuses n p) ↔ (first (new-checks letters lengths t quorum) ≡ refused n p)
   pub restore : (letters lengths bs : List ℕ) (n p : ℕ)
@@ -93,6 +99,14 @@ pub record Demand1 : Type 0 where
       → first (join-checks xs ys head low high out) ≡ refused n p → join-rule xs ys head low high out ≡ record { told = refuses n p; out = out }
   pub join-stays : (xs ys : List ℕ) (head low high : ℕ) (out : List ℕ) (k : ℕ) → (join-rule xs ys head low high out) .told ≡ gives k
       → Stays k out ((join-rule xs ys head low high out) .out)
+  pub reader : (file : List ℕ) (at : ℕ) (letters : List ℕ) (used : ℕ) (lengths : List ℕ) (count n p : ℕ)
+      → ((reader-rule file at letters used lengths count) .told ≡ refuses n p) ↔ (first (reader-checks file at letters used lengths count) ≡ refused n p)
+  pub reader-leaves : (file : List ℕ) (at : ℕ) (letters : List ℕ) (used : ℕ) (lengths : List ℕ) (count n p : ℕ)
+      → first (reader-checks file at letters used lengths count) ≡ refused n p → reader-rule file at letters used lengths count ≡ stays file at letters used lengths count (refuses n p)
+  -- where the reader finds no record all stays too, and where it hands one out all but that record's letters and its row
+  pub reader-none : (file : List ℕ) (h : Held) → (call file h) .told ≡ gives no-entry → call file h ≡ stays file (h .at) (h .letters) (h .used) (h .lengths) (h .count) (gives no-entry)
+  pub reader-stays : (file : List ℕ) (h : Held) {start end size : ℕ} → (call file h) .told ≡ gives (entry start end size)
+      → StaysOutside (h .used) (h .used + size) (h .letters) ((call file h) .letters) × StaysOutside (h .count) (suc (h .count)) (h .lengths) ((call file h) .lengths)
 
 -- ---- DEMAND 2: the list
 
@@ -146,6 +160,11 @@ pub record Demand2 : Type 0 where
       → (recover-rule letters lengths t m f out) .told ≡ gives c
       → let rows = page t (sequences letters lengths) m f (length out) in
       (c .rows ≡ length rows) × (c .length ≡ length (whole-list t (sequences letters lengths) m)) × ((recover-rule letters lengths t m f out) .out ≡ put (joined rows) out)
+  -- a FASTA file read to its end hands out its records in file order, and the sequences that a search is then lent are their letters:
+  -- so all this, and demand 3, reads of the records
+  pub fasta : (file letters lengths : List ℕ) (xs : List Handing) (k : Held) → ReadToEnd file letters lengths xs k → ReadWhole file letters lengths xs k
+  -- and it can be read so exactly if no text stands before its first record, there is room, and the records' lines hold letters alone
+  pub fasta-reads : (file letters lengths : List ℕ) → Readable file letters lengths ↔ ((xs : List Handing) × (k : Held) × ReadToEnd file letters lengths xs k)
 
 -- ---- DEMAND 3: legs, saves and restores
 
@@ -196,12 +215,13 @@ pub record Demand3 : Type 0 where
 -- ---- THE PROOFS
 
 pub demand1 : Demand1
-unfolding begin-rule restore-rule leg-rule save-rule recover-rule join-rule
+unfolding begin-rule restore-rule leg-rule save-rule recover-rule join-rule reader-rule
 demand1 =
     record {
       first-applies = first-applies;
       each = each-refusal;
       text = text-refused;
+      fasta = fasta-refused;
       begin = λ letters lengths t quorum n p. unless-refuses _ _ n p;
       restore = λ letters lengths bs n p. unless-refuses _ _ n p;
       leg = λ letters lengths s budget motifs supports weights n p. leg-refused (first (search-checks letters lengths s)) _ _ n p _ (λ n p. refl) refl;
@@ -216,6 +236,10 @@ demand1 =
       join = λ xs ys head low high out n p. written-refuses _ _ _ out n p;
       join-leaves = λ xs ys head low high out n p e. rw e;
       join-stays = join-stays;
+      reader = reader-refuses;
+      reader-leaves = λ file at letters used lengths count n p e. rw e;
+      reader-none = none-stays;
+      reader-stays = handed-stays;
     }
 
 pub demand2 : Demand2
@@ -238,6 +262,8 @@ demand2 =
       recovered-in-order = λ t ss m. rows-in-order (parts t (size t) m) ss;
       recovered-length = λ letters lengths t m set o. list-bound t o letters lengths set m;
       recovery = λ letters lengths t m f out c e. let r = written-gives (first (recover-checks letters lengths t m f)) _ c _ out e in (ap (λ c. c .rows) (r .1), ap (λ c. c .length) (r .1), r .2);
+      fasta = read-whole;
+      fasta-reads = reads;
     }
 
 -- bytes that are well formed, with a place that the search passes through, pass the checks, and back

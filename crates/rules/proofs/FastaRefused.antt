@@ -44,7 +44,7 @@ no-reason : (v : Verdict) (n p : ℕ) (At : ℕ → Type 0) → RefusesAt v n At
 no-reason v n p At r e h = never n p (sym (r n p .1 (refl, h)) ∙ e)
 
 -- what is told of a call is what its checks tell, since what it hands out is no refusal
-reader-refuses : (file : List ℕ) (at : ℕ) (letters : List ℕ) (used : ℕ) (lengths : List ℕ) (count n p : ℕ)
+pub reader-refuses : (file : List ℕ) (at : ℕ) (letters : List ℕ) (used : ℕ) (lengths : List ℕ) (count n p : ℕ)
     → ((reader-rule file at letters used lengths count) .told ≡ refuses n p) ↔ (first (reader-checks file at letters used lengths count) ≡ refused n p)
 unfolding reader-rule
 reader-refuses file at letters used lengths count n p = go (first (reader-checks file at letters used lengths count)) (entries (lines-from file at))

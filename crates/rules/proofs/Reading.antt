@@ -11,19 +11,20 @@ use native.Mathlib.Omega.{arith}
 use lib.ListN.{length, take, length-append, length-map}
 use lib.Seq.{take-at, drop-at}
 use Rattle.rules.specs.Calls.{on-refusal}
-use Rattle.rules.specs.Fasta.{lines-from, Entry, entries, letters-of, size-of, records, text-first?, check19, reader-checks, next-checks, ReaderRule, hands-out, reader-rule, cursor-after, Held, at-first, call, after, HandsOut, no-call, one-more, handing}
+use Rattle.rules.specs.Fasta.{lines-from, Entry, entries, letters-of, size-of, records, text-first?, check19, reader-checks, next-checks, ReaderRule, stays, hands-out, reader-rule, cursor-after, Held, at-first, call, after, HandsOut, no-call, one-more, handing}
 use Rattle.rules.specs.FastaRead.{ReadToEnd, ReadWhole, Readable}
 use Rattle.rules.specs.Letters.{value}
 use Rattle.rules.specs.Limits.{Fasta-LENGTH}
 use Rattle.rules.specs.Lists.{each, put-at, sum}
 use Rattle.rules.specs.Refusals.{first}
+use Rattle.rules.specs.Refused.{StaysOutside}
 use Rattle.rules.specs.Sequences.{split, sequences}
 use Rattle.rules.specs.Told.{Verdict, fine, refused, gives, refuses, Handing, entry, no-entry}
 use Rattle.rules.proofs.All.{no-member, members}
 use Rattle.rules.proofs.FastaChecks.{Room, AllLetters, none-fine, next-fine}
 use Rattle.rules.proofs.FastaLines.{Left, left-next}
 use Rattle.rules.proofs.Members.{each-out}
-use Rattle.rules.proofs.Stays.{put-stays}
+use Rattle.rules.proofs.Stays.{put-stays, put-at-stays}
 use Rattle.rules.proofs.Tables.{put-front, put-at-none, put-at-long, put-at-more}
 
 -- ---- one call
@@ -96,6 +97,22 @@ module _ (file : List ℕ) where
     -- what a caller then holds
     after-next : (e : Entry) (es : List Entry) → Left file (h .at) (e ∷ es) → Fit h e → after file h (size-of e) ≡ moved-on h e es
     after-next e es l f = rw (call-next e es l f)
+
+    -- what such a call leaves: outside the record's letters and its row nothing changes
+    pub handed-stays : {start end size : ℕ} → (call file h) .told ≡ gives (entry start end size)
+        → StaysOutside (h .used) (h .used + size) (h .letters) ((call file h) .letters) × StaysOutside (h .count) (suc (h .count)) (h .lengths) ((call file h) .lengths)
+    handed-stays {start} {end} {size} q = go (found-next q)
+      where
+        go : ((e : Entry) × (es : List Entry) × Left file (h .at) (e ∷ es) × Fit h e × (handing e ≡ entry start end size))
+            → StaysOutside (h .used) (h .used + size) (h .letters) ((call file h) .letters) × StaysOutside (h .count) (suc (h .count)) (h .lengths) ((call file h) .lengths)
+        go (e, es, l, f, s) =
+            let n : size ≡ size-of e = cc in
+            let g : suc (h .count) ≡ h .count + 1 = sym (add-one (h .count)) in
+            rw (call-next e es l f, n, g) (put-at-stays (h .used) (letters-of e) (h .letters) (f .0 .ends), put-at-stays (h .count) (size-of e ∷ []) (h .lengths) (omega (arith, f .0 .row)))
+
+    -- and one that finds none leaves all
+    pub none-stays : (call file h) .told ≡ gives no-entry → call file h ≡ stays file (h .at) (h .letters) (h .used) (h .lengths) (h .count) (gives no-entry)
+    none-stays q = gave q .1 ∙ rw (found-none q .records)
 
   -- ---- calls one after another
 

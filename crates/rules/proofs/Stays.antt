@@ -1,8 +1,9 @@
 -- Past the last thing that a call writes, its tables stay: what it writes is put to the front, and fits. A save fits by 17, a
 -- join keeps no more than its first list has, a recovery's page has as many rows as fit whole, and a leg no more than its room.
 use mathlib.Core.Path.{_≡_, refl, ap, _∙_}
+use mathlib.Core.Logic.{_⊎_, inl, inr}
 use mathlib.Core.List.{List, [], _∷_, _++_, List·Memᴰ, List·Memᴰ·head, List·Memᴰ·tail}
-use Prim.Native.Nat.{ℕ, zero, suc, _+_, _-_, _*_, _/_, _≤_, min}
+use Prim.Native.Nat.{ℕ, zero, suc, _+_, _-_, _*_, _/_, _≤_, _<_, min}
 use native.Mathlib.Nat.{div-mul-le-self, mul-le-mul-right}
 use native.Mathlib.Omega.{arith}
 use lib.ListN.{length, take, drop, getD, length-append, length-drop, length-take, length-map}
@@ -10,10 +11,10 @@ use lib.Seq.{getD-append-add, getD-drop}
 use Rattle.rules.specs.Calls.{LegRule, stretch, supports-of, weights-of, leg-rule, on-refusal, written-unless, save-rule, recover-rule, join-rule}
 use Rattle.rules.specs.Join.{partners, partnered}
 use Rattle.rules.specs.Legs.{leg}
-use Rattle.rules.specs.Lists.{keep, joined, put, some?}
+use Rattle.rules.specs.Lists.{keep, joined, put, put-at, some?}
 use Rattle.rules.specs.Recovery.{whole-list, page}
 use Rattle.rules.specs.Refusals.{first, search-checks, save-checks, recover-checks, join-checks}
-use Rattle.rules.specs.Refused.{Stays}
+use Rattle.rules.specs.Refused.{Stays, StaysOutside}
 use Rattle.rules.specs.Saved.{bytes}
 use Rattle.rules.specs.Sequences.{sequences}
 use Rattle.rules.specs.Sound.{SoundTemplate}
@@ -29,6 +30,7 @@ use Rattle.rules.proofs.Lists.{keep-few}
 use Rattle.rules.proofs.Occurs.{parts-worded, parts-some, rows-are}
 use Rattle.rules.proofs.Prefix.{size-some}
 use Rattle.rules.proofs.Sound.{save-sound, recover-sound, join-sound}
+use Rattle.rules.proofs.Tables.{put-at-long, put-at-before, put-at-past}
 
 -- ---- a list put to the front of a table
 
@@ -41,6 +43,14 @@ put-stays n xs table fits few = record { long = omega (arith, length-append xs (
     past i h =
         let e : length xs + (i - length xs) ≡ i = omega arith in
         rw e at (getD-append-add xs (drop (length xs) table) (i - length xs) 0 ∙ getD-drop (length xs) table (i - length xs) 0)
+
+-- and if it is put to it from place n on, the table stays before that and past it
+pub put-at-stays : (n : ℕ) (xs table : List ℕ) → n + length xs ≤ length table → StaysOutside n (n + length xs) table (put-at n xs table)
+put-at-stays n xs table fits = record { long = put-at-long n xs table fits; past = past }
+  where
+    past : (i : ℕ) → (i < n) ⊎ (n + length xs ≤ i) → getD (put-at n xs table) i 0 ≡ getD table i 0
+    past i (inl h) = put-at-before n xs table i (omega arith) h
+    past i (inr h) = put-at-past n xs table i (omega arith) h
 
 -- where something is told the checks found nothing, and what is written then is put to the front
 written-stays : {A : Type 0} (v : Verdict) (a c : A) (xs out : List ℕ) (n : ℕ) → (written-unless v a xs out) .told ≡ gives c

@@ -1,12 +1,12 @@
 -- Lists as loops meet them: what f makes of a front or a rest, what is left to add up, and what is put to the front of a table.
 use mathlib.Core.List.{List, [], _∷_, _++_, map, append-assoc}
 use mathlib.Core.Path.{_≡_, refl, sym, ap, _∙_}
-use Prim.Native.Nat.{ℕ, zero, suc, _+_, _≤_, _<_, min}
+use Prim.Native.Nat.{ℕ, zero, suc, _+_, _-_, _≤_, _<_, min}
 use native.Mathlib.Nat.{zero-min, min-zero, suc-min-suc}
 use native.Mathlib.Numerals.{add-one}
 use native.Mathlib.Omega.{arith}
-use lib.ListN.{length, take, drop, getD, set, take-append-drop, length-append, length-drop, drop-of-length-le}
-use lib.Seq.{drop-cons, drop-drop, length-take-le, set-append-seam, take-append-seam, take-at, drop-at}
+use lib.ListN.{length, take, drop, getD, set, take-append-drop, length-append, length-drop, drop-of-length-le, List·getD-append}
+use lib.Seq.{drop-cons, drop-drop, length-take-le, set-append-seam, take-append-seam, take-at, drop-at, getD-take, getD-drop, getD-append-add}
 use Rattle.rules.specs.Lists.{sum, put, put-at}
 
 -- ---- f of a list
@@ -89,3 +89,17 @@ put-at-more n xs ys table h =
     let a : length (take n table ++ xs) ≡ n + length xs = omega (arith, length-append (take n table) xs, length-take-le n table (omega arith)) in
     rw (← (append-assoc (take n table) xs rest), take-at (take n table ++ xs) rest (n + length xs) a, drop-at (take n table ++ xs) rest (n + length xs) a, length-append xs ys, ← (drop-drop (length ys) (length xs) (drop n table)), append-assoc xs ys)
     (append-assoc (take n table) xs _)
+
+-- it stands as it was before that place, and past what is written
+pub put-at-before : (n : ℕ) (xs table : List ℕ) (i : ℕ) → n ≤ length table → i < n → getD (put-at n xs table) i 0 ≡ getD table i 0
+unfolding put-at
+put-at-before n xs table i h l = List·getD-append (take n table) (put xs (drop n table)) 0 i (omega (arith, length-take-le n table h)) ∙ getD-take n table i 0 l
+
+pub put-at-past : (n : ℕ) (xs table : List ℕ) (i : ℕ) → n ≤ length table → n + length xs ≤ i → getD (put-at n xs table) i 0 ≡ getD table i 0
+unfolding put-at put
+put-at-past n xs table i h l =
+    let k = i - (n + length xs) in
+    let a : length (take n table) + (length xs + k) ≡ i = omega (arith, length-take-le n table h) in
+    let b : n + (length xs + k) ≡ i = omega arith in
+    let c = getD-append-add (take n table) (xs ++ drop (length xs) (drop n table)) (length xs + k) 0 ∙ getD-append-add xs (drop (length xs) (drop n table)) k 0 ∙ getD-drop (length xs) (drop n table) k 0 ∙ getD-drop n table (length xs + k) 0 in
+    rw (a, b) at c

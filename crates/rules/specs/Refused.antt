@@ -126,3 +126,8 @@ BadList xs = NotRising xs ⊎ Misplaced xs
 pub record Stays (n : ℕ) (before after : List ℕ) : Type 0 where
   pub long : length after ≡ length before
   pub past : (i : ℕ) → n ≤ i → getD after i 0 ≡ getD before i 0
+
+-- and of one outside `from` to `to`: it holds what it held before the one, and from the other on
+pub record StaysOutside (from to : ℕ) (before after : List ℕ) : Type 0 where
+  pub long : length after ≡ length before
+  pub past : (i : ℕ) → (i < from) ⊎ (to ≤ i) → getD after i 0 ≡ getD before i 0
