@@ -1,7 +1,7 @@
 -- THE USER'S THREE DEMANDS, of the rules of the public calls (specs/Calls.antt), which the calls promise to keep. The
 -- statements stand in front, the proofs behind them.
 use mathlib.Core.Path.{_≡_, refl, ap}
-use mathlib.Core.Logic.{_⊎_, _↔_}
+use mathlib.Core.Logic.{_↔_}
 use mathlib.Core.Bool.{true}
 use mathlib.Core.List.{List, [], _∷_, _++_, List·Memᴰ}
 use Prim.Native.Nat.{ℕ, suc, _+_, _*_, _≤_, _<_, _^_}
@@ -20,8 +20,8 @@ use Rattle.rules.specs.Profile.{exactly, profile-of, base-of}
 use Rattle.rules.specs.Recovery.{whole-list, page}
 use Rattle.rules.specs.Refusals.{first, new-checks, restore-checks, search-checks, save-checks, recover-checks, join-checks}
 use Rattle.rules.specs.Refused.{FirstOf, Stays, StaysOutside}
-use Rattle.rules.specs.Relay.{frequent-motifs, whole-steps, Complete, Lent, Roomy, Ample, relay, RefusedAsCut}
-use Rattle.rules.specs.Saved.{bytes, sized?, laid-out?, read-search}
+use Rattle.rules.specs.Relay.{frequent-motifs, whole-steps, Complete, Lent, Roomy, Ample, relay, RefusedAsCut, WellFormed, Through}
+use Rattle.rules.specs.Saved.{bytes, read-search}
 use Rattle.rules.specs.Sequences.{sequences}
 use Rattle.rules.specs.Sound.{SoundSet, SoundTemplate}
 use Rattle.rules.specs.Support.{support, counted, valid, parts, parts-in}
@@ -31,6 +31,7 @@ use Rattle.rules.specs.Walk.{ended-place, walk-in, walk-over, walk-of, f
 use Rattle.rules.specs.declared.Place.{Place}
 use Rattle.rules.specs.declared.Search.{Search}
 use Rattle.rules.specs.declared.Template.{Template}
+use Rattle.rules.proofs.Accepts.{restore-accepts}
 use Rattle.rules.proofs.Bound.{list-bound}
 use Rattle.rules.proofs.Completes.{relay-complete, relay-ends, relay-answers, leg-complete, leg-ends}
 use Rattle.rules.proofs.Exact.{exact-search, exact-occurs, exact-motifs, exact-frequent, exact-steps}
@@ -40,15 +41,12 @@ use Rattle.rules.proofs.Sentence.{follows-gap}
 use Rattle.rules.proofs.LowFirst.{Bytes}
 use Rattle.rules.proofs.OccurrenceOrder.{rows-in-order}
 use Rattle.rules.proofs.Occurs.{parts-worded, parts-some, rows-are}
-use Rattle.rules.proofs.Passing.{passing-from, from-passing}
-use Rattle.rules.proofs.Places.{sound-passing, passing-rule, passing-passes}
 use Rattle.rules.proofs.Prefix.{size-some}
 use Rattle.rules.proofs.Reading.{handed-stays, none-stays, read-whole, reads}
 use Rattle.rules.proofs.Refused.{EachRefusal, each-refusal}
 use Rattle.rules.proofs.Relayed.{leg-between}
-use Rattle.rules.proofs.Searches.{walk-lawful, list-rises, list-holds}
-use Rattle.rules.proofs.Saves.{written-gives, restore-exactly, restore-saved, ended-restores, save-restored, restored-cut, saved-cut}
-use Rattle.rules.proofs.Sound.{SoundBytes}
+use Rattle.rules.proofs.Searches.{list-rises, list-holds}
+use Rattle.rules.proofs.Saves.{written-gives, restore-saved, ended-restores, save-restored, restored-cut, saved-cut}
 use Rattle.rules.proofs.Stays.{save-stays, recover-stays, join-stays, leg-stays}
 use Rattle.rules.proofs.TextRefused.{TextRefused, text-refused}
 use Rattle.rules.proofs.Ways.{support-counts, support-sequences}
@@ -168,21 +166,6 @@ pub record Demand2 : Type 0 where
 
 -- ---- DEMAND 3: legs, saves and restores
 
--- bytes that hold a search over the lent sequences, field by field, wherever it stands
-pub record WellFormed (letters lengths bs : List ℕ) : Type 0 where
-  pub set : SoundSet letters lengths
-  pub sized : sized? bs ≡ true
-  pub laid-out : laid-out? bs ≡ true
-  pub template : SoundTemplate (read-search bs .template)
-  pub count : read-search bs .set .sequences ≡ length lengths
-  pub total : read-search bs .set .letters ≡ length letters
-  pub some : 1 ≤ read-search bs .quorum
-  pub most : read-search bs .quorum ≤ length lengths
-
--- the uninterrupted search passes through the place of s, or has ended there
-abbrev pub Through : List ℕ → List ℕ → Search → Type 0
-Through letters lengths s = (s .place ≡ ended-place) ⊎ List·Memᴰ (s .place) (from (walk-of letters lengths s) (start (walk-of letters lengths s)))
-
 pub record Demand3 : Type 0 where
   -- the lists of a new search's legs, laid end to end, are demand 2's list once one answers ended, and the steps add up
   pub end-to-end : (letters lengths : List ℕ) (t : Template) (quorum : ℕ) (s : Search) (gs : List Lent) → begin-rule letters lengths t quorum ≡ gives s
@@ -266,34 +249,6 @@ demand2 =
       fasta-reads = reads;
     }
 
--- bytes that are well formed, with a place that the search passes through, pass the checks, and back
-well-formed : (letters lengths bs : List ℕ) → SoundBytes letters lengths bs → WellFormed letters lengths bs × Through letters lengths (read-search bs)
-well-formed letters lengths bs o =
-    let k = o .search in
-    let t = read-search bs .template in let q = read-search bs .quorum in let ss = sequences letters lengths in (
-      record { set = k .set; sized = o .sized; laid-out = o .laid-out; template = k .template; count = k .count; total = k .total; some = k .some; most = k .most },
-      passing-from (walk-over t q ss) (walk-lawful t q ss (k .template)) _ (sound-passing letters lengths (read-search bs) k),
-    )
-
-passes-checks : (letters lengths bs : List ℕ) → WellFormed letters lengths bs → Through letters lengths (read-search bs) → SoundBytes letters lengths bs
-passes-checks letters lengths bs w h =
-    let t = read-search bs .template in let q = read-search bs .quorum in let ss = sequences letters lengths in
-    let p = from-passing (walk-over t q ss) (walk-lawful t q ss (w .template)) _ h in
-    record {
-      sized = w .sized;
-      laid-out = w .laid-out;
-      search = record {
-        set = w .set;
-        template = w .template;
-        place = passing-rule t q ss (w .template) _ p;
-        count = w .count;
-        total = w .total;
-        some = w .some;
-        most = w .most;
-        passes = passing-passes letters lengths (read-search bs) _ p;
-      };
-    }
-
 pub demand3 : Demand3
 demand3 =
     record {
@@ -301,10 +256,7 @@ demand3 =
       ends = λ letters lengths t quorum s gs b. relay-ends letters lengths t quorum s b gs;
       answers = λ letters lengths t quorum s gs b. relay-answers letters lengths t quorum s b gs;
       between = leg-between;
-      accepts = λ letters lengths bs s. (
-        λ e. let h = restore-exactly letters lengths bs s .0 e in let w = well-formed letters lengths bs (h .0) in (w .0, w .1, h .1),
-        λ h. restore-exactly letters lengths bs s .1 (passes-checks letters lengths bs (h .0) (h .1), h .2),
-      );
+      accepts = restore-accepts;
       restores = restore-saved;
       ended-restores = ended-restores;
       same-bytes = λ letters lengths bs s b e. save-restored letters lengths bs s e b;

@@ -51,6 +51,7 @@ pub mod Laid
 pub mod Truncated
 pub mod Saves
 pub mod Places
+pub mod Accepts
 pub mod Refused
 pub mod Stays
 pub mod FastaChecks

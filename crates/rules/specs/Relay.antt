@@ -1,6 +1,8 @@
 -- A search run in legs, each with a budget and tables of its own, saved and restored over the same sequences between legs;
--- and what the user asks that it comes to.
-use mathlib.Core.List.{List, [], _∷_, _++_, map}
+-- and what the user asks that it comes to. Then how bytes that were cut short are refused, and which are restored.
+use mathlib.Core.Bool.{true}
+use mathlib.Core.List.{List, [], _∷_, _++_, map, List·Memᴰ}
+use mathlib.Core.Logic.{_⊎_}
 use mathlib.Core.Path.{_≡_}
 use Prim.Native.Nat.{ℕ, _+_, _*_, _≤_}
 use lib.Dec.{eqb}
@@ -10,11 +12,13 @@ use Rattle.rules.specs.Legs.{Stop, ended, spent, full}
 use Rattle.rules.specs.Limits.{Record-BYTES, Record-EXTRA}
 use Rattle.rules.specs.Lists.{if}
 use Rattle.rules.specs.Refusals.{first, set-checks}
+use Rattle.rules.specs.Saved.{sized?, laid-out?, read-search}
+use Rattle.rules.specs.Sound.{SoundSet, SoundTemplate}
 use Rattle.rules.specs.Support.{support, weight, parts}
 use Rattle.rules.specs.Template.{size}
 use Rattle.rules.specs.Told.{Told, gives, refuses}
 use Rattle.rules.specs.Walk as walk
-use Rattle.rules.specs.Walk.{walk-over}
+use Rattle.rules.specs.Walk.{ended-place, walk-over, walk-of, from, start}
 use Rattle.rules.specs.declared.Search.{Search}
 use Rattle.rules.specs.declared.Template.{Template}
 
@@ -126,3 +130,18 @@ module _ (letters lengths : List ℕ) where
 -- HOW BYTES THAT WERE CUT SHORT ARE REFUSED, whatever sequences are lent: as 1 to 4 refuse these, and with 10 where they pass
 abbrev pub RefusedAsCut : List ℕ → Type 0
 RefusedAsCut bs = (letters lengths : List ℕ) → restore-rule letters lengths bs ≡ on-refusal (first (set-checks letters lengths)) refuses (refuses 10 0)
+
+-- WHICH BYTES ARE RESTORED: those that hold a search over the lent sequences, field by field, wherever it stands
+pub record WellFormed (letters lengths bs : List ℕ) : Type 0 where
+  pub set : SoundSet letters lengths
+  pub sized : sized? bs ≡ true
+  pub laid-out : laid-out? bs ≡ true
+  pub template : SoundTemplate (read-search bs .template)
+  pub count : read-search bs .set .sequences ≡ length lengths
+  pub total : read-search bs .set .letters ≡ length letters
+  pub some : 1 ≤ read-search bs .quorum
+  pub most : read-search bs .quorum ≤ length lengths
+
+-- the uninterrupted search passes through the place of s, or has ended there
+abbrev pub Through : List ℕ → List ℕ → Search → Type 0
+Through letters lengths s = (s .place ≡ ended-place) ⊎ List·Memᴰ (s .place) (from (walk-of letters lengths s) (start (walk-of letters lengths s)))
