@@ -36,6 +36,7 @@ use Rattle.rules.proofs.Bound.{list-bound}
 use Rattle.rules.proofs.Completes.{relay-complete, relay-ends, relay-answers, leg-complete, leg-ends}
 use Rattle.rules.proofs.Exact.{exact-search, exact-occurs, exact-motifs, exact-frequent, exact-steps}
 use Rattle.rules.proofs.FastaRefused.{FastaRefused, reader-refuses, fasta-refused}
+use Rattle.rules.proofs.FastaWritten.{FastaWritten, fasta-written}
 use Rattle.rules.proofs.First.{first-applies, unless-refuses, written-refuses, leg-refused}
 use Rattle.rules.proofs.Sentence.{follows-gap}
 use Rattle.rules.proofs.LowFirst.{Bytes}
@@ -158,6 +159,8 @@ pub record Demand2 : Type 0 where
       → (recover-rule letters lengths t m f out) .told ≡ gives c
       → let rows = page t (sequences letters lengths) m f (length out) in
       (c .rows ≡ length rows) × (c .length ≡ length (whole-list t (sequences letters lengths) m)) × ((recover-rule letters lengths t m f out) .out ≡ put (joined rows) out)
+  -- a FASTA file holds the lines and the records that it was written from, and every file can be written from such
+  pub fasta-holds : FastaWritten
   -- a FASTA file read to its end hands out its records in file order, and the sequences that a search is then lent are their letters:
   -- so all this, and demand 3, reads of the records
   pub fasta : (file letters lengths : List ℕ) (xs : List Handing) (k : Held) → ReadToEnd file letters lengths xs k → ReadWhole file letters lengths xs k
@@ -245,6 +248,7 @@ demand2 =
       recovered-in-order = λ t ss m. rows-in-order (parts t (size t) m) ss;
       recovered-length = λ letters lengths t m set o. list-bound t o letters lengths set m;
       recovery = λ letters lengths t m f out c e. let r = written-gives (first (recover-checks letters lengths t m f)) _ c _ out e in (ap (λ c. c .rows) (r .1), ap (λ c. c .length) (r .1), r .2);
+      fasta-holds = fasta-written;
       fasta = read-whole;
       fasta-reads = reads;
     }

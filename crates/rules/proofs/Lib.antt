@@ -39,6 +39,8 @@ pub mod TextLines
 pub mod TextRefused
 pub mod FastaLines
 pub mod FastaLaid
+pub mod WrittenLines
+pub mod FastaWritten
 pub mod LaidOut
 pub mod Sound
 pub mod Wide

@@ -106,7 +106,7 @@ lined input = go (pieces 10 input) (cut-in 10 input)
     }
 
 -- lines and a rest that are so are its pieces
-pieces-lined : (ls : List (List ℕ)) (rest : List ℕ) → WithoutAll 10 ls → Without 10 rest → pieces 10 (each with-end ls ++ rest) ≡ ls ++ (rest ∷ [])
+pub pieces-lined : (ls : List (List ℕ)) (rest : List ℕ) → WithoutAll 10 ls → Without 10 rest → pieces 10 (each with-end ls ++ rest) ≡ ls ++ (rest ∷ [])
 unfolding each
 pieces-lined [] rest h k = pieces-one 10 rest k
 pieces-lined (l ∷ ls) rest h k =

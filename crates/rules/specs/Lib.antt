@@ -25,6 +25,7 @@ pub mod TextRefused
 pub mod Fasta
 pub mod FastaRead
 pub mod FastaRefused
+pub mod FastaWritten
 pub mod Facts
 pub mod FastaFacts
 pub mod Kinds
