@@ -8,11 +8,11 @@ use Prim.Native.Nat.{ℕ, suc, _+_, _*_, _≤_, _<_, _^_}
 use lib.Dec.{leb}
 use lib.ListN.{length, take, getD}
 use Rattle.rules.specs.Calls.{begin-rule, trimmed-search, leg-rule, save-rule, restore-rule, recover-rule, join-rule}
-use Rattle.rules.specs.Fasta.{reader-checks, stays, reader-rule, Held, call}
+use Rattle.rules.specs.Fasta.{letters-of, records, reader-checks, stays, reader-rule, Held, call}
 use Rattle.rules.specs.FastaRead.{ReadToEnd, ReadWhole, Readable}
 use Rattle.rules.specs.Legs.{Stop, ended}
 use Rattle.rules.specs.Limits.{Letter-BASES}
-use Rattle.rules.specs.Lists.{joined, keep, put, some?}
+use Rattle.rules.specs.Lists.{each, joined, keep, put, some?}
 use Rattle.rules.specs.Occurrence.{occurrences, nth, Follows, Occurs, Gap, OccursExactly}
 use Rattle.rules.specs.Motif.{spell}
 use Rattle.rules.specs.Order.{InOrder, Rising}
@@ -35,6 +35,8 @@ use Rattle.rules.proofs.Accepts.{restore-accepts}
 use Rattle.rules.proofs.Bound.{list-bound}
 use Rattle.rules.proofs.Completes.{relay-complete, relay-ends, relay-answers, leg-complete, leg-ends}
 use Rattle.rules.proofs.Exact.{exact-search, exact-occurs, exact-motifs, exact-frequent, exact-steps}
+use Rattle.rules.proofs.FastaFits.{records-fit}
+use Rattle.rules.proofs.FastaProgram.{FastaProgram, fasta-program}
 use Rattle.rules.proofs.FastaRefused.{FastaRefused, reader-refuses, fasta-refused}
 use Rattle.rules.proofs.FastaWritten.{FastaWritten, fasta-written}
 use Rattle.rules.proofs.First.{first-applies, unless-refuses, written-refuses, leg-refused}
@@ -159,13 +161,18 @@ pub record Demand2 : Type 0 where
       → (recover-rule letters lengths t m f out) .told ≡ gives c
       → let rows = page t (sequences letters lengths) m f (length out) in
       (c .rows ≡ length rows) × (c .length ≡ length (whole-list t (sequences letters lengths) m)) × ((recover-rule letters lengths t m f out) .out ≡ put (joined rows) out)
-  -- a FASTA file holds the lines and the records that it was written from, and every file can be written from such
+  -- a FASTA file holds the lines and the records that it was written from; every file is written from lines, and from records if no
+  -- text stands before the first
   pub fasta-holds : FastaWritten
   -- a FASTA file read to its end hands out its records in file order, and the sequences that a search is then lent are their letters:
   -- so all this, and demand 3, reads of the records
   pub fasta : (file letters lengths : List ℕ) (xs : List Handing) (k : Held) → ReadToEnd file letters lengths xs k → ReadWhole file letters lengths xs k
   -- and it can be read so exactly if no text stands before its first record, there is room, and the records' lines hold letters alone
   pub fasta-reads : (file letters lengths : List ℕ) → Readable file letters lengths ↔ ((xs : List Handing) × (k : Held) × ReadToEnd file letters lengths xs k)
+  -- a buffer and a table as long as the file are always room enough
+  pub fasta-room : (file : List ℕ) → length (each letters-of (records file)) + length (records file) ≤ length file
+  -- the program `lines` prints the records' letters, one sequence a line, for the printing program to search
+  pub fasta-lines : FastaProgram
 
 -- ---- DEMAND 3: legs, saves and restores
 
@@ -251,6 +258,8 @@ demand2 =
       fasta-holds = fasta-written;
       fasta = read-whole;
       fasta-reads = reads;
+      fasta-room = records-fit;
+      fasta-lines = fasta-program;
     }
 
 pub demand3 : Demand3

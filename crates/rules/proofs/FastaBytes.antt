@@ -52,7 +52,7 @@ behind-first file l m e some fits =
     ap (take m) (sym (drop-drop 1 (l .at) file) ∙ ap (drop 1) w ∙ drop-append-le 1 (l .text) rest some) ∙ take-append-le m (drop 1 (l .text)) rest fits
 
 -- a line that begins with > is not empty
-mark-some : (l : Line) → header? l ≡ true → 1 ≤ length (l .text)
+pub mark-some : (l : Line) → header? l ≡ true → 1 ≤ length (l .text)
 unfolding header?
 mark-some l h = go (l .text) (eqb-true _ _ h)
   where

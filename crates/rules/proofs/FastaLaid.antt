@@ -42,7 +42,7 @@ Laid file o (l ∷ ls) = (o ≤ l .at) × InFile file l × Laid file (l .at + le
 
 module _ (file : List ℕ) where
   -- from an earlier offset on they are laid too
-  laid-from : (o p : ℕ) (ls : List Line) → o ≤ p → Laid file p ls → Laid file o ls
+  pub laid-from : (o p : ℕ) (ls : List Line) → o ≤ p → Laid file p ls → Laid file o ls
   laid-from o p [] h d = tt
   laid-from o p (l ∷ ls) h d = (omega (arith, d .0), d .1, d .2)
 

@@ -59,6 +59,8 @@ pub mod Stays
 pub mod FastaChecks
 pub mod FastaBytes
 pub mod FastaRefused
+pub mod FastaFits
+pub mod FastaProgram
 pub mod Reading
 pub mod Begins
 pub mod Relayed

@@ -47,6 +47,12 @@ unfolding each
 each-same f g [] h = refl
 each-same f g (x ∷ xs) h = rw (h x, each-same f g xs h)
 
+-- each of what g makes
+pub each-map : {A B C : Type 0} (f : B → List C) (g : A → B) (xs : List A) → each f (map g xs) ≡ each (λ x. f (g x)) xs
+unfolding each
+each-map f g [] = refl
+each-map f g (x ∷ xs) = ap (λ l. f (g x) ++ l) (each-map f g xs)
+
 -- each of what is kept
 pub each-keep : {A B : Type 0} (f : A → List B) (g : A → Bool) (xs : List A) → each f (keep g xs) ≡ each (λ x. if (g x) (f x) []) xs
 unfolding each keep

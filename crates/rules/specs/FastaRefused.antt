@@ -1,13 +1,18 @@
--- What is said of the FASTA reader's refusals, in the request's words. The checks of Fasta.antt are tests; here stand the sentences
--- that they test, about the file's own bytes. proofs/FastaRefused.antt shows that each check says its sentence.
+-- What is said of the FASTA reader's refusals, and of those of the program `lines`, in the request's words. The checks of Fasta.antt
+-- are tests; here stand the sentences that they test, about the file's own bytes. proofs/FastaRefused.antt and proofs/FastaProgram.antt
+-- show that each check says its sentence.
 use mathlib.Core.Logic.{_⊎_}
-use mathlib.Core.List.{List, _∷_, List·Memᴰ}
+use mathlib.Core.List.{List, _∷_, _++_, List·Memᴰ}
 use mathlib.Core.Path.{_≡_}
 use Prim.Native.Nat.{ℕ, _+_, _≤_, _<_}
 use lib.ListN.{length, getD}
-use Rattle.rules.specs.Fasta.{Line, lines-from, Entry, entries, size-of}
-use Rattle.rules.specs.Limits.{Fasta-LENGTH}
+use Rattle.rules.specs.Fasta.{Line, lines-from, Entry, entries, size-of, records}
+use Rattle.rules.specs.Limits.{Fasta-BYTES, Fasta-LENGTH}
+use Rattle.rules.specs.Lists.{each}
 use Rattle.rules.specs.Refused.{IsLetter}
+use Rattle.rules.specs.Text.{decimal, template-text}
+use Rattle.rules.specs.TextRefused.{with-end}
+use Rattle.rules.specs.declared.Component.{Component}
 
 -- 19: the first line from a cursor on that is not empty does not begin with >
 abbrev pub TextBefore : List ℕ → ℕ → Type 0
@@ -37,3 +42,17 @@ module _ (file : List ℕ) (at : ℕ) (letters : List ℕ) (used : ℕ) (lengths
     text-before : n ≡ 19 → p ≡ 0 → TextBefore file at → RefusesNext n p
     no-room : n ≡ 20 → p ≡ 0 → (e : Entry) → NextIs e → NoRoom letters used lengths count (size-of e) → RefusesNext n p
     no-letter : n ≡ 4 → (e : Entry) → NextIs e → (NoRoom letters used lengths count (size-of e) → ⊥) → FirstNoLetter file (e .lines) p → RefusesNext n p
+
+-- THE PROGRAM `lines` refuses a file that it cannot hold, above 1 MiB, with 20; then 19; then 4, with the first byte that is no letter
+-- of the lines of all its records
+abbrev pub letter-lines : List ℕ → List Line
+letter-lines file = each (λ e. e .lines) (records file)
+
+pub data LinesRefuses (file : List ℕ) (n p : ℕ) : Type 0 where
+  too-long : n ≡ 20 → p ≡ 0 → Fasta-BYTES < length file → LinesRefuses file n p
+  text-first : n ≡ 19 → p ≡ 0 → length file ≤ Fasta-BYTES → TextBefore file 0 → LinesRefuses file n p
+  bad-letter : n ≡ 4 → length file ≤ Fasta-BYTES → (TextBefore file 0 → ⊥) → FirstNoLetter file (letter-lines file) p → LinesRefuses file n p
+
+-- WHAT IT PRINTS otherwise is the sequences of an input of the printing program, which has a template and a quorum before them
+abbrev pub input-of : List Component → ℕ → List ℕ → List ℕ
+input-of cs quorum sequences = with-end (template-text cs) ++ (with-end (decimal quorum) ++ sequences)
