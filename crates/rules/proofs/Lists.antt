@@ -6,7 +6,7 @@ use Prim.Native.Nat.{ℕ, zero, suc, _+_, _-_, _*_, _≤_, _<_}
 use native.Mathlib.Nat.{zero-mul, add-zero, zero-add}
 use native.Mathlib.Omega.{arith}
 use lib.ListN.{length}
-use Rattle.rules.specs.Lists.{run, if, keep, each, some?}
+use Rattle.rules.specs.Lists.{run, if, keep, each, joined, some?}
 
 pub keep-append : {A : Type 0} (f : A → Bool) (xs ys : List A) → keep f (xs ++ ys) ≡ keep f xs ++ keep f ys
 unfolding keep
@@ -52,6 +52,12 @@ pub each-map : {A B C : Type 0} (f : B → List C) (g : A → B) (xs : List A) �
 unfolding each
 each-map f g [] = refl
 each-map f g (x ∷ xs) = ap (λ l. f (g x) ++ l) (each-map f g xs)
+
+-- lists laid end to end
+pub each-joined : {A B : Type 0} (f : A → List B) (xs : List A) → each f xs ≡ joined (map f xs)
+unfolding each joined
+each-joined f [] = refl
+each-joined f (x ∷ xs) = ap (λ l. f x ++ l) (each-joined f xs)
 
 -- each of what is kept
 pub each-keep : {A B : Type 0} (f : A → List B) (g : A → Bool) (xs : List A) → each f (keep g xs) ≡ each (λ x. if (g x) (f x) []) xs

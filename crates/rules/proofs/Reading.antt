@@ -4,12 +4,11 @@
 use mathlib.Core.Path.{_≡_, refl, sym, ap, _∙_}
 use mathlib.Core.Logic.{_↔_}
 use mathlib.Core.Bool.{false}
-use mathlib.Core.List.{List, [], _∷_, map, map-append, List·Memᴰ, List·Memᴰ·head, List·Memᴰ·tail}
+use mathlib.Core.List.{List, [], _∷_, map, map-map, List·Memᴰ, List·Memᴰ·head, List·Memᴰ·tail}
 use Prim.Native.Nat.{ℕ, suc, _+_, _≤_}
 use native.Mathlib.Numerals.{add-one}
 use native.Mathlib.Omega.{arith}
 use lib.ListN.{length, take, length-append, length-map}
-use lib.Seq.{take-at, drop-at}
 use Rattle.rules.specs.Calls.{on-refusal}
 use Rattle.rules.specs.Fasta.{lines-from, Entry, entries, letters-of, size-of, records, text-first?, check19, reader-checks, next-checks, ReaderRule, stays, hands-out, reader-rule, cursor-after, Held, at-first, call, after, HandsOut, no-call, one-more, handing}
 use Rattle.rules.specs.FastaRead.{ReadToEnd, ReadWhole, Readable}
@@ -23,9 +22,11 @@ use Rattle.rules.specs.Told.{Verdict, fine, refused, gives, refuses, Han
 use Rattle.rules.proofs.All.{no-member, members}
 use Rattle.rules.proofs.FastaChecks.{Room, AllLetters, none-fine, next-fine}
 use Rattle.rules.proofs.FastaLines.{Left, left-next}
+use Rattle.rules.proofs.Lists.{each-joined}
 use Rattle.rules.proofs.Members.{each-out}
 use Rattle.rules.proofs.Stays.{put-stays, put-at-stays}
 use Rattle.rules.proofs.Tables.{put-front, put-at-none, put-at-long, put-at-more}
+use Rattle.rules.proofs.TextRefused.{split-joined}
 
 -- ---- one call
 
@@ -207,11 +208,7 @@ module _ (file : List ℕ) where
 
 -- letters joined and split by their numbers
 split-each : (es : List Entry) → split (map size-of es) (map value (each letters-of es)) ≡ map (λ e. map value (letters-of e)) es
-unfolding split each
-split-each [] = refl
-split-each (e ∷ es) =
-    let n = length-map (letters-of e) value in
-    rw (map-append, take-at (map value (letters-of e)) (map value (each letters-of es)) (size-of e) n, drop-at (map value (letters-of e)) (map value (each letters-of es)) (size-of e) n, split-each es)
+split-each es = rw (each-joined letters-of es, ← (map-map length letters-of es), ← (map-map (map value) letters-of es)) (split-joined (map letters-of es))
 
 -- the numbers add up
 sum-sizes : (es : List Entry) → sum (map size-of es) ≡ length (each letters-of es)

@@ -66,7 +66,7 @@ unfolding print-rule
 told-first input p l = rw (refused-lowest input 18 p .1 (refl, l))
 
 -- sequences laid end to end, split by their lengths
-split-joined : (ss : List (List ℕ)) → split (map length ss) (map value (joined ss)) ≡ map (map value) ss
+pub split-joined : (ss : List (List ℕ)) → split (map length ss) (map value (joined ss)) ≡ map (map value) ss
 unfolding split joined
 split-joined [] = refl
 split-joined (s ∷ ss) =
