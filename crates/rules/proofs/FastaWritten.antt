@@ -11,11 +11,13 @@ use lib.Dec.{eqb}
 use lib.ListN.{length, getD, replicate}
 use borrow.Author.Tests.{eq-eqb, ne-eqb, eqb-true, eqb-false}
 use Rattle.rules.specs.Fasta.{Line, line, lines-of, text?, lines-from, header?, up-to-header, entries, blank?, up-to-blank, name-of, texts, letters-of, records, text-first?}
+use Rattle.rules.specs.FastaRefused.{TextBefore}
 use Rattle.rules.specs.FastaWritten.{WrittenLine, InWrittenLines, WrittenRecord, record-texts, ProperRecord, InWrittenRecords}
 use Rattle.rules.specs.Lists.{if, each, joined, keep, some?}
 use Rattle.rules.specs.Text.{pieces}
 use Rattle.rules.proofs.All.{no-member, members}
 use Rattle.rules.proofs.EachCheck.{same}
+use Rattle.rules.proofs.FastaBytes.{text-says}
 use Rattle.rules.proofs.Tests.{either, denied, not-false}
 use Rattle.rules.proofs.WrittenLines.{lines-are, file-written}
 
@@ -27,9 +29,9 @@ pub record FastaWritten : Type 0 where
   pub lines-of-each : (file : List ℕ) → (ws : List WrittenLine) × (last : List ℕ) × InWrittenLines file ws last
   -- the records of a file are those that it was written from: their names, and their letters joined; and no text stands before them
   pub records-back : (file : List ℕ) (rs : List WrittenRecord) → InWrittenRecords file rs
-      → (map name-of (records file) ≡ map (λ r. r .name) rs) × (map letters-of (records file) ≡ map (λ r. joined (r .parts)) rs) × (text-first? (lines-from file 0) ≡ false)
+      → (map name-of (records file) ≡ map (λ r. r .name) rs) × (map letters-of (records file) ≡ map (λ r. joined (r .parts)) rs) × (TextBefore file 0 → ⊥)
   -- and every file with no text before its first record can be written from records
-  pub records-of-each : (file : List ℕ) → text-first? (lines-from file 0) ≡ false → (rs : List WrittenRecord) × InWrittenRecords file rs
+  pub records-of-each : (file : List ℕ) → (TextBefore file 0 → ⊥) → (rs : List WrittenRecord) × InWrittenRecords file rs
 
 -- ---- records read back
 
@@ -190,4 +192,10 @@ file-in-records file n =
     (rs, record { lines = ws; last = last; empties = length parts; laid = w; texts = e ∙ ap (λ (l : List (List ℕ)). l ++ each record-texts rs) a; proper = p })
 
 pub fasta-written : FastaWritten
-fasta-written = record { lines-back = lines-are; lines-of-each = file-written; records-back = records-are; records-of-each = file-in-records }
+fasta-written =
+    record {
+      lines-back = lines-are;
+      lines-of-each = file-written;
+      records-back = λ file rs w. let r = records-are file rs w in (r .0, r .1, denied _ (text-says file 0) .0 (r .2));
+      records-of-each = λ file h. file-in-records file (denied _ (text-says file 0) .1 h);
+    }

@@ -40,7 +40,6 @@ pub mod TextRefused
 pub mod FastaLines
 pub mod FastaLaid
 pub mod WrittenLines
-pub mod FastaWritten
 pub mod LaidOut
 pub mod Sound
 pub mod Wide
@@ -61,6 +60,7 @@ pub mod FastaBytes
 pub mod FastaRefused
 pub mod FastaFits
 pub mod FastaProgram
+pub mod FastaWritten
 pub mod Reading
 pub mod Begins
 pub mod Relayed

@@ -20,12 +20,14 @@ use Rattle.rules.specs.Refused.{StaysOutside}
 use Rattle.rules.specs.Sequences.{split, sequences}
 use Rattle.rules.specs.Told.{Verdict, fine, refused, gives, refuses, Handing, entry, no-entry}
 use Rattle.rules.proofs.All.{no-member, members}
+use Rattle.rules.proofs.FastaBytes.{text-says}
 use Rattle.rules.proofs.FastaChecks.{Room, AllLetters, none-fine, next-fine}
 use Rattle.rules.proofs.FastaLines.{Left, left-next}
 use Rattle.rules.proofs.Lists.{each-joined}
 use Rattle.rules.proofs.Members.{each-out}
 use Rattle.rules.proofs.Stays.{put-stays, put-at-stays}
 use Rattle.rules.proofs.Tables.{put-front, put-at-none, put-at-long, put-at-more}
+use Rattle.rules.proofs.Tests.{denied}
 use Rattle.rules.proofs.TextRefused.{split-joined}
 
 -- ---- one call
@@ -245,10 +247,10 @@ module _ (file letters lengths : List ℕ) where
   pub reads : Readable file letters lengths ↔ ((xs : List Handing) × (k : Held) × ReadToEnd file letters lengths xs k)
   unfolding records
   reads = (
-    λ r. let (k, c, e) = run-to file (records file) (at-first letters lengths) (record { records = refl; no-text = r .no-text }) (omega (arith, r .room)) (omega (arith, r .rows)) (r .short) (r .all-letters) in
+    λ r. let (k, c, e) = run-to file (records file) (at-first letters lengths) (record { records = refl; no-text = denied _ (text-says file 0) .1 (r .no-text) }) (omega (arith, r .room)) (omega (arith, r .rows)) (r .short) (r .all-letters) in
         (map handing (records file), k, record { calls = c; no-more = e }),
     λ h. let r = run-whole (h .2) in
-        record { no-text = no-text (h .2 .calls) (h .2 .no-more); room = omega (arith, r .room); rows = omega (arith, r .rows); short = r .short; all-letters = r .spelt },
+        record { no-text = denied _ (text-says file 0) .0 (no-text (h .2 .calls) (h .2 .no-more)); room = omega (arith, r .room); rows = omega (arith, r .rows); short = r .short; all-letters = r .spelt },
   )
     where
       -- the first call was not refused

@@ -5,12 +5,12 @@ use mathlib.Core.Path.{_≡_, refl}
 use Prim.Native.Nat.{ℕ}
 use lib.ListN.{replicate}
 use Rattle.rules.specs.Facts.{Fact, is}
-use Rattle.rules.specs.Fasta.{without-return, lines-of, lines-from, header?, Entry, up-to-header, entries, up-to-blank, name-of, texts, letters-of, records, check19, check20, check-lines, check4-file, reader-checks, ReaderRule, reader-rule, Held, at-first, call, after, lines-checks, lines-rule}
+use Rattle.rules.specs.Fasta.{without-return, lines-of, lines-from, header?, Entry, up-to-header, entries, up-to-blank, name-of, texts, letters-of, size-of, records, check19, check20, check-lines, check4-file, reader-checks, ReaderRule, reader-rule, Held, at-first, call, after, lines-checks, lines-rule}
 use Rattle.rules.specs.Letters.{value, letter?}
 use Rattle.rules.specs.Lists.{each, keep, some?, put, put-at}
-use Rattle.rules.specs.Refusals.{_else_, first, first-bad}
+use Rattle.rules.specs.Refusals.{_else_, first, first-bad, check1}
 use Rattle.rules.specs.Text.{pieces, digits-of, decimal, print-refused}
-use Rattle.rules.specs.Told.{Told, gives, refuses, Handing, entry, no-entry}
+use Rattle.rules.specs.Told.{Verdict, fine, refused, Told, gives, refuses, Handing, entry, no-entry}
 
 -- the file with the records p1, of the letters ACGTA on two lines, and p2, of none
 file : List ℕ
@@ -35,6 +35,11 @@ told : Told Handing → List ℕ
 told (gives (entry start end size)) = start ∷ end ∷ size ∷ []
 told (gives no-entry) = []
 told (refuses n p) = n ∷ p ∷ []
+
+-- and a check's refusal
+refused-with : Verdict → List ℕ
+refused-with fine = []
+refused-with (refused n p) = n ∷ p ∷ []
 
 -- what a call tells, where the reader stands then, and what the buffer and the lengths table hold then
 all-told : ReaderRule → List ℕ
@@ -61,6 +66,8 @@ facts =
     -- a file of empty lines, or of nothing, has no record
     ∷ is (all-written (10 ∷ 13 ∷ 10 ∷ 10 ∷ [])) []
     ∷ is (all-written []) []
+    -- and the search over it is refused with 1
+    ∷ is (refused-with (check1 (map size-of (records (10 ∷ []))))) (1 ∷ 0 ∷ [])
     -- > inside a line begins no record: it is a byte of a name, or of the letter lines
     ∷ is (all-written (62 ∷ 97 ∷ 62 ∷ 10 ∷ 67 ∷ 62 ∷ 71 ∷ 10 ∷ [])) (62 ∷ 97 ∷ 62 ∷ 10 ∷ 67 ∷ 62 ∷ 71 ∷ 10 ∷ [])
     -- a tab ends a name as a space does; a name may be empty
@@ -90,5 +97,5 @@ facts =
     ∷ []
 
 the-facts : map (λ f. f .computed) facts ≡ map (λ f. f .paper) facts
-unfolding facts file with-returns written all-written told all-told first-call held-1 held-2 without-return lines-of lines-from header? up-to-header entries up-to-blank name-of texts letters-of records check19 check20 check-lines check4-file reader-checks reader-rule lines-checks lines-rule value letter? each keep some? put put-at _else_ first first-bad pieces digits-of decimal print-refused
+unfolding facts file with-returns written all-written told refused-with all-told first-call held-1 held-2 without-return lines-of lines-from header? up-to-header entries up-to-blank name-of texts letters-of records check19 check20 check-lines check4-file reader-checks reader-rule lines-checks lines-rule value letter? each keep some? put put-at _else_ first first-bad check1 pieces digits-of decimal print-refused
 the-facts = refl

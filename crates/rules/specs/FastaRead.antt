@@ -1,10 +1,10 @@
 -- A FILE READ TO ITS END: what it is to read one, what a caller then has, and which files can be read so.
-use mathlib.Core.Bool.{false}
 use mathlib.Core.List.{List, map, List·Memᴰ}
 use mathlib.Core.Path.{_≡_}
 use Prim.Native.Nat.{ℕ, _≤_}
 use lib.ListN.{length, take}
-use Rattle.rules.specs.Fasta.{lines-from, Entry, letters-of, size-of, records, text-first?, Held, at-first, call, HandsOut, handing}
+use Rattle.rules.specs.Fasta.{Entry, letters-of, size-of, records, Held, at-first, call, HandsOut, handing}
+use Rattle.rules.specs.FastaRefused.{TextBefore}
 use Rattle.rules.specs.Letters.{value}
 use Rattle.rules.specs.Limits.{Fasta-LENGTH}
 use Rattle.rules.specs.Lists.{each, sum}
@@ -32,7 +32,7 @@ module _ (file letters lengths : List ℕ) where
 
   -- a file that can be read so: no text stands before its first record, its records fit, and their lines hold letters alone
   pub record Readable : Type 0 where
-    pub no-text : text-first? (lines-from file 0) ≡ false
+    pub no-text : TextBefore file 0 → ⊥
     pub room : length (each letters-of (records file)) ≤ length letters
     pub rows : length (records file) ≤ length lengths
     pub short : (e : Entry) → List·Memᴰ e (records file) → size-of e ≤ Fasta-LENGTH

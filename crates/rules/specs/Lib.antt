@@ -23,8 +23,8 @@ pub mod Relay
 pub mod Text
 pub mod TextRefused
 pub mod Fasta
-pub mod FastaRead
 pub mod FastaRefused
+pub mod FastaRead
 pub mod FastaWritten
 pub mod Facts
 pub mod FastaFacts
