@@ -12,18 +12,19 @@ use lib.ListN.{length, getD, replicate}
 use borrow.Author.Tests.{eq-eqb, ne-eqb, eqb-true, eqb-false}
 use Rattle.rules.specs.Fasta.{Line, line, lines-of, text?, lines-from, header?, up-to-header, entries, blank?, up-to-blank, name-of, texts, letters-of, records, text-first?}
 use Rattle.rules.specs.FastaRefused.{TextBefore}
-use Rattle.rules.specs.FastaWritten.{WrittenLine, InWrittenLines, WrittenRecord, record-texts, ProperRecord, InWrittenRecords}
+use Rattle.rules.specs.FastaWritten.{WrittenLine, InWrittenLines, placed, WrittenRecord, record-texts, ProperRecord, InWrittenRecords}
 use Rattle.rules.specs.Lists.{if, each, joined, keep, some?}
 use Rattle.rules.specs.Text.{pieces}
 use Rattle.rules.proofs.All.{no-member, members}
 use Rattle.rules.proofs.EachCheck.{same}
 use Rattle.rules.proofs.FastaBytes.{text-says}
 use Rattle.rules.proofs.Tests.{either, denied, not-false}
-use Rattle.rules.proofs.WrittenLines.{lines-are, file-written}
+use Rattle.rules.proofs.WrittenLines.{lines-placed, lines-are, file-written}
 
 pub record FastaWritten : Type 0 where
-  -- the lines of a file are those that it was written from, the last being what the file's end ends
-  pub lines-back : (file : List ℕ) (ws : List WrittenLine) (last : List ℕ) → InWrittenLines file ws last
+  -- the lines of a file, empty ones too, are those that it was written from, each at its place; the last is what the file's end ends
+  pub lines-back : (file : List ℕ) (ws : List WrittenLine) (last : List ℕ) → InWrittenLines file ws last → lines-of 0 (pieces 10 file) ≡ placed 0 ws last
+  pub texts-back : (file : List ℕ) (ws : List WrittenLine) (last : List ℕ) → InWrittenLines file ws last
       → map (λ l. l .text) (lines-of 0 (pieces 10 file)) ≡ map (λ w. w .text) ws ++ (last ∷ [])
   -- and every file can be written from lines
   pub lines-of-each : (file : List ℕ) → (ws : List WrittenLine) × (last : List ℕ) × InWrittenLines file ws last
@@ -194,7 +195,8 @@ file-in-records file n =
 pub fasta-written : FastaWritten
 fasta-written =
     record {
-      lines-back = lines-are;
+      lines-back = lines-placed;
+      texts-back = lines-are;
       lines-of-each = file-written;
       records-back = λ file rs w. let r = records-are file rs w in (r .0, r .1, denied _ (text-says file 0) .0 (r .2));
       records-of-each = λ file h. file-in-records file (denied _ (text-says file 0) .1 h);

@@ -4,14 +4,14 @@ use mathlib.Core.Path.{_≡_, refl, sym, ap, _∙_, subst}
 use mathlib.Core.Logic.{_⊎_, inl, inr, ⊎-elim}
 use mathlib.Core.Bool.{Bool, true, false, false≢true}
 use mathlib.Core.List.{List, [], _∷_, _++_, map, append-nil, append-assoc, List·Memᴰ, List·Memᴰ·head, List·Memᴰ·tail, List·Memᴰ·not-nil, List·Memᴰ·cases-cons, List·Memᴰ·append-cases, Memᴰ·append-left}
-use Prim.Native.Nat.{ℕ, suc, _-_, _≤_}
+use Prim.Native.Nat.{ℕ, suc, _+_, _-_, _≤_}
 use native.Mathlib.Omega.{arith}
 use lib.Dec.{eqb}
 use lib.ListN.{length, take, getD, length-append}
 use lib.Seq.{getD-at, take-at, take-suc, take-length}
 use borrow.Author.Tests.{ne-eqb, eqb-true, eqb-false}
-use Rattle.rules.specs.Fasta.{without-return, lines-of}
-use Rattle.rules.specs.FastaWritten.{WrittenLine, written, InWrittenLines}
+use Rattle.rules.specs.Fasta.{line, without-return, lines-of}
+use Rattle.rules.specs.FastaWritten.{WrittenLine, written, InWrittenLines, placed}
 use Rattle.rules.specs.Lists.{if, each}
 use Rattle.rules.specs.Text.{pieces, lines, unended}
 use Rattle.rules.specs.TextRefused.{Without, WithoutAll, with-end}
@@ -30,6 +30,14 @@ pieces-ended (w ∷ ws) = ap (λ l. l ++ each written ws) (one (w .return)) ∙ 
     one : (b : Bool) → w .text ++ if b (13 ∷ 10 ∷ []) (10 ∷ []) ≡ (w .text ++ if b (13 ∷ []) []) ++ (10 ∷ [])
     one true = sym (append-assoc (w .text) (13 ∷ []) (10 ∷ []))
     one false = ap (λ l. l ++ (10 ∷ [])) (sym (append-nil (w .text)))
+
+-- with its 10 it is as long as the line
+written-long : (o : ℕ) (w : WrittenLine) → o + length (written w) ≡ o + length (piece-of w) + 1
+written-long o w = go (w .return)
+  where
+    go : (b : Bool) → o + length (w .text ++ if b (13 ∷ 10 ∷ []) (10 ∷ [])) ≡ o + length (w .text ++ if b (13 ∷ []) []) + 1
+    go true = omega (arith, length-append (w .text) (13 ∷ 10 ∷ []), length-append (w .text) (13 ∷ []))
+    go false = omega (arith, length-append (w .text) (10 ∷ []), length-append (w .text) [])
 
 -- no 10 is among it
 piece-without : (w : WrittenLine) → Without 10 (w .text) → Without 10 (piece-of w)
@@ -55,22 +63,31 @@ without-return-back w h = go (w .return) refl
         rw (n, getD-at (w .text) 13 [] 0 (length (w .text)) refl, take-at (w .text) (13 ∷ []) (length (w .text)) refl)
     go false e = rw (append-nil (w .text), ne-eqb (getD (w .text) (length (w .text) - 1) 0) 13 (h e))
 
--- the texts of lines, cut out of a file
-cut-texts : (o : ℕ) (ws : List WrittenLine) (last : List ℕ) → ((w : WrittenLine) → List·Memᴰ w ws → w .return ≡ false → getD (w .text) (length (w .text) - 1) 0 ≡ 13 → ⊥)
-    → map (λ l. l .text) (lines-of o (map piece-of ws ++ (last ∷ []))) ≡ map (λ w. w .text) ws ++ (last ∷ [])
-unfolding lines-of
-cut-texts o [] last h = refl
-cut-texts o (w ∷ []) last h = rw (without-return-back w (h w (List·Memᴰ·head refl)))
-cut-texts o (w ∷ v ∷ ws) last h =
-    rw (without-return-back w (h w (List·Memᴰ·head refl))) (ap (λ ts. w .text ∷ ts) (cut-texts _ (v ∷ ws) last (λ x m. h x (List·Memᴰ·tail m))))
+-- the lines, cut out of a file
+cut-lines : (o : ℕ) (ws : List WrittenLine) (last : List ℕ) → ((w : WrittenLine) → List·Memᴰ w ws → w .return ≡ false → getD (w .text) (length (w .text) - 1) 0 ≡ 13 → ⊥)
+    → lines-of o (map piece-of ws ++ (last ∷ [])) ≡ placed o ws last
+unfolding lines-of placed
+cut-lines o [] last h = refl
+cut-lines o (w ∷ []) last h = rw (without-return-back w (h w (List·Memᴰ·head refl)), written-long o w)
+cut-lines o (w ∷ v ∷ ws) last h =
+    rw (without-return-back w (h w (List·Memᴰ·head refl)), written-long o w) (ap (λ ls. line o (w .text) ∷ ls) (cut-lines (o + length (piece-of w) + 1) (v ∷ ws) last (λ x m. h x (List·Memᴰ·tail m))))
 
 -- so the lines of a file are those that it was written from
-pub lines-are : (file : List ℕ) (ws : List WrittenLine) (last : List ℕ) → InWrittenLines file ws last
-    → map (λ l. l .text) (lines-of 0 (pieces 10 file)) ≡ map (λ w. w .text) ws ++ (last ∷ [])
-lines-are file ws last r =
+pub lines-placed : (file : List ℕ) (ws : List WrittenLine) (last : List ℕ) → InWrittenLines file ws last → lines-of 0 (pieces 10 file) ≡ placed 0 ws last
+lines-placed file ws last r =
     let p : pieces 10 file ≡ map piece-of ws ++ (last ∷ []) =
     rw (r .whole, pieces-ended ws) (pieces-lined (map piece-of ws) last (pieces-without ws (r .no-end-within)) (r .no-end-after)) in
-    rw p (cut-texts 0 ws last (r .no-return))
+    rw p (cut-lines 0 ws last (r .no-return))
+
+-- and so are their texts
+placed-texts : (o : ℕ) (ws : List WrittenLine) (last : List ℕ) → map (λ l. l .text) (placed o ws last) ≡ map (λ w. w .text) ws ++ (last ∷ [])
+unfolding placed
+placed-texts o [] last = refl
+placed-texts o (w ∷ ws) last = ap (λ ts. w .text ∷ ts) (placed-texts (o + length (written w)) ws last)
+
+pub lines-are : (file : List ℕ) (ws : List WrittenLine) (last : List ℕ) → InWrittenLines file ws last
+    → map (λ l. l .text) (lines-of 0 (pieces 10 file)) ≡ map (λ w. w .text) ws ++ (last ∷ [])
+lines-are file ws last r = rw (lines-placed file ws last r) (placed-texts 0 ws last)
 
 -- EVERY FILE is written so: each piece before a 10 is a text, or a text and a 13
 abbrev Plain : WrittenLine → Type 0

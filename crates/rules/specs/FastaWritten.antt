@@ -5,8 +5,9 @@ use mathlib.Core.Bool.{Bool, false}
 use mathlib.Core.List.{List, [], _∷_, _++_, map, List·Memᴰ}
 use mathlib.Core.Logic.{_⊎_}
 use mathlib.Core.Path.{_≡_}
-use Prim.Native.Nat.{ℕ, _-_}
+use Prim.Native.Nat.{ℕ, _+_, _-_}
 use lib.ListN.{length, getD, replicate}
+use Rattle.rules.specs.Fasta.{Line, line}
 use Rattle.rules.specs.Lists.{if, each}
 use Rattle.rules.specs.TextRefused.{Without}
 
@@ -25,6 +26,11 @@ pub record InWrittenLines (file : List ℕ) (ws : List WrittenLine) (last : List
   pub no-end-within : (w : WrittenLine) → List·Memᴰ w ws → Without 10 (w .text)
   pub no-return : (w : WrittenLine) → List·Memᴰ w ws → w .return ≡ false → getD (w .text) (length (w .text) - 1) 0 ≡ 13 → ⊥
   pub no-end-after : Without 10 last
+
+-- where they stand in the file, the first of them at o: each behind those before it, with their ends
+unfoldable pub placed : ℕ → List WrittenLine → List ℕ → List Line
+placed o [] last = line o last ∷ []
+placed o (w ∷ ws) last = line o (w .text) ∷ placed (o + length (written w)) ws last
 
 -- RECORDS. A record as it is written: > and its name, what else stands on that line, and its letters on lines of any widths
 pub record WrittenRecord : Type 0 where
