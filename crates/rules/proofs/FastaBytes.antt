@@ -3,15 +3,15 @@
 -- test of the other; and of two bytes that are both the first bad one neither stands before the other.
 use mathlib.Core.Path.{_≡_, refl, sym, ap, _∙_}
 use mathlib.Core.Logic.{_↔_, Iff·trans, _⊎_, inl, inr}
-use mathlib.Core.Bool.{Bool, true, false, _||_, not, false≢true}
+use mathlib.Core.Bool.{Bool, true, false, not, false≢true}
 use mathlib.Core.List.{List, [], _∷_, _++_, map, List·Memᴰ, List·Memᴰ·head, List·Memᴰ·tail, List·Memᴰ·cases-cons}
 use Prim.Native.Nat.{ℕ, suc, _+_, _-_, _≤_, _<_}
 use native.Mathlib.Omega.{arith}
-use lib.Dec.{eqb, leb, ltb}
+use lib.Dec.{eqb, ltb}
 use lib.ListN.{length, take, drop, getD, take-append-drop}
 use lib.Seq.{take-append-le, drop-append-le, drop-drop}
 use borrow.Author.Tests.{eqb-true, leb-true, le-leb, ltb-true, ltb-false}
-use Rattle.rules.specs.Fasta.{Line, lines-of, text?, lines-from, header?, Entry, entries, blank?, up-to-blank, name-of, name-start, name-end, texts, text-first?, check-line, check-lines}
+use Rattle.rules.specs.Fasta.{Line, lines-of, text?, lines-from, header?, Entry, entries, blank?, up-to-blank, name-of, name-start, name-end, texts, text-first?, no-room?, check-line, check-lines}
 use Rattle.rules.specs.FastaRefused.{TextBefore, NoRoom, FirstNoLetter}
 use Rattle.rules.specs.Letters.{letter?}
 use Rattle.rules.specs.Limits.{Fasta-LENGTH}
@@ -74,10 +74,12 @@ name-part file at e m =
 first-byte : (file : List ℕ) (l : Line) → InFile file l → 1 ≤ length (l .text) → getD (l .text) 0 0 ≡ getD file (l .at) 0
 first-byte file l e h = let z : l .at - l .at ≡ 0 = omega arith in rw z at (byte-of file l e (l .at) (omega arith) (omega arith))
 
+-- as none is that was not skipped
 line-some : (file : List ℕ) (at : ℕ) (l : Line) → List·Memᴰ l (lines-from file at) → text? l ≡ true
 unfolding lines-from
 line-some file at l m = keep-passes text? (lines-of at (pieces 10 (drop at file))) m
 
+-- the test of 19 says that text stands before the first record
 pub text-says : (file : List ℕ) (at : ℕ) → (text-first? (lines-from file at) ≡ true) ↔ TextBefore file at
 unfolding header?
 text-says file at = (λ e. on (lines-from file at) refl e, λ (l, ls, q, d). rw q (header-not l (first-is l ls q) .1 d))
@@ -95,8 +97,8 @@ text-says file at = (λ e. on (lines-from file at) refl e, λ (l, ls, q, d). rw 
     on [] q e = absurd (false≢true e)
     on (l ∷ ls) q e = (l, ls, q, header-not l (first-is l ls q) .0 e)
 
-pub room-says : (letters : List ℕ) (used : ℕ) (lengths : List ℕ) (count size : ℕ)
-    → ((ltb (length letters) (used + size) || leb (length lengths) count || ltb Fasta-LENGTH size) ≡ true) ↔ NoRoom letters used lengths count size
+-- and that of 20 that there is no room for a record
+pub room-says : (letters : List ℕ) (used : ℕ) (lengths : List ℕ) (count size : ℕ) → (no-room? letters used lengths count size ≡ true) ↔ NoRoom letters used lengths count size
 room-says letters used lengths count size =
     Iff·trans (either _ _ (either _ _ (less (length letters) (used + size)) (leb-true _ _, le-leb _ _)) (less Fasta-LENGTH size)) (on, back)
   where

@@ -32,16 +32,15 @@ pub record FirstNoLetter (file : List ℕ) (ls : List Line) (p : ℕ) : Type 0 w
   pub bad : IsLetter (getD file p 0) → ⊥
   pub before : (q : ℕ) → InLines ls q → q < p → IsLetter (getD file q 0)
 
--- THE ORDER of what a call refuses: 19; then, of the next record, 20; then 4. 19 and 20 tell place 0
-module _ (file : List ℕ) (at : ℕ) (letters : List ℕ) (used : ℕ) (lengths : List ℕ) (count : ℕ) where
-  -- e is the next record, and no text stands before it
-  abbrev pub NextIs : Entry → Type 0
-  NextIs e = (TextBefore file at → ⊥) × (es : List Entry) × (entries (lines-from file at) ≡ e ∷ es)
+-- THE ORDER of what a call refuses: 19; then, of the next record, 20; then 4. 19 and 20 tell place 0. e is the next record, and no text
+-- stands before it
+abbrev pub NextIs : List ℕ → ℕ → Entry → Type 0
+NextIs file at e = (TextBefore file at → ⊥) × (es : List Entry) × (entries (lines-from file at) ≡ e ∷ es)
 
-  pub data RefusesNext (n p : ℕ) : Type 0 where
-    text-before : n ≡ 19 → p ≡ 0 → TextBefore file at → RefusesNext n p
-    no-room : n ≡ 20 → p ≡ 0 → (e : Entry) → NextIs e → NoRoom letters used lengths count (size-of e) → RefusesNext n p
-    no-letter : n ≡ 4 → (e : Entry) → NextIs e → (NoRoom letters used lengths count (size-of e) → ⊥) → FirstNoLetter file (e .lines) p → RefusesNext n p
+pub data RefusesNext (file : List ℕ) (at : ℕ) (letters : List ℕ) (used : ℕ) (lengths : List ℕ) (count n p : ℕ) : Type 0 where
+  text-before : n ≡ 19 → p ≡ 0 → TextBefore file at → RefusesNext file at letters used lengths count n p
+  no-room : n ≡ 20 → p ≡ 0 → (e : Entry) → NextIs file at e → NoRoom letters used lengths count (size-of e) → RefusesNext file at letters used lengths count n p
+  no-letter : n ≡ 4 → (e : Entry) → NextIs file at e → (NoRoom letters used lengths count (size-of e) → ⊥) → FirstNoLetter file (e .lines) p → RefusesNext file at letters used lengths count n p
 
 -- THE PROGRAM `lines` refuses a file that it cannot hold, above 1 MiB, with 20; then 19; then 4, with the first byte that is no letter
 -- of the lines of all its records
