@@ -2,14 +2,15 @@
 use mathlib.Core.Path.{_≡_, refl, ap}
 use mathlib.Core.Logic.{_↔_}
 use mathlib.Core.Bool.{Bool, true, false, _&&_, not}
-use mathlib.Core.List.{List, [], _∷_, _++_}
+use mathlib.Core.List.{List, [], _∷_, _++_, map}
 use Prim.Native.Nat.{ℕ, suc, _≤_}
 use native.Mathlib.Omega.{arith}
 use lib.Dec.{ltb, eqb}
 use lib.ListN.{length}
 use Rattle.rules.specs.Profile.{profile-of}
+use Rattle.rules.specs.Fasta.{Line, Entry, no-room?, size-of, text-first?, check-line, check19, check20, check-lines, check4-file, lines-from, entries, next-checks, reader-checks, stays, hands-out, reader-rule}
 use Rattle.rules.specs.Support.{valid}
-use Rattle.rules.specs.Calls.{begun, unless, written-unless, save-rule, restore-rule, recover-rule, join-rule}
+use Rattle.rules.specs.Calls.{on-refusal, begun, unless, written-unless, save-rule, restore-rule, recover-rule, join-rule}
 use Rattle.rules.specs.Join.{rising?}
 use Rattle.rules.specs.Limits.{Template-COMPONENTS, Template-LENGTH, SequenceSet-SEQUENCES, SequenceSet-LETTERS}
 use Rattle.rules.specs.Lists.{if, sum}
@@ -18,12 +19,12 @@ use Rattle.rules.specs.Refusals.{_else_, first, first-bad, outside, bad-range, 
 use Rattle.rules.specs.Saved.{bytes, sized?, laid-out?, place-rule?, read-search}
 use Rattle.rules.specs.Sequences.{sequences}
 use Rattle.rules.specs.Template.{size}
-use Rattle.rules.specs.Told.{Verdict, fine, refused}
+use Rattle.rules.specs.Told.{Verdict, fine, refused, refuses}
 use Rattle.rules.specs.declared.Search.{Search}
 use Rattle.rules.specs.declared.Template.{Template}
 use Rattle.rules.proofs.Verdicts.{never}
-use Rattle.exports.specs.Exported.{LegOutcome, begin-outcome, leg-outcome, restore-outcome, save-outcome, recover-outcome, join-outcome}
-use Rattle.exports.specs.Numbers.{number-told, count-told, page-told, search-told}
+use Rattle.exports.specs.Exported.{LegOutcome, begin-outcome, leg-outcome, restore-outcome, save-outcome, recover-outcome, join-outcome, fasta-outcome}
+use Rattle.exports.specs.Numbers.{number-told, count-told, page-told, search-told, found-told}
 use Rattle.exports.specs.Shape.{template-of}
 use Rattle.exports.proofs.Whole.{begin-saves, leg-refused, leg-runs}
 
@@ -111,6 +112,20 @@ join-numbered : (xs ys : List ℕ) (head low high : ℕ) (out : List ℕ) → Al
 unfolding join-checks check6-head check8-range check16
 join-numbered xs ys head low high out = (if-numbered (outside 1 Template-LENGTH head) 6 1 (omega arith), (if-numbered (bad-range low high) 8 1 (omega arith), (if-numbered (not (rising? 0 xs && rising? 0 ys)) 16 0 (omega arith), (room-numbered _ out, tt))))
 
+lines-numbered : (ls : List Line) → AllNumbered (map check-line ls)
+lines-numbered [] = tt
+lines-numbered (l ∷ ls) = (bad-numbered 4 _ (l .at) (l .text) (omega arith), lines-numbered ls)
+
+module _ (letters : List ℕ) (used : ℕ) (lengths : List ℕ) (count : ℕ) where
+  next-numbered : (es : List Entry) → AllNumbered (next-checks letters used lengths count es)
+  unfolding check20 check4-file check-lines
+  next-numbered [] = tt
+  next-numbered (e ∷ es) = (if-numbered (no-room? letters used lengths count (size-of e)) 20 0 (omega arith), (all-numbered _ (lines-numbered (e .lines)), tt))
+
+  reader-numbered : (file : List ℕ) (at : ℕ) → AllNumbered (reader-checks file at letters used lengths count)
+  unfolding reader-checks check19
+  reader-numbered file at = (if-numbered (text-first? (lines-from file at)) 19 0 (omega arith), next-numbered (entries (lines-from file at)))
+
 -- 0 is told exactly if nothing refuses
 unless-zero : {A : Type 0} (v : Verdict) (a : A) → Numbered v → (number-told (unless v a) ≡ 0) ↔ (v ≡ fine)
 unfolding Numbered
@@ -161,3 +176,15 @@ module _ (letters lengths : List ℕ) where
 pub join-zero : (xs ys : List ℕ) (head low high : ℕ) (out : List ℕ) → ((join-outcome xs ys head low high out) .numbers .number ≡ 0) ↔ (first (join-checks xs ys head low high out) ≡ fine)
 unfolding join-outcome count-told join-rule
 join-zero xs ys head low high out = written-zero _ _ _ out (all-numbered _ (join-numbered xs ys head low high out))
+
+module _ (file letters lengths : List ℕ) (at used count : ℕ) where
+  handed-zero : (v : Verdict) (es : List Entry) → Numbered v
+      → (number-told ((on-refusal v (λ n p. stays file at letters used lengths count (refuses n p)) (hands-out file at letters used lengths count es)) .told) ≡ 0) ↔ (v ≡ fine)
+  unfolding Numbered
+  handed-zero fine [] h = (λ e. refl, λ e. refl)
+  handed-zero fine (e ∷ es) h = (λ e. refl, λ e. refl)
+  handed-zero (refused n p) es h = (λ e. absurd (omega (arith, h, e)), λ e. never n p e)
+
+  pub fasta-zero : ((fasta-outcome file letters lengths at used count) .number ≡ 0) ↔ (first (reader-checks file at letters used lengths count) ≡ fine)
+  unfolding fasta-outcome found-told reader-rule
+  fasta-zero = handed-zero _ (entries (lines-from file at)) (all-numbered _ (reader-numbered letters used lengths count file at))

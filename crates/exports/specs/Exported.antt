@@ -1,13 +1,14 @@
 -- THE RULE OF EACH EXPORTED CALL: from what a caller passes, the numbers it gets back and what each table that it lent holds
 -- afterwards, refused calls too. Each is put together from the rules of the public calls, `Calls` of the crate `rules`.
 use mathlib.Core.List.{List}
-use Prim.Native.Nat.{ℕ}
+use Prim.Native.Nat.{ℕ, _+_}
 use Rattle.rules.specs.Calls.{Written, begin-rule, leg-rule, save-rule, restore-rule, recover-rule, join-rule}
+use Rattle.rules.specs.Fasta.{reader-rule}
 use Rattle.rules.specs.Saved.{bytes}
 use Rattle.rules.specs.Told.{Told, gives, refuses}
 use Rattle.rules.specs.Walk.{place}
 use Rattle.rules.specs.declared.Search.{Search}
-use Rattle.exports.specs.Numbers.{count-told, page-told, stopped, leg-told, search-told}
+use Rattle.exports.specs.Numbers.{count-told, page-told, stopped, leg-told, search-told, found-told}
 use Rattle.exports.specs.Shape.{template-of, shape-of, fill}
 use Rattle.exports.specs.declared.told.Count.{Count}
 use Rattle.exports.specs.declared.told.Page.{Page}
@@ -87,3 +88,27 @@ recover-outcome letters lengths components shape motif first out =
 -- JOIN
 unfoldable pub join-outcome : List ℕ → List ℕ → ℕ → ℕ → ℕ → List ℕ → Outcome Count
 join-outcome first second head low high out = outcome-of count-told (join-rule first second head low high out)
+
+-- FASTA: what the call says of the next record, the numbers that it moves on, and both tables. At the file's end and in a refusal
+-- 0 is added to what is used of each table
+pub record FastaOutcome : Type 0 where
+  pub number : ℕ
+  pub place : ℕ
+  pub found : ℕ
+  pub name-start : ℕ
+  pub name-end : ℕ
+  pub at : ℕ
+  pub used : ℕ
+  pub count : ℕ
+  pub letters : List ℕ
+  pub lengths : List ℕ
+
+abbrev pub fasta-of : ℕ → ℕ → ℕ → ℕ → ℕ → ℕ → ℕ → ℕ → List ℕ → List ℕ → FastaOutcome
+fasta-of number place found name-start name-end at used count letters lengths =
+    record { number = number; place = place; found = found; name-start = name-start; name-end = name-end; at = at; used = used; count = count; letters = letters; lengths = lengths }
+
+unfoldable pub fasta-outcome : List ℕ → List ℕ → List ℕ → ℕ → ℕ → ℕ → FastaOutcome
+fasta-outcome file letters lengths at used count =
+    let r = reader-rule file at letters used lengths count in
+    let f = found-told (r .told) in
+    fasta-of (f .number) (f .place) (f .found) (f .«name_start») (f .«name_end») (r .at) (used + f .letters) (count + f .found) (r .letters) (r .lengths)

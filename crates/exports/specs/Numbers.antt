@@ -1,9 +1,10 @@
 -- What a call tells, as numbers: 0 and 0 for an answer, and else the refusal's number and place, with counts of 0.
 use Prim.Native.Nat.{ℕ}
 use Rattle.rules.specs.Legs.{Stop, ended, spent, full}
-use Rattle.rules.specs.Told.{Told, gives, refuses, Counts, LegTold}
+use Rattle.rules.specs.Told.{Told, gives, refuses, Counts, LegTold, Handing, entry, no-entry}
 use Rattle.rules.specs.declared.Search.{Search}
 use Rattle.exports.specs.declared.told.Count.{Count}
+use Rattle.exports.specs.declared.told.Found.{Found}
 use Rattle.exports.specs.declared.told.Page.{Page}
 use Rattle.exports.specs.declared.told.Restored.{Restored}
 use Rattle.exports.specs.declared.told.Stopped.{Stopped}
@@ -65,3 +66,21 @@ search-told t =
     (told-of (λ s. s .set .letters) t)
     (told-of (λ s. s .place .letters) t)
     (told-of (λ s. s .place .number) t)
+
+-- a record of a FASTA file: 1 where one was found, where its name starts and ends, and its letters; and 0 where none was
+abbrev pub found : ℕ → ℕ → ℕ → ℕ → ℕ → ℕ → Found
+found n p one start end letters = record { number = n; place = p; found = one; «name_start» = start; «name_end» = end; letters = letters }
+
+abbrev pub of-record : (ℕ → ℕ → ℕ → ℕ) → Handing → ℕ
+of-record f (entry start end letters) = f start end letters
+of-record f no-entry = 0
+
+unfoldable pub found-told : Told Handing → Found
+found-told t =
+    found
+    (number-told t)
+    (place-told t)
+    (told-of (of-record (λ start end letters. 1)) t)
+    (told-of (of-record (λ start end letters. start)) t)
+    (told-of (of-record (λ start end letters. end)) t)
+    (told-of (of-record (λ start end letters. letters)) t)

@@ -1,18 +1,19 @@
-// The six public calls for C and Rust, as numbers and slices; include/tulfasheq.h says how a caller sees them. A search is passed
+// The seven public calls for C and Rust, as numbers and slices; include/tulfasheq.h says how a caller sees them. A search is passed
 // as its saved bytes, and a template as its number of components and its shape: length, low and high of each slot in turn, of
 // which there are six; a slot past the shape's end is 0, 0, 0. Each answers 0, or the number of the refusal with its place in
-// `place`; all counts are 0 in a refusal.
+// `place`; in a refusal all counts are 0, and numbers that a call moves on stay.
 mod chain;
 mod shape;
 mod told;
 
 ghost use mathlib.Core.Path.{_≡_};
-ghost use Rattle.exports.specs.Exported.{outcome, leg-of, search-of, begin-outcome, leg-outcome, restore-outcome, save-outcome, recover-outcome, join-outcome};
+ghost use Rattle.exports.specs.Exported.{outcome, leg-of, search-of, begin-outcome, leg-outcome, restore-outcome, save-outcome, recover-outcome, join-outcome, fasta-of, fasta-outcome};
 ghost use Rattle.exports.specs.Numbers.{count, page, stopped, restored};
 use rules::Place;
 use rules::Search;
 use rules::SequenceSet;
 use told::Count;
+use told::Found;
 use told::Page;
 use told::Restored;
 
@@ -187,5 +188,43 @@ pub extern "C" fn tulfasheq_join(
     let told = Count::joined(joins::join(first, second, head, low, high, out));
     *place = told.place;
     *kept = told.count;
+    told.number
+}
+
+// The next record of a FASTA file from the cursor `at` on: its letters go to `letters` behind the `used` that it holds, their
+// number to `lengths` behind its `count` rows, and the three move on past them. `found` is 1, and the name is the file's part from
+// `name_start` to `name_end`. Where no record is left, `found` is 0; there and in a refusal the three stay, and both tables.
+#[no_mangle]
+pub extern "C" fn tulfasheq_fasta(
+    file: &[u8],
+    letters: &mut [u8],
+    lengths: &mut [u32],
+    at: &mut u64,
+    used: &mut u64,
+    count: &mut u64,
+    place: &mut u64,
+    found: &mut u64,
+    name_start: &mut u64,
+    name_end: &mut u64,
+) -> u64
+    ensures { λ r. ⌜ fasta-of r (now (place .exit)) (now (found .exit)) (now («name_start» .exit)) (now («name_end» .exit)) (now (at .exit)) (now (used .exit)) (now (count .exit)) (now (letters .exit)) (now (lengths .exit)) ≡ fasta-outcome (now (file .entry)) (now (letters .entry)) (now (lengths .entry)) (now (at .entry)) (now (used .entry)) (now (count .entry)) ⌝ }
+{
+    let step = fasta::next_at(
+        file,
+        *at as usize,
+        letters,
+        *used as usize,
+        lengths,
+        *count as usize,
+    );
+    let handed = step.handed;
+    let told = Found::handed(handed);
+    *at = step.at as u64;
+    *used += told.letters;
+    *count += told.found;
+    *place = told.place;
+    *found = told.found;
+    *name_start = told.name_start;
+    *name_end = told.name_end;
     told.number
 }

@@ -1,9 +1,10 @@
 // Answers as numbers. In each, `number` is 0 or the refusal's number, `place` is the refusal's place, and what an answer does not
 // have is 0.
 ghost use mathlib.Core.Path.{_≡_};
-ghost use Rattle.exports.specs.Numbers.{count, count-told, page-told, stopped, leg-told, search-told};
-ghost use Rattle.rules.specs.Told.{refusal-number, refusal-place, toldSaved, toldJoined, toldRecovered, toldLeg, toldBegun};
+ghost use Rattle.exports.specs.Numbers.{count, count-told, page-told, stopped, leg-told, search-told, found-told};
+ghost use Rattle.rules.specs.Told.{refusal-number, refusal-place, toldSaved, toldJoined, toldRecovered, toldLeg, toldBegun, toldHanded};
 use rules::Begun;
+use rules::Handed;
 use rules::Joined;
 use rules::Leg;
 use rules::LegAnswer;
@@ -179,6 +180,50 @@ impl Restored {
                 total: 0,
                 letters: 0,
                 candidate: 0,
+            },
+        }
+    }
+}
+
+// A record of a FASTA file: 1 where one was found, where its name starts and ends in the file, and how many letters it has.
+pub struct Found {
+    pub number: u64,
+    pub place: u64,
+    pub found: u64,
+    pub name_start: u64,
+    pub name_end: u64,
+    pub letters: u64,
+}
+
+impl Found {
+    // What the FASTA reader answered.
+    pub fn handed(answer: Handed) -> Found
+        ensures { λ r. ⌜ r ≡ found-told (toldHanded answer) ⌝ }
+    {
+        match answer {
+            Handed::Record { name, letters } => Found {
+                number: 0,
+                place: 0,
+                found: 1,
+                name_start: name.start.0 as u64,
+                name_end: name.end.0 as u64,
+                letters: letters as u64,
+            },
+            Handed::End => Found {
+                number: 0,
+                place: 0,
+                found: 0,
+                name_start: 0,
+                name_end: 0,
+                letters: 0,
+            },
+            Handed::Refused(why) => Found {
+                number: why.number(),
+                place: why.place(),
+                found: 0,
+                name_start: 0,
+                name_end: 0,
+                letters: 0,
             },
         }
     }
