@@ -1,5 +1,5 @@
 /* A search run in two legs from C: the sequences ACGTA, CAGGT, AT, the template N[0,1]N, quorum 2. The second leg goes on from a
- * copy of the bytes that the first one left, as it could on another machine. legs.sh builds it, runs it and checks what it prints. */
+ * copy of the bytes that the first one left, as it could on another machine. check.sh builds it, runs it and checks what it prints. */
 #include <inttypes.h>
 #include <stdio.h>
 #include <string.h>

@@ -6,7 +6,8 @@
  * Every array is passed as a pointer and the number of its elements. A pointer is never null, also where that number is 0, and is
  * aligned as its type asks. No array or number that a call writes may overlap another that it is passed.
  *
- * Sequences are one array of letters (the bytes A, C, G, T) and an array of their lengths, in order.
+ * Sequences are one array of letters (the bytes A, C, G, T) and an array of their lengths, in order. tulfasheq_fasta fills both
+ * from a FASTA file, a record at a time.
  *
  * A template is its number of components and its shape: the length, the least and the greatest gap before it, of each component in
  * turn, so N[0,1]N is 2 and {1, 0, 0, 1, 0, 1}. The first component's gaps are 0 and 0. What a shape does not reach is 0, and
@@ -21,7 +22,8 @@
  * long as it should be, partly new and partly old, and pass every check.
  *
  * Every call answers TULFASHEQ_OK, or a refusal. A refused call sets *place (0 where the refusal tells no place), sets every other
- * number that it answers to 0, and leaves every array as it was. A call that is not refused sets *place to 0. */
+ * number that it answers to 0, and leaves every array as it was; numbers that a call moves on (*at, *used and *count of
+ * tulfasheq_fasta) stay. A call that is not refused sets *place to 0. */
 #ifndef TULFASHEQ_H
 #define TULFASHEQ_H
 
@@ -47,13 +49,15 @@ extern "C" {
 #define TULFASHEQ_SAVED_MOST TULFASHEQ_SAVED(TULFASHEQ_COMPONENTS)
 #define TULFASHEQ_ROW(k) ((size_t)(k) + 1)
 
-/* What a call answers. Where several refusals apply, it gives the one that its own list, below, names first. */
+/* What a call answers. Where several refusals apply, it gives the one that its own list, below, names first. 18 is the printing
+ * program's alone, for a line of its input that cannot be read. */
 enum tulfasheq_answer {
     TULFASHEQ_OK = 0,
     TULFASHEQ_SEQUENCE_COUNT = 1,   /* no sequence, or more than TULFASHEQ_SEQUENCES */
     TULFASHEQ_LETTER_COUNT = 2,     /* more than TULFASHEQ_LETTERS letters */
     TULFASHEQ_LENGTH_SUM = 3,       /* the lengths do not add up to the letters */
-    TULFASHEQ_NOT_A_LETTER = 4,     /* a byte other than A, C, G, T; place: the offset of the first, from 0 */
+    TULFASHEQ_NOT_A_LETTER = 4,     /* a byte other than A, C, G, T; place: the offset of the first, from 0, in the letters, or in
+                                       the file where it is the FASTA file's */
     TULFASHEQ_COMPONENT_COUNT = 5,  /* no component, or more than TULFASHEQ_COMPONENTS */
     TULFASHEQ_COMPONENT_LENGTH = 6, /* a length of 0 or above TULFASHEQ_LENGTH; place: the first such component, from 1 */
     TULFASHEQ_MOTIF_LENGTH = 7,     /* more than TULFASHEQ_MOTIF letters in all components */
@@ -67,7 +71,11 @@ enum tulfasheq_answer {
     TULFASHEQ_MOTIF_NUMBER = 14,    /* a number that is no motif's of this template */
     TULFASHEQ_FIRST_ROW = 15,       /* a first row above the list's length */
     TULFASHEQ_JOIN_LIST = 16,       /* a list that does not rise strictly, or leaves 1 to TULFASHEQ_LETTERS */
-    TULFASHEQ_ROOM = 17             /* an array that is too short for what is to be written */
+    TULFASHEQ_ROOM = 17,            /* an array that is too short for what is to be written */
+    TULFASHEQ_TEXT_BEFORE = 19,     /* a line of a FASTA file that is not empty and stands before the first record */
+    TULFASHEQ_NO_ROOM = 20          /* a record of a FASTA file whose letter lines have more bytes, whatever they are, than the
+                                       letters array has room for behind those used, or than a number of the lengths holds; or no
+                                       row left for it in the lengths */
 };
 
 /* Why a leg stopped; 0 in a refusal. */
@@ -148,6 +156,28 @@ uint64_t tulfasheq_join(
     uint16_t head, uint16_t low, uint16_t high,
     uint32_t *out, size_t out_len,
     uint64_t *place, uint64_t *kept);
+
+/* Hands out the next record of a FASTA file that lies in memory, from the offset *at on. Set *at, *used and *count to 0 before the
+ * first call, and pass them on from call to call.
+ *
+ * A line ends in byte 10, or in 13 and 10, and the last one where the file ends; empty lines are skipped. A record begins with a
+ * line whose first byte is >, and its letters are the lines up to the next such line, joined; it may have none. Its name is what
+ * stands after the > up to the first space, tab or line end, and may be empty.
+ *
+ * The letters go to `letters` behind the *used that it holds, and their number to `lengths` behind its *count rows; the rest of both
+ * stays. Then *at is the offset of the next record, or of the file's end, *used and *count have grown by what was written, *found is
+ * 1, and the name is the part of the file from offset *name_start up to *name_end. Where no record is left, *found and both offsets
+ * are 0, and all else stays: the first *used of `letters` and the first *count of `lengths` are now the file's sequences, in its
+ * order. A file without a record gives none, and a search over no sequence is refused (1).
+ *
+ * Refuses, in this order: 19, 20, 4 (lower case too, which is no letter here). After 20 the record can be asked for again, with
+ * more room. */
+uint64_t tulfasheq_fasta(
+    const uint8_t *file, size_t file_len,
+    uint8_t *letters, size_t letters_len,
+    uint32_t *lengths, size_t lengths_len,
+    uint64_t *at, uint64_t *used, uint64_t *count,
+    uint64_t *place, uint64_t *found, uint64_t *name_start, uint64_t *name_end);
 
 #ifdef __cplusplus
 }
