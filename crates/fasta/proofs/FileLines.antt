@@ -9,8 +9,8 @@ use lib.ListN.{length, drop, getD, length-drop, drop-of-length-le}
 use lib.Seq.{drop-cons, getD-take, getD-drop, take-take, length-take-le}
 use borrow.Author.Tests.{eq-eqb, ne-eqb, eqb-true, eqb-false, ltb-true, ltb-false}
 use Rattle.rules.proofs.Lists.{keep-append}
-use Rattle.rules.specs.Fasta.{Line, line, text?, without-return, lines-of, lines-from, header?}
-use Rattle.rules.specs.Lists.{if, keep, some?}
+use Rattle.rules.specs.Fasta.{line, text?, without-return, lines-of, lines-from, header?}
+use Rattle.rules.specs.Lists.{keep, some?}
 use Rattle.rules.specs.Text.{pieces}
 use Rattle.text.specs.Pieces.{find, others}
 use Rattle.text.proofs.Scan.{find-on, pieces-cut, scan-from, scan-to, scan-cut, scan-others, scan-none}
@@ -175,41 +175,3 @@ header-here file at h m = go (ltb stop (length file)) refl
     go : (b : Bool) → ltb stop (length file) ≡ b → (end : ℕ) × (next : ℕ) × LineAt file at end next × (at < end)
     go true t = cut (ltb-true stop (length file) t) (eqb (getD file (stop - 1) 0) 13) refl
     go false t = (stop, stop, line-last file at stop refl h (ltb-false stop (length file) t), far)
-
--- no line begins before the offset from which the lines are taken
-abbrev NoneBefore : ℕ → List Line → Type 0
-NoneBefore o [] = Unit {0}
-NoneBefore o (l ∷ ls) = o ≤ l .at
-
-none-before : (o k : ℕ) (ps : List (List ℕ)) → o ≤ k → NoneBefore o (keep text? (lines-of k ps))
-unfolding keep lines-of
-none-before o k [] h = tt
-none-before o k (text ∷ []) h = go (some? text)
-  where
-    go : (b : Bool) → NoneBefore o (if b (line k text ∷ []) [])
-    go true = h
-    go false = tt
-none-before o k (text ∷ more ∷ rest) h = go (some? (without-return text)) (none-before o (k + length text + 1) (more ∷ rest) (omega arith))
-  where
-    go : (b : Bool) → NoneBefore o (keep text? (lines-of (k + length text + 1) (more ∷ rest)))
-        → NoneBefore o (if b (line k (without-return text) ∷ keep text? (lines-of (k + length text + 1) (more ∷ rest))) (keep text? (lines-of (k + length text + 1) (more ∷ rest))))
-    go true n = h
-    go false n = n
-
-from-none-before : (file : List ℕ) (at : ℕ) → NoneBefore at (lines-from file at)
-unfolding lines-from
-from-none-before file at = none-before at at (pieces 10 (drop at file)) (omega arith)
-
--- so a line that begins with a byte 62 is not empty, and is a header
-pub header-is : (file : List ℕ) (at end next : ℕ) → LineAt file at end next → getD file at 0 ≡ 62 → (at < end) × (header? (line at (part file at end)) ≡ true)
-header-is file at end next l m = (some, header-mark file at end some m)
-  where
-    go : (b : Bool) → ltb at end ≡ b → at < end
-    go true t = ltb-true at end t
-    go false t =
-        let h = header-here file at (omega (arith, l .onward, l .within)) m in
-        let e = sym (line-skip file at end next l (ltb-false at end t)) ∙ line-some file at (h .0) (h .1) (h .2) (h .3) in
-        absurd (omega (arith, l .onward, rw e at (from-none-before file next)))
-
-    some : at < end
-    some = go (ltb at end) refl
