@@ -71,8 +71,7 @@ module _ (file : List ℕ) where
       let c = pieces-are 10 (drop o file) text (next ∷ rest) .0 e in
       let w = without-return-front text in
       let n : o + (length text + 1) ≡ o + length text + 1 = omega arith in
-      let q : pieces 10 (drop (o + length text + 1) file) ≡ next ∷ rest = rw (drop-drop, n) at (pieces-next 10 (drop o file) text next rest e) in
-      (
+      let q : pieces 10 (drop (o + length text + 1) file) ≡ next ∷ rest = rw (drop-drop, n) at (pieces-next 10 (drop o file) text next rest e) in (
         omega arith,
         front-in-file o text _ (without-return text) (c .whole) (w .0) (w .1),
         laid-from (o + length (without-return text)) (o + length text + 1) (lines-of (o + length text + 1) (next ∷ rest)) (omega (arith, w .0)) (laid-lines (o + length text + 1) (next ∷ rest) q),

@@ -199,10 +199,10 @@ module _ (file : List ℕ) where
       let f : Fit h e = (record { ends = omega arith; row = omega arith; short = s e (List·Memᴰ·head refl) }, t e (List·Memᴰ·head refl)) in
       let m : h .count + length (size-of e ∷ []) ≤ length (h .lengths) = omega arith in
       let (k, r, z) = run-to es (moved-on h e es) (left-next file (h .at) (l .records))
-            (omega (arith, put-at-long (h .used) (letters-of e) (h .letters) (f .0 .ends)))
-            (omega (arith, put-at-long (h .count) (size-of e ∷ []) (h .lengths) m))
-            (λ x i. s x (List·Memᴰ·tail i))
-            (λ x i. t x (List·Memᴰ·tail i)) in
+      (omega (arith, put-at-long (h .used) (letters-of e) (h .letters) (f .0 .ends)))
+      (omega (arith, put-at-long (h .count) (size-of e ∷ []) (h .lengths) m))
+      (λ x i. s x (List·Memᴰ·tail i))
+      (λ x i. t x (List·Memᴰ·tail i)) in
       let q : HandsOut file (after file h (size-of e)) (map handing es) k = rw (after-next h e es l f) r in
       (k, one-more (ap (λ r. r .told) (call-next h e es l f)) q, z)
 

@@ -106,8 +106,7 @@ as-written p h = go (eqb (getD p (length p - 1) 0) 13) refl
         let v = eqb-true (getD p (length p - 1) 0) 13 e in
         let j : suc (length p - 1) ≡ length p = omega (arith, some p v) in
         let f = take (length p - 1) p in
-        let c : p ≡ f ++ (13 ∷ []) = sym (take-length p) ∙ ap (λ n. take n p) (sym j) ∙ take-suc p (length p - 1) 0 (omega arith) ∙ ap (λ (x : ℕ). f ++ (x ∷ [])) v in
-        (
+        let c : p ≡ f ++ (13 ∷ []) = sym (take-length p) ∙ ap (λ n. take n p) (sym j) ∙ take-suc p (length p - 1) 0 (omega arith) ∙ ap (λ (x : ℕ). f ++ (x ∷ [])) v in (
           record { text = f; return = true },
           sym (append-assoc f (13 ∷ []) (10 ∷ [])) ∙ ap with-end (sym c),
           (λ m. h (subst (List·Memᴰ 10) (sym c) (Memᴰ·append-left (13 ∷ []) m)), λ q. absurd (false≢true (sym q))),
@@ -124,10 +123,13 @@ all-written (p ∷ ps) h =
 pub file-written : (file : List ℕ) → (ws : List WrittenLine) × (last : List ℕ) × InWrittenLines file ws last
 file-written file =
     let l = lined file in
-    let (ws, a, b) = all-written (lines file) (l .no-end-within) in
-    (ws, unended file, record {
-      whole = l .whole ∙ ap (λ x. x ++ unended file) (sym a);
-      no-end-within = λ w m. b w m .0;
-      no-return = λ w m. b w m .1;
-      no-end-after = l .no-end-after;
-    })
+    let (ws, a, b) = all-written (lines file) (l .no-end-within) in (
+      ws,
+      unended file,
+      record {
+        whole = l .whole ∙ ap (λ x. x ++ unended file) (sym a);
+        no-end-within = λ w m. b w m .0;
+        no-return = λ w m. b w m .1;
+        no-end-after = l .no-end-after;
+      },
+    )
