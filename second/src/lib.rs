@@ -3,13 +3,15 @@
 //! checked against it. It is plain and slow on purpose: every candidate is
 //! looked for afresh in every sequence.
 //!
-//! Each function quotes the sentence of the paper that it follows.
+//! Each function quotes the sentence of the paper that it follows, or of the
+//! request that came after it.
 
 #![cfg_attr(not(feature = "library"), forbid(unsafe_code))]
 #![deny(unsafe_code)]
 #![warn(missing_docs)]
 
 mod ask;
+mod fasta;
 mod join;
 mod leg;
 mod occurrence;
@@ -32,6 +34,7 @@ pub mod requests;
 pub mod library;
 
 pub use ask::{candidates, occurrences, support, weighted_support, Candidate, Candidates};
+pub use fasta::{lines_text, next_record, records, Handed, Record};
 pub use join::join;
 pub use leg::{leg, Answer, Leg};
 pub use place::Place;

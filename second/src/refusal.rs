@@ -3,7 +3,7 @@
 /// "A refused new search or restore gives no search, only number and place."
 #[derive(Clone, Copy, Debug, PartialEq, Eq)]
 pub struct Refusal {
-    /// The number in the paper's table, 1 to 18.
+    /// The number in the paper's table, 1 to 18, or in a request, 19 and 20.
     pub number: u8,
     /// The place told: an offset, a component's number, a line number, or 0.
     pub place: u64,
@@ -49,6 +49,10 @@ impl Refusal {
     pub const BUFFER: u8 = 17;
     /// "text line (program only)"
     pub const TEXT_LINE: u8 = 18;
+    /// "text before the first `>`"
+    pub const TEXT_BEFORE: u8 = 19;
+    /// "no room for the next record"
+    pub const NO_ROOM: u8 = 20;
 
     /// "A refusal for which no place is named tells 0."
     pub fn plain(number: u8) -> Refusal {

@@ -61,6 +61,11 @@ const VALUES: [u8; 256] = {
     table
 };
 
+/// Whether a byte is a letter.
+pub(crate) fn is_letter(byte: u8) -> bool {
+    VALUES[byte as usize] != NO_VALUE
+}
+
 impl SequenceSet {
     /// "1 to 1,024 sequences"
     pub const MOST_SEQUENCES: usize = 1_024;
