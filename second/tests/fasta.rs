@@ -132,7 +132,14 @@ fn a_record_begins_only_at_a_lines_first_byte() {
 #[test]
 fn text_before_the_first_record() {
     for file in [
-        "A", "A\n", "\nA\n>a\n", " >a\n", "\r>a\n", "\r", ";\n>a\n", "\n\n\r",
+        "A",
+        "A\n",
+        "\nA\n>a\n",
+        " >a\n",
+        "\r>a\n",
+        "\r",
+        ";\n>a\n",
+        "\n\n\r",
     ] {
         assert_eq!(listed(file.as_bytes()), Err(refusal(19, 0)), "{file:?}");
         refuses(file.as_bytes(), 0, &Tables::new(9, 9), 19, 0);

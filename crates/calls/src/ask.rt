@@ -1,11 +1,11 @@
-// What a request asks. It is a head of 40 numbers of eight bytes, and then what is lent, in the order of the lengths here:
+// What a request asks. It is a head of 42 numbers of eight bytes, and then what is lent, in the order of the lengths here:
 //
 //   0       the kind of call
-//   1       letters (bytes)
+//   1       letters (bytes), or a FASTA file
 //   2, 3    the first list, which holds the lengths of the sequences or a join's first list, and the second (four bytes each)
 //   4, 5, 6 a leg's motifs (eight bytes each), supports (four) and weights (eight)
-//   7       a recovery's rows or a join's table (four bytes each)
-//   8       the saved search (bytes), to restore from or to save to
+//   7       a recovery's rows, a join's table or the lengths that the FASTA reader writes (four bytes each)
+//   8       the saved search (bytes), to restore from or to save to, or the letters that the FASTA reader writes
 //   9       a leg's budget
 //   10, 11  a recovery's motif and first row
 //   12 - 14 a join's head, low and high
@@ -13,7 +13,8 @@
 //   34      the quorum
 //   35, 36  the search's sequences and letters in all
 //   37, 38  its place: letters and number
-//   39      nothing
+//   39      the FASTA reader's cursor
+//   40, 41  how many letters, and how many lengths, its tables hold already
 //
 // A field narrower than eight bytes takes the low ones.
 use crate::wire::eight;
@@ -44,17 +45,20 @@ pub struct Ask {
     pub low: u16,
     pub high: u16,
     pub search: Search,
+    pub at: usize,
+    pub used: usize,
+    pub count: usize,
 }
 
 // The number at an index of the head.
 fn word(head: &[u8; Ask::BYTES], i: usize) -> u64
-    requires { ⌜ i < 40 ⌝ }
+    requires { ⌜ i < 42 ⌝ }
 {
     eight(head, 8 * i)
 }
 
 fn component(head: &[u8; Ask::BYTES], i: usize) -> Component
-    requires { ⌜ i + 3 ≤ 40 ⌝ }
+    requires { ⌜ i + 3 ≤ 42 ⌝ }
 {
     Component::new(
         low16(word(head, i)),
@@ -86,7 +90,7 @@ fn search(head: &[u8; Ask::BYTES]) -> Search {
 
 impl Ask {
     // The numbers of a head, and its bytes.
-    const NUMBERS: usize = 40;
+    const NUMBERS: usize = 42;
 
     pub const BYTES: usize = 8 * Ask::NUMBERS;
 
@@ -102,6 +106,8 @@ impl Ask {
     pub const RECOVER: u64 = 5;
 
     pub const JOIN: u64 = 6;
+
+    pub const FASTA: u64 = 7;
 
     pub fn read(head: &[u8; Ask::BYTES]) -> Ask {
         Ask {
@@ -121,6 +127,9 @@ impl Ask {
             low: low16(word(head, 13)),
             high: low16(word(head, 14)),
             search: search(head),
+            at: word(head, 39) as usize,
+            used: word(head, 40) as usize,
+            count: word(head, 41) as usize,
         }
     }
 }

@@ -14,8 +14,8 @@ use wire::room8;
 use wire::room32;
 use wire::room64;
 
-// The room of the tables here: letters, more than a set may have; a list or one of a leg's tables; the rows of a recovery or of
-// a join; and a saved search.
+// The room of the tables here: letters or a FASTA file, more than a set may have; a list or one of a leg's tables; the rows of a
+// recovery or of a join, or a FASTA reader's lengths; and a saved search.
 const LETTERS: usize = SequenceSet::LETTERS + 464;
 
 const LIST: usize = 4096;
@@ -156,6 +156,21 @@ fn call_join(ask: Ask, first: &[u32], second: &[u32], rows: &mut [u32]) -> Told 
     ))
 }
 
+// The file is where other requests have their letters.
+fn call_fasta(ask: Ask, file: &[u8], out: &mut [u8], rows: &mut [u32]) -> Told {
+    let n = room8(ask.letters, file);
+    let k = room8(ask.saved, out);
+    let r = room32(ask.rows, rows);
+    Told::handed(fasta::next_at(
+        &file[..n],
+        ask.at,
+        &mut out[..k],
+        ask.used,
+        &mut rows[..r],
+        ask.count,
+    ))
+}
+
 // Each kind of request: what is lent is read, the call made, and the answer written. Whether all came and all was written.
 fn begin(ask: Ask, letters: &mut [u8], lengths: &mut [u32], bytes: &mut [u8]) -> bool {
     let came = read_set(ask, letters, lengths, bytes);
@@ -222,6 +237,16 @@ fn join(ask: Ask, first: &mut [u32], bytes: &mut [u8]) -> bool {
     came && write_rows(told, ask, &rows, bytes)
 }
 
+fn fasta(ask: Ask, file: &mut [u8], bytes: &mut [u8]) -> bool {
+    let mut rows = [0u32; ROWS];
+    let mut out = [0u8; LETTERS];
+    let came = wire::read8(ask.letters, file)
+        & wire::read32(ask.rows, &mut rows, bytes)
+        & wire::read8(ask.saved, &mut out);
+    let told = call_fasta(ask, file, &mut out, &mut rows);
+    came && write_rows(told, ask, &rows, bytes) & wire::write8(ask.saved, &out)
+}
+
 // Answers one request; whether that could be done.
 fn request(letters: &mut [u8], first: &mut [u32], bytes: &mut [u8]) -> bool {
     let mut head = [0u8; Ask::BYTES];
@@ -238,6 +263,7 @@ fn request(letters: &mut [u8], first: &mut [u32], bytes: &mut [u8]) -> bool {
         Ask::RESTORE => restore(ask, letters, first, bytes),
         Ask::RECOVER => recover(ask, letters, first, bytes),
         Ask::JOIN => join(ask, first, bytes),
+        Ask::FASTA => fasta(ask, letters, bytes),
         _ => false,
     }
 }

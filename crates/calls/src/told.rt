@@ -1,19 +1,26 @@
-// What an answer tells, in 29 numbers of eight bytes:
+// What an answer tells, in 31 numbers of eight bytes:
 //
-//   0       how the call came out: refused 0, done 1; of a leg, ended 1, spent 2, full 3
+//   0       how the call came out: refused 0, done 1; of a leg, ended 1, spent 2, full 3; of the FASTA reader, a record 1, the
+//           file's end 2
 //   1, 2    a refusal's number and place, and else 0
-//   3, 4    the counts: a leg's steps and rows, a save's bytes, a recovery's rows and whole length, a join's positions
-//   5 - 28  the search of a new search, a restore or a leg, laid out as in a request
+//   3, 4    the counts: a leg's steps and rows, a save's bytes, a recovery's rows and whole length, a join's positions, a record's
+//           letters and then the cursor, which a refusal tells too
+//   5, 6    where a record's name starts and ends in its file
+//   7 - 30  the search of a new search, a restore or a leg, laid out as in a request
 //
 // What an answer does not have is 0.
 use crate::wire::wide8;
 use crate::wire::wide16;
 use crate::wire::wide32;
+use fasta::Step;
 use rules::Begun;
 use rules::Component;
+use rules::FileRefusal;
+use rules::Handed;
 use rules::Joined;
 use rules::Leg;
 use rules::LegAnswer;
+use rules::Name;
 use rules::Place;
 use rules::Recovered;
 use rules::Refusal;
@@ -28,6 +35,8 @@ pub struct Told {
     pub place: u64,
     pub count: u64,
     pub total: u64,
+    pub name_start: u64,
+    pub name_end: u64,
     pub search: Search,
 }
 
@@ -53,7 +62,7 @@ fn no_search() -> Search {
 
 impl Told {
     // How many numbers it is.
-    pub const WORDS: usize = 29;
+    pub const WORDS: usize = 31;
 
     fn done(outcome: u64, count: u64, total: u64, search: Search) -> Told {
         Told {
@@ -62,6 +71,8 @@ impl Told {
             place: 0,
             count,
             total,
+            name_start: 0,
+            name_end: 0,
             search,
         }
     }
@@ -73,6 +84,8 @@ impl Told {
             place: why.place(),
             count,
             total,
+            name_start: 0,
+            name_end: 0,
             search,
         }
     }
@@ -122,6 +135,43 @@ impl Told {
         }
     }
 
+    // Of the FASTA reader: a record, and what it refused. It says where it stands then.
+    fn record(name: Name, letters: usize, at: u64) -> Told {
+        Told {
+            outcome: 1,
+            number: 0,
+            place: 0,
+            count: letters as u64,
+            total: at,
+            name_start: name.start.0 as u64,
+            name_end: name.end.0 as u64,
+            search: no_search(),
+        }
+    }
+
+    fn no_record(why: FileRefusal, at: u64) -> Told {
+        Told {
+            outcome: 0,
+            number: why.number(),
+            place: why.place(),
+            count: 0,
+            total: at,
+            name_start: 0,
+            name_end: 0,
+            search: no_search(),
+        }
+    }
+
+    pub fn handed(step: Step) -> Told {
+        let at = step.at as u64;
+        let handed = step.handed;
+        match handed {
+            Handed::Record { name, letters } => Told::record(name, letters, at),
+            Handed::End => Told::done(2, 0, at, no_search()),
+            Handed::Refused(why) => Told::no_record(why, at),
+        }
+    }
+
     pub fn words(self) -> [u64; Told::WORDS] {
         let s = self.search;
         let t = s.template;
@@ -131,6 +181,8 @@ impl Told {
             self.place,
             self.count,
             self.total,
+            self.name_start,
+            self.name_end,
             wide16(t.count),
             wide16(t.c1.length),
             wide16(t.c1.low),

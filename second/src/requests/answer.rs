@@ -2,27 +2,31 @@
 //! what the second program answers.
 
 use super::request::{Kind, Request, Slot, Value};
-use crate::{Answer as Stop, Component, Place, Refusal, Search, Template};
+use crate::{Answer as Stop, Component, Handed, Place, Refusal, Search, Template};
 
 /// How a call came out, as the program's file told.rt lays it out.
 pub const REFUSED: u64 = 0;
 pub const DONE: u64 = 1;
-const SPENT: u64 = 2;
-const FULL: u64 = 3;
+pub const SPENT: u64 = 2;
+pub const FULL: u64 = 3;
+pub const FILE_ENDED: u64 = 2;
 
 /// The numbers told before the search's 24.
-const NAMES: [&str; 5] = [
+const NAMES: [&str; 7] = [
     "outcome",
     "refusal",
     "place of the refusal",
     "count",
-    "total",
+    "total or cursor",
+    "start of the name",
+    "end of the name",
 ];
 pub const TOLD: usize = NAMES.len() + 24;
 
 #[derive(Clone, Debug, PartialEq, Eq)]
 pub struct Answer {
-    /// Outcome, refusal number and place, two counts, and the search.
+    /// Outcome, refusal number and place, two counts, a name's start and end,
+    /// and the search.
     pub told: Vec<u64>,
     pub motifs: Vec<u64>,
     pub supports: Vec<u32>,
@@ -115,6 +119,17 @@ impl Answer {
                     Err(refusal) => told_refusal(refusal, &Value::default()),
                 }
             }
+            Kind::Fasta => {
+                let handed = crate::next_record(
+                    letters,
+                    size(request.at),
+                    &mut answer.saved,
+                    size(request.used),
+                    &mut answer.rows,
+                    size(request.count),
+                );
+                told_handed(request.at, handed)
+            }
         };
         answer
     }
@@ -129,6 +144,11 @@ impl Answer {
 
     pub fn count(&self) -> u64 {
         self.told[3]
+    }
+
+    /// Where the FASTA reader stands.
+    pub fn cursor(&self) -> u64 {
+        self.told[4]
     }
 
     /// The search that is told.
@@ -180,16 +200,39 @@ fn in_table<T: PartialEq + std::fmt::Display>(
     first_difference(one, other).map(|(at, how)| format!("{name} at {at}: {how}"))
 }
 
-fn told(outcome: u64, count: u64, total: u64, value: &Value) -> Vec<u64> {
-    let mut told = vec![outcome, 0, 0, count, total];
+pub fn told(outcome: u64, count: u64, total: u64, value: &Value) -> Vec<u64> {
+    let mut told = vec![outcome, 0, 0, count, total, 0, 0];
     told.extend(value.words());
     told
 }
 
-fn told_refusal(refusal: Refusal, value: &Value) -> Vec<u64> {
-    let mut told = vec![REFUSED, u64::from(refusal.number), refusal.place, 0, 0];
+pub fn told_refusal(refusal: Refusal, value: &Value) -> Vec<u64> {
+    let mut told = vec![REFUSED, refusal.number.into(), refusal.place, 0, 0, 0, 0];
     told.extend(value.words());
     told
+}
+
+/// What the FASTA reader tells, which stood at a cursor: where it stands then,
+/// refused calls too.
+pub fn told_handed(at: u64, handed: Result<Option<Handed>, Refusal>) -> Vec<u64> {
+    let mut told = match &handed {
+        Ok(Some(record)) => {
+            let (name, letters) = (&record.name, record.letters);
+            let mut told = vec![DONE, 0, 0];
+            told.extend([letters, record.at, name.start, name.end].map(|n| n as u64));
+            told
+        }
+        Ok(None) => vec![FILE_ENDED, 0, 0, 0, at, 0, 0],
+        Err(refusal) => vec![REFUSED, refusal.number.into(), refusal.place, 0, at, 0, 0],
+    };
+    told.extend(Value::default().words());
+    told
+}
+
+/// A cursor or a count of the FASTA reader as this machine counts bytes. More
+/// than that is past every file and table.
+pub fn size(n: u64) -> usize {
+    usize::try_from(n).unwrap_or(usize::MAX)
 }
 
 /// A new search and a restore give a search whose template has nothing in the

@@ -114,6 +114,7 @@ pub enum Kind {
     Restore = 4,
     Recover = 5,
     Join = 6,
+    Fasta = 7,
 }
 
 /// One call, with all that is lent to it. What a call does not take is empty
@@ -122,14 +123,17 @@ pub enum Kind {
 #[derive(Clone, Debug)]
 pub struct Request {
     pub kind: Kind,
-    /// The sequences; a join has its first list for the lengths.
+    /// The sequences; a join has its first list for the lengths, and the FASTA
+    /// reader its file for the letters.
     pub set: Rc<Set>,
     /// A join's second list.
     pub partners: Vec<u32>,
     pub motifs: Vec<u64>,
     pub supports: Vec<u32>,
     pub weights: Vec<u64>,
+    /// The FASTA reader's lengths, too.
     pub rows: Vec<u32>,
+    /// The buffer for the FASTA reader's letters, too.
     pub saved: Vec<u8>,
     pub budget: u64,
     pub motif: u64,
@@ -138,6 +142,11 @@ pub struct Request {
     pub low: u16,
     pub high: u16,
     pub value: Value,
+    /// The FASTA reader's cursor.
+    pub at: u64,
+    /// How many letters and lengths its tables hold already.
+    pub used: u64,
+    pub count: u64,
 }
 
 impl Request {
@@ -158,6 +167,9 @@ impl Request {
             low: 0,
             high: 0,
             value,
+            at: 0,
+            used: 0,
+            count: 0,
         }
     }
 }
@@ -208,6 +220,13 @@ impl fmt::Display for Value {
 impl fmt::Display for Request {
     fn fmt(&self, out: &mut fmt::Formatter) -> fmt::Result {
         writeln!(out, "  {:?}", self.kind)?;
+        if self.kind == Kind::Fasta {
+            let (file, letters) = (&self.set.letters, &self.saved);
+            writeln!(out, "  {} bytes: {}", file.len(), file.escape_ascii())?;
+            writeln!(out, "  cursor {}", self.at)?;
+            writeln!(out, "  {} used of letters {}", self.used, listed(letters))?;
+            return writeln!(out, "  {} used of rows {}", self.count, listed(&self.rows));
+        }
         if self.kind == Kind::Join {
             writeln!(out, "  first list {}", listed(&self.set.lengths))?;
             writeln!(out, "  second list {}", listed(&self.partners))?;
@@ -238,7 +257,7 @@ impl fmt::Display for Request {
                 self.first_row,
                 self.rows.len()
             ),
-            Kind::Begin | Kind::Join => Ok(()),
+            Kind::Begin | Kind::Join | Kind::Fasta => Ok(()),
         }
     }
 }

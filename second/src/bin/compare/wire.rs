@@ -3,7 +3,7 @@
 use second::requests::answer::{Answer, TOLD};
 use second::requests::request::Request;
 
-/// The bytes that the program reads: a head of 40 numbers, then what is lent,
+/// The bytes that the program reads: a head of 42 numbers, then what is lent,
 /// as its file ask.rt lays them out.
 pub fn encode(request: &Request, to: &mut Vec<u8>) {
     let mut head = vec![
@@ -24,7 +24,7 @@ pub fn encode(request: &Request, to: &mut Vec<u8>) {
         u64::from(request.high),
     ];
     head.extend(request.value.words());
-    head.push(0);
+    head.extend([request.at, request.used, request.count]);
     put_wide(&head, to);
     to.extend(&request.set.letters);
     put_narrow(&request.set.lengths, to);
