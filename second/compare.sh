@@ -1,21 +1,22 @@
 #!/bin/sh
-# Compares the proved library and the printing program with the second program, on thousands of inputs (src/requests,
-# src/bin/compare/texts.rs). The library is called in two ways: through the program `calls`, and through the exports, linked as
-# any program would link them (library.sh, src/library.rs, tests/library*.rs).
+# Compares the proved library, the printing program and the program that cuts FASTA to lines with the second program, on thousands
+# of inputs (src/requests, src/bin/compare). The library is called in two ways: through the program `calls`, and through the
+# exports, linked as any program would link them (library.sh, src/library.rs, tests/library*.rs).
 set -eu
 cd "$(dirname "$0")/.."
 
 cargo build --release --offline --quiet --manifest-path second/Cargo.toml --bin compare
 calls=$(./run --words calls)
 motifs=$(./run --words motifs)
+lines=$(./run --words lines)
 
-# The words of the two commands are one to a line.
+# The words of the three commands are one to a line.
 (
     IFS='
 '
     set -f
     # shellcheck disable=SC2086
-    second/target/release/compare $calls -- $motifs
+    second/target/release/compare $calls -- $motifs -- $lines
 )
 
 echo "== the exports, linked"

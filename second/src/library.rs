@@ -1,4 +1,4 @@
-//! The proved library, called as C calls it: the six functions that
+//! The proved library, called as C calls it: the seven functions that
 //! `include/tulfasheq.h` declares, and a safe function for each.
 //!
 //! Behind the feature `library`, since it links `target/host/libtulfasheq.a`,
@@ -11,66 +11,13 @@
 //! A call uses up to 1.5 MiB of stack, for which a thread's usual 2 MiB do.
 
 mod declared;
+mod reader;
+mod told;
 
 use crate::refusal::Refusal;
 
-/// A template as the library takes it: how many components, and the length,
-/// l and u of each in turn.
-#[derive(Clone, Copy, Debug, PartialEq, Eq)]
-pub struct Template<'a> {
-    /// The number of components.
-    pub components: u16,
-    /// Their shape. What it does not reach is 0.
-    pub shape: &'a [u16],
-}
-
-/// What the library tells of a search, beside its template's shape.
-#[derive(Clone, Copy, Debug, Default, PartialEq, Eq)]
-pub struct Search {
-    /// The number of components.
-    pub components: u16,
-    /// The quorum.
-    pub quorum: u64,
-    /// The number of sequences.
-    pub sequences: u32,
-    /// The letters in all.
-    pub total: u32,
-    /// The letters of the next candidate.
-    pub next_letters: u8,
-    /// The number of the next candidate.
-    pub next_number: u64,
-}
-
-/// Why a leg stopped.
-#[derive(Clone, Copy, Debug, PartialEq, Eq)]
-pub enum Stop {
-    /// There is no candidate left.
-    Ended,
-    /// The budget is used up.
-    Spent,
-    /// The next motif has no room in the tables.
-    Full,
-}
-
-/// What a leg tells.
-#[derive(Clone, Copy, Debug, PartialEq, Eq)]
-pub struct Leg {
-    /// Why it stopped.
-    pub stop: Stop,
-    /// The candidates examined.
-    pub steps: u64,
-    /// The rows written.
-    pub rows: usize,
-}
-
-/// What a recovery tells.
-#[derive(Clone, Copy, Debug, PartialEq, Eq)]
-pub struct Recovered {
-    /// The rows written.
-    pub rows: usize,
-    /// The list's length.
-    pub length: u64,
-}
+pub use reader::Reader;
+pub use told::{Leg, Recovered, Search, Stop, Template};
 
 /// A number that no call leaves behind, to be told in its place.
 const UNTOLD: u64 = u64::MAX;
@@ -82,7 +29,7 @@ fn answer(number: u64, place: u64, told: &[u64]) -> Result<(), Refusal> {
         assert_eq!(place, 0, "the place told without a refusal");
         return Ok(());
     }
-    assert!(number <= 17, "refusal {number}");
+    assert!(matches!(number, 1..=17 | 19 | 20), "refusal {number}");
     assert!(
         told.iter().all(|n| *n == 0),
         "told in refusal {number}: {told:?}"

@@ -1,9 +1,9 @@
-//! The linked library on the paper's set E: each of the six calls as the
+//! The linked library on the paper's set E: each of the seven calls as the
 //! header declares it, with the paper's numbers, and refused calls, which
 //! leave every buffer as it was.
 
 use second::library::{begin, join, leg, recover, restore, save};
-use second::library::{Leg, Recovered, Search, Stop, Template};
+use second::library::{Leg, Reader, Recovered, Search, Stop, Template};
 use second::Refusal;
 
 /// ACGTA, CAGGT, AT.
@@ -114,6 +114,33 @@ fn p7_joins() {
     assert_eq!(out, [1, 4, 7]);
     assert_eq!(join(&[1, 4], &[3, 5], 1, 0, 0, &mut out), Ok(1));
     assert_eq!(out, [4, 4, 7]);
+}
+
+/// E as a FASTA file: two lines of letters, a name that a tab ends, a line end
+/// of 13 and 10, an empty line, and no end of the last line.
+const FILE: &[u8] = b"\n>e1 first\nACG\nTA\n>\tsecond\r\nCAGGT\r\n\n>e3\nAT";
+
+#[test]
+fn a_fasta_file_of_e() {
+    let mut reader = Reader::new(FILE);
+    let (mut letters, mut lengths) = ([b'-'; 14], [7; 4]);
+    let (mut used, mut count) = (0, 0);
+    let mut next = |at: u64, name: Option<&[u8]>, letters_used: u64, rows: u64| {
+        let found = reader.next(&mut letters, &mut used, &mut lengths, &mut count);
+        assert_eq!(found, Ok(name));
+        assert_eq!((reader.at(), used, count), (at, letters_used, rows));
+        found.unwrap().map(<[u8]>::as_ptr)
+    };
+    assert_eq!(next(18, Some(b"e1"), 5, 1), Some(FILE[2..].as_ptr()));
+    assert_eq!(next(36, Some(b""), 10, 2), Some(FILE[19..].as_ptr()));
+    assert_eq!(next(42, Some(b"e3"), 12, 3), Some(FILE[37..].as_ptr()));
+    assert_eq!(next(42, None, 12, 3), None);
+    assert_eq!(letters, *b"ACGTACAGGTAT--");
+    assert_eq!(lengths, [5, 5, 2, 7]);
+    let mut saved = [0; 64];
+    let size = begin(&letters[..12], &lengths[..3], PAIR, 2, &mut saved);
+    assert_eq!(size, Ok(64));
+    assert_eq!(saved[..], begun(2));
 }
 
 /// The save of E's search, quorum 2, after 4 steps.

@@ -2,28 +2,17 @@
 //! program `calls` is compared by (src/requests): every number told and the
 //! whole of every lent table, refused calls too. A search goes from call to
 //! call as its saved bytes, and one that no call gave comes about by a save.
+//!
+//! What the header says of numbers told is held to in `second::library`; what
+//! is told is laid out here as the second program's answers are.
 
-use second::library::{self, Stop, Template};
-use second::requests::answer::{self, Answer, DONE, REFUSED};
+use second::library::{self, Reader, Stop, Template};
+use second::requests::answer::{self, told, told_handed, told_refusal};
+use second::requests::answer::{Answer, DONE, FULL, REFUSED, SPENT};
 use second::requests::random::Random;
 use second::requests::request::{Kind, Request, Slot, Value};
 use second::requests::{Seen, GROUPS};
-use second::Refusal;
-
-/// What the header says of numbers told is held to in `second::library`; what
-/// is told is laid out here as the second program's answers are.
-fn told(outcome: u64, counts: [u64; 2], value: &Value) -> Vec<u64> {
-    let mut told = vec![outcome, 0, 0];
-    told.extend(counts);
-    told.extend(value.words());
-    told
-}
-
-fn told_refusal(refusal: Refusal, value: &Value) -> Vec<u64> {
-    let mut told = vec![REFUSED, refusal.number.into(), refusal.place, 0, 0];
-    told.extend(value.words());
-    told
-}
+use second::{Handed, Refusal};
 
 fn shape(value: &Value) -> Vec<u16> {
     let numbers = |slot: &Slot| [slot.length, slot.low, slot.high];
@@ -88,11 +77,11 @@ fn leg(request: &Request, saved: &mut [u8], answer: &mut Answer) -> Result<(), R
     .inspect_err(|_| assert_eq!(saved, before, "a refused leg wrote over its save"))?;
     let outcome = match leg.stop {
         Stop::Ended => DONE,
-        Stop::Spent => 2,
-        Stop::Full => 3,
+        Stop::Spent => SPENT,
+        Stop::Full => FULL,
     };
     let value = restored(request, saved).expect("what a leg saves is restored");
-    answer.told = told(outcome, [leg.steps, leg.rows as u64], &value);
+    answer.told = told(outcome, leg.steps, leg.rows as u64, &value);
     Ok(())
 }
 
@@ -127,32 +116,59 @@ fn call(request: &Request, answer: &mut Answer) -> Result<(), Refusal> {
             );
             begun?;
             let value = restored(request, &saved[..size])?;
-            answer.told = told(DONE, [0, 0], &value);
+            answer.told = told(DONE, 0, 0, &value);
         }
         Kind::Leg => leg_of_value(request, answer)?,
         Kind::Save => {
             let search = told_search(value);
             let size = library::save(letters, lengths, &search, &shape, &mut answer.saved)?;
-            answer.told = told(DONE, [size as u64, 0], &none);
+            answer.told = told(DONE, size as u64, 0, &none);
         }
         Kind::Restore => {
             let value = restored(request, &request.saved)?;
-            answer.told = told(DONE, [0, 0], &value);
+            answer.told = told(DONE, 0, 0, &value);
         }
         Kind::Recover => {
             let (motif, first) = (request.motif, request.first_row);
             let rows = &mut answer.rows;
             let found = library::recover(letters, lengths, template, motif, first, rows)?;
-            answer.told = told(DONE, [found.rows as u64, found.length], &none);
+            answer.told = told(DONE, found.rows as u64, found.length, &none);
         }
         Kind::Join => {
             let (head, low, high) = (request.head, request.low, request.high);
             let partners = &request.partners;
             let kept = library::join(lengths, partners, head, low, high, &mut answer.rows)?;
-            answer.told = told(DONE, [kept as u64, 0], &none);
+            answer.told = told(DONE, kept as u64, 0, &none);
+        }
+        Kind::Fasta => {
+            let mut reader = Reader::from(letters, request.at);
+            let handed = next_record(&mut reader, letters, request, answer);
+            answer.told = told_handed(reader.at(), handed);
         }
     }
     Ok(())
+}
+
+/// The reader's next record, as the second program tells it. Its name is known
+/// by where it lies in the file.
+fn next_record(
+    reader: &mut Reader,
+    file: &[u8],
+    request: &Request,
+    answer: &mut Answer,
+) -> Result<Option<Handed>, Refusal> {
+    let (mut used, mut count) = (request.used, request.count);
+    let (letters, lengths) = (&mut answer.saved, &mut answer.rows);
+    let Some(name) = reader.next(letters, &mut used, lengths, &mut count)? else {
+        return Ok(None);
+    };
+    assert_eq!(count, request.count + 1);
+    let start = name.as_ptr() as usize - file.as_ptr() as usize;
+    Ok(Some(Handed {
+        name: start..start + name.len(),
+        letters: (used - request.used) as usize,
+        at: reader.at() as usize,
+    }))
 }
 
 /// What the library answers to a request. Tables that it does not write stay
@@ -242,7 +258,7 @@ fn compare(name: &str, seen: &mut Seen) {
                 panic!("{name}, seed {seed}: a leg from these bytes differs in {difference}\n{request}");
             }
         }
-        seen.count(request.kind, Answer::expected(request).refusal());
+        seen.count(request.kind, &Answer::expected(request));
     }
     println!("{name}: {} requests, seed {seed}", requests.len());
 }

@@ -104,4 +104,20 @@ extern "C" {
         place: *mut u64,
         kept: *mut u64,
     ) -> u64;
+
+    pub fn tulfasheq_fasta(
+        file: *const u8,
+        file_len: usize,
+        letters: *mut u8,
+        letters_len: usize,
+        lengths: *mut u32,
+        lengths_len: usize,
+        at: *mut u64,
+        used: *mut u64,
+        count: *mut u64,
+        place: *mut u64,
+        found: *mut u64,
+        name_start: *mut u64,
+        name_end: *mut u64,
+    ) -> u64;
 }

@@ -2,14 +2,17 @@
 //! made of the program `calls`, which only passes them on to the library, and
 //! of the second program. Every number told and every lent table has to be the
 //! same, refused calls too. Then hundreds of texts, printed by the program
-//! `motifs` and by the second program: every byte has to be the same.
+//! `motifs` and by the second program, and hundreds of FASTA files, cut to
+//! lines by the program `lines` and by the second program: every byte has to
+//! be the same.
 //!
-//!     compare CALLS.. -- MOTIFS..
+//!     compare CALLS.. -- MOTIFS.. -- LINES..
 //!
-//! CALLS and MOTIFS are the commands that run the two programs. Every input
-//! follows from the seeds that are printed. The first difference is printed
-//! with its input, and ends the run with status 1.
+//! CALLS, MOTIFS and LINES are the commands that run the three programs. Every
+//! input follows from the seeds that are printed. The first difference is
+//! printed with its input, and ends the run with status 1.
 
+mod lines;
 mod program;
 mod texts;
 mod wire;
@@ -34,19 +37,24 @@ fn compare(program: &mut Program) -> Result<(), String> {
 fn main() -> ExitCode {
     let words: Vec<String> = std::env::args().skip(1).collect();
     let commands: Vec<&[String]> = words.split(|word| word == "--").collect();
-    let [calls, motifs] = commands[..] else {
-        eprintln!("compare CALLS.. -- MOTIFS..: the commands that run the two programs");
+    let [calls, motifs, lines] = commands[..] else {
+        eprintln!(
+            "compare CALLS.. -- MOTIFS.. -- LINES..: the commands that run the three programs"
+        );
         return ExitCode::from(2);
     };
-    if calls.is_empty() || motifs.is_empty() {
-        eprintln!("compare CALLS.. -- MOTIFS..: a command has at least one word");
+    if commands.iter().any(|command| command.is_empty()) {
+        eprintln!("compare CALLS.. -- MOTIFS.. -- LINES..: a command has at least one word");
         return ExitCode::from(2);
     }
     let mut program = Program {
         command: calls.to_vec(),
         seen: Default::default(),
     };
-    match compare(&mut program).and_then(|()| texts::compare(motifs)) {
+    let compared = compare(&mut program)
+        .and_then(|()| texts::compare(motifs))
+        .and_then(|()| lines::compare(lines));
+    match compared {
         Ok(()) => {
             println!("every answer is the same");
             ExitCode::SUCCESS

@@ -317,12 +317,6 @@ fn told(printout: &[u8]) -> (u64, u64, u64) {
     }
 }
 
-/// Some bytes of a text from a place on, as they are shown beside a difference.
-fn shown(text: &[u8], from: usize) -> String {
-    let rest = &text[from.min(text.len())..];
-    rest[..rest.len().min(300)].escape_ascii().to_string()
-}
-
 /// Prints every text with the program and with the second one, and compares
 /// the two; at the first difference, says what it is.
 pub fn compare(command: &[String]) -> Result<(), String> {
@@ -331,21 +325,8 @@ pub fn compare(command: &[String]) -> Result<(), String> {
     let (mut most_steps, mut most_rows) = (0, 0);
     for text in &texts {
         let expected = second::printout(text);
-        let printed = program::run(command, text.clone())?;
-        if printed != expected {
-            let same = printed
-                .iter()
-                .zip(&expected)
-                .take_while(|(a, b)| a == b)
-                .count();
-            return Err(format!(
-                "texts, seed {SEED}: for a text of {} bytes, {}\nthe program differs from the second one from byte {same} on: {}\ninstead of: {}",
-                text.len(),
-                shown(text, 0),
-                shown(&printed, same),
-                shown(&expected, same)
-            ));
-        }
+        program::prints(command, text, &expected)
+            .map_err(|difference| format!("texts, seed {SEED}: {difference}"))?;
         let (refusal, steps, rows) = told(&expected);
         *seen.entry(refusal).or_default() += 1;
         (most_steps, most_rows) = (most_steps.max(steps), most_rows.max(rows));
@@ -354,17 +335,5 @@ pub fn compare(command: &[String]) -> Result<(), String> {
         "texts: {} printed, seed {SEED}, with up to {most_steps} steps and {most_rows} rows",
         texts.len()
     );
-    let count = |refusal: &u64| seen.get(refusal).copied().unwrap_or(0);
-    let counts: Vec<String> = REFUSALS
-        .iter()
-        .map(|r| format!("{r}: {}", count(r)))
-        .collect();
-    println!("texts, by refusal (0 is none): {}", counts.join(", "));
-    match REFUSALS.iter().find(|refusal| count(refusal) == 0) {
-        Some(refusal) => Err(format!("no text came to refusal {refusal}")),
-        None if seen.len() > REFUSALS.len() => {
-            Err(format!("a text came to another refusal: {seen:?}"))
-        }
-        None => Ok(()),
-    }
+    program::all_seen("texts", &REFUSALS, &seen)
 }

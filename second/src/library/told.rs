@@ -1,0 +1,59 @@
+//! What a caller passes to the library and what is told back, put together.
+
+/// A template as the library takes it: how many components, and the length,
+/// l and u of each in turn.
+#[derive(Clone, Copy, Debug, PartialEq, Eq)]
+pub struct Template<'a> {
+    /// The number of components.
+    pub components: u16,
+    /// Their shape. What it does not reach is 0.
+    pub shape: &'a [u16],
+}
+
+/// What the library tells of a search, beside its template's shape.
+#[derive(Clone, Copy, Debug, Default, PartialEq, Eq)]
+pub struct Search {
+    /// The number of components.
+    pub components: u16,
+    /// The quorum.
+    pub quorum: u64,
+    /// The number of sequences.
+    pub sequences: u32,
+    /// The letters in all.
+    pub total: u32,
+    /// The letters of the next candidate.
+    pub next_letters: u8,
+    /// The number of the next candidate.
+    pub next_number: u64,
+}
+
+/// Why a leg stopped.
+#[derive(Clone, Copy, Debug, PartialEq, Eq)]
+pub enum Stop {
+    /// There is no candidate left.
+    Ended,
+    /// The budget is used up.
+    Spent,
+    /// The next motif has no room in the tables.
+    Full,
+}
+
+/// What a leg tells.
+#[derive(Clone, Copy, Debug, PartialEq, Eq)]
+pub struct Leg {
+    /// Why it stopped.
+    pub stop: Stop,
+    /// The candidates examined.
+    pub steps: u64,
+    /// The rows written.
+    pub rows: usize,
+}
+
+/// What a recovery tells.
+#[derive(Clone, Copy, Debug, PartialEq, Eq)]
+pub struct Recovered {
+    /// The rows written.
+    pub rows: usize,
+    /// The list's length.
+    pub length: u64,
+}
