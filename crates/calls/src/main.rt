@@ -55,6 +55,19 @@ fn read_lists(
         & wire::read32(ask.rows, rows, bytes)
 }
 
+// Reads a FASTA file, and the tables that its reader is to write to.
+fn read_file(
+    ask: Ask,
+    file: &mut [u8],
+    lengths: &mut [u32],
+    letters: &mut [u8],
+    bytes: &mut [u8],
+) -> bool {
+    wire::read8(ask.letters, file)
+        & wire::read32(ask.rows, lengths, bytes)
+        & wire::read8(ask.saved, letters)
+}
+
 // Writes what is told, alone or with tables; whether all of it was written.
 fn write_told(told: Told, bytes: &mut [u8]) -> bool {
     let words = told.words();
@@ -157,16 +170,16 @@ fn call_join(ask: Ask, first: &[u32], second: &[u32], rows: &mut [u32]) -> Told 
 }
 
 // The file is where other requests have their letters.
-fn call_fasta(ask: Ask, file: &[u8], out: &mut [u8], rows: &mut [u32]) -> Told {
+fn call_fasta(ask: Ask, file: &[u8], letters: &mut [u8], lengths: &mut [u32]) -> Told {
     let n = room8(ask.letters, file);
-    let k = room8(ask.saved, out);
-    let r = room32(ask.rows, rows);
+    let k = room8(ask.saved, letters);
+    let r = room32(ask.rows, lengths);
     Told::handed(fasta::next_at(
         &file[..n],
         ask.at,
-        &mut out[..k],
+        &mut letters[..k],
         ask.used,
-        &mut rows[..r],
+        &mut lengths[..r],
         ask.count,
     ))
 }
@@ -238,13 +251,11 @@ fn join(ask: Ask, first: &mut [u32], bytes: &mut [u8]) -> bool {
 }
 
 fn fasta(ask: Ask, file: &mut [u8], bytes: &mut [u8]) -> bool {
-    let mut rows = [0u32; ROWS];
-    let mut out = [0u8; LETTERS];
-    let came = wire::read8(ask.letters, file)
-        & wire::read32(ask.rows, &mut rows, bytes)
-        & wire::read8(ask.saved, &mut out);
-    let told = call_fasta(ask, file, &mut out, &mut rows);
-    came && write_rows(told, ask, &rows, bytes) & wire::write8(ask.saved, &out)
+    let mut lengths = [0u32; ROWS];
+    let mut letters = [0u8; LETTERS];
+    let came = read_file(ask, file, &mut lengths, &mut letters, bytes);
+    let told = call_fasta(ask, file, &mut letters, &mut lengths);
+    came && write_rows(told, ask, &lengths, bytes) & wire::write8(ask.saved, &letters)
 }
 
 // Answers one request; whether that could be done.
