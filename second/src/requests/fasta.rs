@@ -71,9 +71,21 @@ fn read(mut request: Request, requests: &mut Vec<Request>) {
     }
 }
 
-/// Files read to their end.
+/// A small file read into tables of every room, up to what it wants and more.
+fn every_room(random: &mut Random, requests: &mut Vec<Request>) {
+    let file = lent(files::SOUND.to_vec());
+    let (letters, lengths) = wanted(files::SOUND);
+    for n in 0..=letters + 1 {
+        for m in 0..=lengths + 1 {
+            read(request(&file, random.bytes(n), random.narrow(m)), requests);
+        }
+    }
+}
+
+/// Files read to their end, or as far as there is room.
 pub fn reads(random: &mut Random) -> Vec<Request> {
     let mut requests = Vec::new();
+    every_room(random, &mut requests);
     let mut files: Vec<Vec<u8>> = files::beginnings(files::SMALL);
     files.extend((0..3_000).map(|_| files::any(random)));
     for file in files {

@@ -7,6 +7,9 @@ use super::random::Random;
 pub const SMALL: &[u8] =
     b"\n\r\n>p1 a promoter\r\nACG\r\nTA\n\n>p2\n\r\n>\n\r\nGG\n>p4\tx>y\nAC>GT\nA\rC\n> p5\r\n\n>p6\r\nTT\r";
 
+/// A small file with nothing wrong.
+pub const SOUND: &[u8] = b">a\nACG\nT\n>b\n\n>c x\r\nGG\r\n>\nA";
+
 /// A line's end.
 fn end(random: &mut Random) -> &'static [u8] {
     random.pick(&[&b"\n"[..], b"\n", b"\r\n"])
