@@ -1,26 +1,29 @@
-//! The library beside two Rust programs, on the same inputs and in the same
-//! run: `passes`, which does the library's own passes, and `positions`, which
-//! keeps position lists along the path. Each is held to the library's answers
-//! before it is timed. `second/bench.sh` runs it; docs/BENCHMARKS.md says what
+//! The library beside Rust programs, on the same inputs and in the same run:
+//! `passes`, which does the library's own passes, and `positions`, which keeps
+//! position lists along the path; and `reader`, which reads FASTA. Each is held
+//! to the library's answers before it is timed. `second/bench.sh` runs it; docs/BENCHMARKS.md says what
 //! is measured and how it is meant.
 
+mod files;
 mod inputs;
 mod legs;
 mod linked;
 mod measures;
 mod passes;
 mod positions;
+mod reader;
 mod recover;
 mod recoveries;
 mod timing;
 mod walk;
 
 /// The measures, by the names that they can be asked for by.
-const MEASURES: [(&str, fn()); 4] = [
+const MEASURES: [(&str, fn()); 5] = [
     ("candidate", measures::one_candidate),
     ("walk", measures::candidates),
     ("searches", measures::searches),
     ("recovery", measures::occurrences),
+    ("reading", files::readers),
 ];
 
 fn main() {
