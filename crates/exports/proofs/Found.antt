@@ -1,7 +1,7 @@
 -- A record that the FASTA reader hands out ends within the buffer of letters, and its row stands within the lengths table: else 20
 -- is refused. So what is used of each, moved on past it, stays below what bounds their lengths.
 use mathlib.Core.Path.{_≡_, refl}
-use mathlib.Core.Bool.{Bool, false, _||_}
+use mathlib.Core.Bool.{_||_}
 use mathlib.Core.List.{List, [], _∷_}
 use Prim.Native.Nat.{ℕ, _+_, _≤_, _<_}
 use native.Mathlib.Omega.{arith}
@@ -9,7 +9,7 @@ use lib.Dec.{leb, ltb}
 use lib.ListN.{length}
 use borrow.Author.Tests.{leb-false, ltb-false}
 use Rattle.rules.specs.Calls.{on-refusal}
-use Rattle.rules.specs.Fasta.{Entry, ReaderRule, size-of, no-room?, check19, check20, check4-file, lines-from, entries, next-checks, reader-checks, hands-out, stays, reader-rule}
+use Rattle.rules.specs.Fasta.{Entry, size-of, no-room?, check19, check20, lines-from, entries, next-checks, reader-checks, hands-out, stays, reader-rule}
 use Rattle.rules.specs.Limits.{Fasta-LENGTH}
 use Rattle.rules.specs.Refusals.{first}
 use Rattle.rules.specs.Told.{Verdict, fine, refused, Told, refuses, Handing}
