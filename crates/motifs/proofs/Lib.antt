@@ -1,5 +1,4 @@
 -- The laws of this crate, in the order in which they build on each other. `Program` is the file to read first.
-pub mod Came
 pub mod Leg
 pub mod Laid
 pub mod Reading

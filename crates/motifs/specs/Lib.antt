@@ -1,5 +1,4 @@
 -- What the contracts of this crate say, beside the definitions of `rules` and `text`.
-pub mod Came
 pub mod Left
 pub mod Pages
 pub mod Input

@@ -4,9 +4,7 @@
 mod input;
 mod page;
 mod pages;
-mod stdin;
 
-use libc::STDERR_FILENO;
 use libc::STDOUT_FILENO;
 use pages::BYTES;
 use pages::Left;
@@ -17,6 +15,7 @@ use pages::next;
 use pages::opening;
 use rules::Text;
 use stdin::Came;
+use stdin::not_read;
 use stdin::read_all;
 ghost use mathlib.Core.Path.{_≡_};
 ghost use Prim.Native.Nat.{_≤_};
@@ -45,11 +44,6 @@ fn write_pages(
         let rest = page.left;
         left = if_written(wrote, rest);
     }
-}
-
-// Says that standard input failed; nothing is printed.
-fn not_read() {
-    io::write_all(STDERR_FILENO, b"motifs: standard input cannot be read\n");
 }
 
 // Answers an input.
@@ -85,7 +79,7 @@ fn main() {
             let mut out = [0u8; BYTES];
             answer(&input[..n], &mut letters, &mut lengths, &mut out);
         }
-        Came::Failed => not_read(),
-        Came::More(_) => not_read(),
+        Came::Failed => not_read(b"motifs"),
+        Came::More(_) => not_read(b"motifs"),
     }
 }

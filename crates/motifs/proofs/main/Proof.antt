@@ -3,7 +3,7 @@ use borrow.Author.Needs.{needs}
 use mathlib.Core.Path.{subst}
 use native.Mathlib.Omega.{arith}
 use lib.ListN.{length-take}
-use Rattle.motifs.specs.Came.{AtEnd}
+use Rattle.stdin.specs.Came.{AtEnd}
 use Rattle.motifs.proofs.main.Statement.{statement}
 use Rattle.motifs.proofs.main.Tie as tie
 
@@ -37,11 +37,17 @@ answer-requires c κs = search needs
 enum-told : tie.Need-enum-told
 enum-told c = search needs
 
+slice-aggregate-not-read : tie.Need-slice-aggregate-not-read
+slice-aggregate-not-read c = search needs
+
 not-read-requires : tie.Need-not-read-requires
 not-read-requires c κs = search needs
 
 enum-told-2 : tie.Need-enum-told-2
 enum-told-2 c = search needs
+
+slice-aggregate-not-read-2 : tie.Need-slice-aggregate-not-read-2
+slice-aggregate-not-read-2 c = search needs
 
 not-read-requires-2 : tie.Need-not-read-requires-2
 not-read-requires-2 c κs = search needs
@@ -69,8 +75,10 @@ main-spec =
     slice-aggregate-answer-4
     answer-requires
     enum-told
+    slice-aggregate-not-read
     not-read-requires
     enum-told-2
+    slice-aggregate-not-read-2
     not-read-requires-2
     returns
     returns-2

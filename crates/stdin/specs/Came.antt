@@ -4,8 +4,8 @@ use Prim.Native.Nat.{ℕ, _+_, _≤_}
 use lib.Dec.{eqb}
 use lib.IntN.{ℤ, pos, negsuc}
 use Rattle.rules.specs.Lists.{if}
-use Rattle.motifs.specs.declared.stdin.Came.{Came}
-use Rattle.motifs.specs.declared.stdin.Came.the-variants as came
+use Rattle.stdin.specs.declared.Came.{Came}
+use Rattle.stdin.specs.declared.Came.the-variants as came
 
 -- AFTER ONE READ MORE behind the first n bytes, of a buffer that has room for so many. It answered how many it moved: none at the
 -- input's end, and below 0 where it failed, which is not the end

@@ -10,9 +10,9 @@ use mir.Facts.{toZ-ofZ}
 use mir.Syntax.{w64}
 use mir.Val.{toZ, ofZ}
 use Rattle.libc.specs.Io.{Moved}
-use Rattle.motifs.specs.Came.{came-after}
-use Rattle.motifs.proofs.stdin.read_more.Statement.{statement}
-use Rattle.motifs.proofs.stdin.read_more.Tie as tie
+use Rattle.stdin.specs.Came.{came-after}
+use Rattle.stdin.proofs.read_more.Statement.{statement}
+use Rattle.stdin.proofs.read_more.Tie as tie
 
 -- the buffer stays as long as it was, and the read answered how many of its last bytes it moved
 read-says : (c : tie.After-after-arg) → let s = c .before .before .before .before .before .before in let r = c .before .before .before .read in

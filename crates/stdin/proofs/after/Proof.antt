@@ -4,9 +4,9 @@ use mathlib.Core.Bool.{true, false}
 use mathlib.Core.Path.{sym}
 use lib.ListN.{length}
 use mir.Facts.{toZ-ofZ}
-use Rattle.motifs.proofs.Came.{failed-after, moved-after}
-use Rattle.motifs.proofs.stdin.after.Statement.{statement}
-use Rattle.motifs.proofs.stdin.after.Tie as tie
+use Rattle.stdin.proofs.ReadByRead.{failed-after, moved-after}
+use Rattle.stdin.proofs.after.Statement.{statement}
+use Rattle.stdin.proofs.after.Tie as tie
 
 count-requires : tie.Need-count-requires
 count-requires c κs = search needs

@@ -1,12 +1,13 @@
 // Standard input, read to its end. What a read does is the C library's: its contract says how many bytes it moved, or that it
-// failed, and nothing of the bytes.
+// failed, and nothing of the bytes. An inner crate, of the programs.
+use libc::STDERR_FILENO;
 use libc::STDIN_FILENO;
 ghost use mathlib.Core.Path.{_≡_};
 ghost use Prim.Native.Nat.{_-_, _≤_, _<_};
 ghost use lib.IntN.{ℤ};
 ghost use lib.ListN.{length};
 ghost use Rattle.libc.specs.Io.{Moved};
-ghost use Rattle.motifs.specs.Came.{came-after, more-of, bytes-of, AtEnd};
+ghost use Rattle.stdin.specs.Came.{came-after, more-of, bytes-of, AtEnd};
 
 // What came to the front of a buffer: so many bytes, and perhaps more to come; all that there are, or that the buffer has room
 // for; or nothing that may be used, since a read failed.
@@ -77,4 +78,10 @@ pub fn read_all(buffer: &mut [u8]) -> Came
         came = read_more(n, buffer);
     }
     came
+}
+
+// A program says on standard error that its input failed.
+pub fn not_read(program: &[u8]) {
+    io::write_all(STDERR_FILENO, program);
+    io::write_all(STDERR_FILENO, b": standard input cannot be read\n");
 }

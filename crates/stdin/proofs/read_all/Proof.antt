@@ -3,9 +3,9 @@ use borrow.Author.Needs.{needs}
 use mathlib.Core.Path.{_≡_, refl, sym, _∙_}
 use native.Mathlib.Omega.{arith}
 use lib.ListN.{length}
-use Rattle.motifs.proofs.Came.{Fits, to-come, at-end, room-left, read-on}
-use Rattle.motifs.proofs.stdin.read_all.Statement.{statement}
-use Rattle.motifs.proofs.stdin.read_all.Tie as tie
+use Rattle.stdin.proofs.ReadByRead.{Fits, to-come, at-end, room-left, read-on}
+use Rattle.stdin.proofs.read_all.Statement.{statement}
+use Rattle.stdin.proofs.read_all.Tie as tie
 
 abbrev Inv-loop : tie.InvT-loop
 Inv-loop buffer₀ came₀ buffer came = (length buffer ≡ length buffer₀) × Fits (length buffer₀) came

@@ -10,9 +10,9 @@ use borrow.Author.Tests.{le-leb, eqb-false}
 use Rattle.io.specs.Counts.{clamped}
 use Rattle.libc.specs.Io.{Moved}
 use Rattle.rules.specs.Lists.{if}
-use Rattle.motifs.specs.declared.stdin.Came.{Came}
-use Rattle.motifs.specs.declared.stdin.Came.the-variants as came
-use Rattle.motifs.specs.Came.{came-after, more-of, bytes-of, AtEnd}
+use Rattle.stdin.specs.declared.Came.{Came}
+use Rattle.stdin.specs.declared.Came.the-variants as came
+use Rattle.stdin.specs.Came.{came-after, more-of, bytes-of, AtEnd}
 
 module _ (room n : ℕ) where
   -- below 0 a read failed
