@@ -5,6 +5,7 @@ use rules::Leg;
 use rules::LegAnswer;
 use rules::Refusal;
 use rules::Search;
+use text::print::LINE;
 use text::print::print_end;
 use text::print::print_refused;
 ghost use mathlib.Core.Path.{_≡_};
@@ -15,10 +16,8 @@ ghost use Rattle.rules.specs.Told.{refusal-number, refusal-place, toldAnswer, t
 ghost use Rattle.motifs.specs.Left.{refusal, rows, nothing, more?, opening, onward};
 ghost use Rattle.motifs.specs.Pages.{Page-ROWS, Page-BYTES, room-of, ended-told?, Goes, Ready, Next};
 
-// The most rows of a page, the bytes of the longest line, and those of that many.
+// The most rows of a page, and the bytes of that many of the longest line.
 pub const ROWS: usize = 256;
-
-const LINE: usize = 256;
 
 pub const BYTES: usize = LINE * ROWS;
 

@@ -12,6 +12,9 @@ ghost use Rattle.rules.specs.Template.{slots, none};
 ghost use Rattle.rules.specs.Sound.{SoundTemplate};
 ghost use Rattle.text.specs.Printed.{Line-ROOM, Wrote, Line, pair, letters, ranged-word, size-from, shape-from, row, page, Page};
 
+// Room for the longest line that is printed.
+pub const LINE: usize = 256;
+
 // A byte.
 fn print_byte(b: u8, at: usize, out: &mut [u8]) -> usize
     requires { ⌜ at < length (now out) ⌝ }
