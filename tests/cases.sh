@@ -1,4 +1,4 @@
-# What motifs.sh and run.sh share: inputs of the printing program, and how a case is looked at. They source it.
+# What the tests here share: inputs of the printing program, how a program is run, and how a case is looked at. They source it.
 # shellcheck shell=sh
 
 work=$(mktemp -d)
@@ -28,6 +28,18 @@ random 'NNNNNN[0,200]NNNNNN' 100 500 >"$work/slow"
 
 cc -std=c99 -pedantic -Wall -Wextra -Werror tests/hangup.c -o "$work/hangup"
 
+# ---- a program by itself
+
+# Runs the program whose words are in `words`, one to a line, with others before them where there are any. One that takes longer
+# than a minute has not stopped.
+bare() (
+    IFS='
+'
+    set -f
+    # shellcheck disable=SC2086
+    exec timeout 60 "$@" $words
+)
+
 # ---- a case
 
 cases=0
@@ -41,6 +53,29 @@ begin() {
     status=0
 }
 
+# Runs a command, and keeps what it prints and how it ends.
+try() {
+    timeout 100 "$@" >"$work/out" 2>"$work/err" || status=$?
+}
+
+# Runs a command on a file with a pipe for its standard output, from which `head` takes a line and which it closes then: once the
+# command learns that by a signal, and once only by the write that fails. LOOK looks at each.
+closed_pipe() { # LOOK FILE COMMAND..
+    look=$1
+    file=$2
+    shift 2
+    for signal in with without; do
+        begin "standard output on a closed pipe, $signal a signal"
+        {
+            [ "$signal" = with ] || trap '' PIPE
+            "$@" <"$file" 2>"$work/err" || status=$?
+            echo "$status" >"$work/status"
+        } | head -n 1 >"$work/out"
+        status=$(cat "$work/status")
+        "$look"
+    done
+}
+
 fail() {
     echo "$0: $name: $1"
     for part in out err; do
@@ -48,6 +83,11 @@ fail() {
         head -c 2000 "$work/$part"
     done
     exit 1
+}
+
+# A program by itself: it did not go on.
+stopped() {
+    [ "$status" -ne 124 ] || fail "it goes on where it cannot write"
 }
 
 ended() { # STATUS

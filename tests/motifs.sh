@@ -5,63 +5,44 @@ cd "$(dirname "$0")/.."
 # shellcheck source=tests/cases.sh
 . tests/cases.sh
 
-# Runs the program, whose words are one to a line, with words before them where there are any. One that takes longer than a
-# minute has not stopped.
 words=$(./run --words motifs)
-motifs() (
-    IFS='
-'
-    set -f
-    # shellcheck disable=SC2086
-    exec timeout 60 "$@" $words
-)
-
-stopped() {
-    [ "$status" -ne 124 ] || fail "it goes on where it cannot write"
-}
 
 begin "a whole list"
-motifs <"$work/short" >"$work/out" 2>"$work/err"
+bare <"$work/short" >"$work/out" 2>"$work/err"
 printed "$work/short.out"
 
 begin "a refusal"
-motifs <"$work/bad" >"$work/out" 2>"$work/err"
+bare <"$work/bad" >"$work/out" 2>"$work/err"
 printed "$work/bad.out"
 
 begin "standard output on a full device"
-motifs <"$work/slow" >/dev/full 2>"$work/err" || status=$?
+bare <"$work/slow" >/dev/full 2>"$work/err" || status=$?
 stopped
 
 begin "standard output on a file that may not grow"
-motifs <"$work/long" >"$work/long.out"
+bare <"$work/long" >"$work/long.out"
 (
     trap '' XFSZ
     ulimit -f 8
-    motifs <"$work/long" >"$work/out" 2>"$work/err"
+    bare <"$work/long" >"$work/out" 2>"$work/err"
 ) || status=$?
 stopped
 printed_rows_of "$work/long.out"
 
-# `head` takes a row, which comes while the search goes on, and closes the pipe.
-for signal in with without; do
-    begin "standard output on a closed pipe, $signal a signal"
-    {
-        [ "$signal" = with ] || trap '' PIPE
-        motifs <"$work/slow" 2>"$work/err" || status=$?
-        echo "$status" >"$work/status"
-    } | head -n 1 >"$work/out"
-    status=$(cat "$work/status")
+# A row comes while the search goes on.
+stopped_amid_rows() {
     stopped
     printed_rows
-done
+}
+closed_pipe stopped_amid_rows "$work/slow" bare
 
 begin "standard input a folder"
-motifs <crates >"$work/out" 2>"$work/err"
+bare <crates >"$work/out" 2>"$work/err"
 printed_nothing
 said_one_line
 
 begin "standard input closed"
-motifs <&- >"$work/out" 2>"$work/err"
+bare <&- >"$work/out" 2>"$work/err"
 printed_nothing
 said_one_line
 
@@ -72,7 +53,7 @@ printed "$work/short"
 ended 1
 
 begin "standard input that fails after whole lines"
-motifs "$work/hangup" "$work/short" >"$work/out" 2>"$work/err"
+bare "$work/hangup" "$work/short" >"$work/out" 2>"$work/err"
 printed_nothing
 said_one_line
 

@@ -5,11 +5,6 @@ cd "$(dirname "$0")/.."
 # shellcheck source=tests/cases.sh
 . tests/cases.sh
 
-# Runs a command, and keeps what it prints and how it ends.
-try() {
-    timeout 100 "$@" >"$work/out" 2>"$work/err" || status=$?
-}
-
 not_whole() {
     ended 4
     said "not the whole list"
@@ -24,13 +19,7 @@ printed "$work/short.out"
 
 begin "a list of many pages"
 words=$(./run --words motifs)
-(
-    IFS='
-'
-    set -f
-    # shellcheck disable=SC2086
-    exec $words
-) <"$work/long" >"$work/long.out"
+bare <"$work/long" >"$work/long.out"
 try ./run motifs <"$work/long"
 ended 0
 printed "$work/long.out"
@@ -57,17 +46,11 @@ begin "standard output on a file that may not grow"
 not_whole
 printed_rows_of "$work/long.out"
 
-for signal in with without; do
-    begin "standard output on a closed pipe, $signal a signal"
-    {
-        [ "$signal" = with ] || trap '' PIPE
-        timeout 100 ./run motifs "$work/slow" 2>"$work/err" || status=$?
-        echo "$status" >"$work/status"
-    } | head -n 1 >"$work/out"
-    status=$(cat "$work/status")
+not_whole_amid_rows() {
     not_whole
     printed_rows
-done
+}
+closed_pipe not_whole_amid_rows "$work/slow" timeout 100 ./run motifs
 
 begin "standard output closed"
 timeout 100 ./run motifs "$work/short" >&- 2>"$work/err" || status=$?
