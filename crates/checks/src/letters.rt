@@ -1,7 +1,7 @@
-// Letters: the table of their values, the only place that has them.
+// Letters: whether a byte is one, and the table of their values; nothing else has them.
 ghost use mathlib.Core.List.{map};
 ghost use mathlib.Core.Path.{_≡_};
-ghost use Rattle.rules.specs.Letters.{value};
+ghost use Rattle.rules.specs.Letters.{letter?, value};
 ghost use Rattle.rules.specs.Lists.{run};
 
 // A 0, C 1, G 2 and T 3; every other byte has the mark.
@@ -278,4 +278,11 @@ pub fn value(values: &[u8], b: u8) -> u8
 {
     let i = b as usize;
     values[i]
+}
+
+// Whether a byte is a letter, by comparing: no table is read, so that a loop can do it to many bytes at a time.
+pub fn is_letter(b: u8) -> bool
+    ensures { λ r. ⌜ r ≡ letter? b ⌝ }
+{
+    (b == b'A') | (b == b'C') | (b == b'G') | (b == b'T')
 }

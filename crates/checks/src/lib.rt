@@ -3,8 +3,10 @@
 // nothing was refused before.
 pub mod letters;
 
+use letters::is_letter;
 use letters::value;
 use letters::values;
+ghost use mathlib.Core.Bool.{true};
 ghost use mathlib.Core.List.{map};
 ghost use mathlib.Core.Path.{_≡_};
 ghost use Prim.Native.Nat.{ℕ, _+_, _^_};
@@ -63,6 +65,20 @@ pub fn check_sum(letters: &[u8], lengths: &[u32]) -> Checked
     Checked::refuse_if(left != 0, Refusal::LengthSum)
 }
 
+// Whether all bytes are letters. Every byte is looked at, also past one that is none: with no way out of the loop, many bytes
+// can be taken at a time.
+pub fn all_letters(bytes: &[u8]) -> bool
+    ensures { λ r. ⌜ ((o : ℕ) → r ≡ true → first-bad 4 bad-byte o (now (bytes .entry)) ≡ fine) ⌝ }
+{
+    let mut all = true;
+    let mut i = 0;
+    while i < bytes.len() {
+        all = all & is_letter(bytes[i]);
+        i += 1;
+    }
+    all
+}
+
 // Where the first byte stands that is no letter, by a table of their values; the end where all are letters.
 pub fn find_mark(values: &[u8], bytes: &[u8]) -> usize
     requires { ⌜ now values ≡ map value (run 0 256) ⌝ }
@@ -82,6 +98,9 @@ pub fn find_mark(values: &[u8], bytes: &[u8]) -> usize
 pub fn check_bytes(letters: &[u8]) -> Checked
     ensures { λ r. ⌜ toldChecked r ≡ check4 (now (letters .entry)) ⌝ }
 {
+    if all_letters(letters) {
+        return Checked::Fine;
+    }
     let table = values();
     let mark = find_mark(&table, letters);
     Checked::refuse_if(mark < letters.len(), Refusal::NotALetter(Offset(mark)))
