@@ -35,6 +35,10 @@ module _ (file : List ℕ) (start end mark : ℕ) (h : start ≤ end) (k : end �
   pub bad-none : length (part file start end) ≤ mark → check-line (line start (part file start end)) ≡ bad-at file (length file)
   bad-none m = f start ∙ rw (le-ltb mark (length (part file start end)) m, le-ltb (length file) (length file) (omega arith))
 
+-- none, where all are letters
+pub bad-nowhere : (file : List ℕ) (start end : ℕ) → ((o : ℕ) → first-bad 4 bad-byte o (part file start end) ≡ fine) → check-line (line start (part file start end)) ≡ bad-at file (length file)
+bad-nowhere file start end f = f start ∙ rw (le-ltb (length file) (length file) (omega arith))
+
 -- ---- a line that is no header, before others: an empty one is none of them, and has nothing to count or to refuse
 
 texts-cons : (o : ℕ) (text : List ℕ) (ms : List Line) → header? (line o text) ≡ false

@@ -2,6 +2,7 @@
 use crate::Step;
 use crate::lines::Line;
 use crate::lines::line_at;
+use checks::all_letters;
 use checks::find_mark;
 use checks::letters::values;
 use rules::Fasta;
@@ -54,6 +55,9 @@ fn bad_in(values: &[u8], file: &[u8], start: usize, end: usize) -> usize
     ensures { λ r. ⌜ check-line (line start (part (now (file .entry)) start end)) ≡ if (ltb r (length (now (file .entry)))) (refused 4 r) fine ⌝ }
 {
     let text = &file[start..end];
+    if all_letters(text) {
+        return file.len();
+    }
     let mark = find_mark(values, text);
     if mark < text.len() {
         start + mark
