@@ -3,12 +3,12 @@ use mathlib.Core.Path.{_≡_, refl, sym, ap, _∙_}
 use mathlib.Core.Bool.{Bool, true, false, false≢true}
 use mathlib.Core.List.{List, [], _∷_}
 use Prim.Native.Nat.{ℕ, zero, suc, _+_, _-_, _≤_, _<_, min}
-use native.Mathlib.Nat.{sub-zero}
+use native.Mathlib.Nat.{sub-zero, zero-add}
 use native.Mathlib.Numerals.{add-one}
 use native.Mathlib.Omega.{arith}
 use lib.Dec.{eqb, ltb, leb·suc-suc}
 use lib.ListN.{length, take, drop, getD, length-take, length-drop, drop-of-length-le}
-use lib.Seq.{drop-cons, drop-drop, take-all}
+use lib.Seq.{drop-cons, drop-drop, length-take-le, take-all}
 use borrow.Author.Tests.{eq-eqb, ne-eqb, lt-ltb, le-ltb, ltb-true, ltb-false}
 use Rattle.rules.proofs.Tables.{drop-min}
 use Rattle.rules.specs.Lists.{if}
@@ -41,6 +41,27 @@ find-le b (x ∷ xs) = go (eqb x b) (find-le b xs)
     go : (t : Bool) → find b xs ≤ length xs → if t 0 (suc (find b xs)) ≤ suc (length xs)
     go true h = omega arith
     go false h = omega arith
+
+-- not among the first n, it stands first where it does after them
+past : (b n : ℕ) (l : List ℕ) → n ≤ length l → find b (take n l) ≡ n → find b l ≡ n + find b (drop n l)
+unfolding find
+past b zero l h e = rw zero-add
+past b (suc n) [] h e = absurd (omega arith)
+past b (suc n) (x ∷ xs) h e = go (eqb x b) e (past b n xs)
+  where
+    go : (t : Bool) → if t 0 (suc (find b (take n xs))) ≡ suc n → (n ≤ length xs → find b (take n xs) ≡ n → find b xs ≡ n + find b (drop n xs))
+        → if t 0 (suc (find b xs)) ≡ suc n + find b (drop n xs)
+    go true q ih = absurd (omega arith)
+    go false q ih = omega (arith, ih (omega arith) (omega arith))
+
+-- the same of a part from i up to j
+pub find-past : (b i j : ℕ) (l : List ℕ) → i ≤ j → j ≤ length l → find b (take (j - i) (drop i l)) ≡ length (take (j - i) (drop i l))
+    → i + find b (drop i l) ≡ j + find b (drop j l)
+find-past b i j l h k e =
+    let d : length (drop i l) ≡ length l - i = length-drop i l in
+    let n : length (take (j - i) (drop i l)) ≡ j - i = length-take-le (j - i) (drop i l) (omega arith) in
+    let s : i + (j - i) ≡ j = omega arith in
+    omega (arith, rw (drop-drop, s) at (past b (j - i) (drop i l) (omega arith) (e ∙ n)))
 
 -- ---- the pieces
 

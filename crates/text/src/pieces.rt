@@ -1,16 +1,45 @@
 // A text cut into pieces at a byte: the lines of the input at byte 10, a template's components at [.
+ghost use mathlib.Core.Bool.{false};
 ghost use mathlib.Core.Path.{_≡_};
 ghost use Prim.Native.Nat.{_+_, _≤_, min};
 ghost use lib.ListN.{length, drop};
 ghost use Rattle.rules.specs.Text.{pieces, last};
 ghost use Rattle.text.specs.Pieces.{find, after, two?};
 
+// Whether a byte is among some. All are looked at, also past it: with no way out of the loop, many can be taken at a time.
+fn among(b: u8, bytes: &[u8]) -> bool
+    ensures { λ r. ⌜ (r ≡ false → find b (now (bytes .entry)) ≡ length (now (bytes .entry))) ⌝ }
+{
+    let mut some = false;
+    let mut i = 0;
+    while i < bytes.len() {
+        some = some | (bytes[i] == b);
+        i += 1;
+    }
+    some
+}
+
+// Goes on from a place by eight bytes at a time, as long as all of them are another.
+fn pass_eights(b: u8, from: usize, text: &[u8]) -> usize
+    requires { ⌜ from ≤ length (now text) ⌝ }
+    ensures { λ r. ⌜ (r ≤ length (now (text .entry))) × (from + find b (drop from (now (text .entry))) ≡ r + find b (drop r (now (text .entry)))) ⌝ }
+{
+    let mut i = from;
+    while 8 <= text.len() - i {
+        if among(b, &text[i..i + 8]) {
+            return i;
+        }
+        i += 8;
+    }
+    i
+}
+
 // Where a byte stands first from a place on; the text's end where it does not.
 pub fn find(b: u8, from: usize, text: &[u8]) -> usize
     requires { ⌜ from ≤ length (now text) ⌝ }
     ensures { λ r. ⌜ r ≡ from + find b (drop from (now (text .entry))) ⌝ }
 {
-    let mut i = from;
+    let mut i = pass_eights(b, from, text);
     while i < text.len() {
         if text[i] == b {
             return i;
