@@ -30,8 +30,13 @@ cc -std=c99 -pedantic -Wall -Wextra -Werror tests/hangup.c -o "$work/hangup"
 
 # ---- a program by itself
 
-# Runs the program whose words are in `words`, one to a line, with others before them where there are any. One that takes longer
-# than a minute has not stopped.
+# Names the program that `bare` runs.
+program() { # NAME
+    words=$(./run --words "$1")
+}
+
+# Runs it without `run`: its words are one to a line, and others go before them where there are any. One that takes longer than a
+# minute has not stopped.
 bare() (
     IFS='
 '

@@ -5,7 +5,7 @@ cd "$(dirname "$0")/.."
 # shellcheck source=tests/cases.sh
 . tests/cases.sh
 
-words=$(./run --words lines)
+program lines
 
 # ---- inputs
 

@@ -5,7 +5,7 @@ cd "$(dirname "$0")/.."
 # shellcheck source=tests/cases.sh
 . tests/cases.sh
 
-words=$(./run --words motifs)
+program motifs
 
 begin "a whole list"
 bare <"$work/short" >"$work/out" 2>"$work/err"

@@ -10,7 +10,7 @@ not_whole() {
     said "not the whole list"
 }
 
-./run --words motifs >/dev/null
+program motifs
 
 begin "a whole list"
 try ./run motifs "$work/short"
@@ -18,7 +18,7 @@ ended 0
 printed "$work/short.out"
 
 begin "a list of many pages"
-words=$(./run --words motifs)
+# shellcheck disable=SC2119
 bare <"$work/long" >"$work/long.out"
 try ./run motifs <"$work/long"
 ended 0
