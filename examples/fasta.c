@@ -10,7 +10,7 @@
 #define BUDGET 1000
 #define ROOM 4
 
-static uint8_t file[BYTES], letters[TULFASHEQ_LETTERS];
+static uint8_t file[BYTES + 1], letters[TULFASHEQ_LETTERS];
 static uint32_t lengths[TULFASHEQ_SEQUENCES];
 static const uint16_t shape[6] = {6, 0, 0, 6, 15, 19};
 
@@ -46,9 +46,9 @@ int main(void) {
     uint32_t supports[ROOM];
     uint64_t motifs[ROOM], weights[ROOM], used = 0, count = 0, place, saved_size, stop, steps, rows, all_steps = 0, all_rows = 0;
 
-    size_t size = fread(file, 1, BYTES, stdin);
-    if (!feof(stdin)) {
-        printf("no file, or one that is too long\n");
+    size_t size = fread(file, 1, sizeof file, stdin);
+    if (size > BYTES || ferror(stdin)) {
+        puts(ferror(stdin) ? "the file cannot be read" : "the file is longer than 1 MiB");
         return 1;
     }
     if (read_records(size, &used, &count))
