@@ -170,8 +170,14 @@ uint64_t tulfasheq_join(
  * are 0, and all else stays: the first *used of `letters` and the first *count of `lengths` are now the file's sequences, in its
  * order. A file without a record gives none, and a search over no sequence is refused (1).
  *
- * Refuses, in this order: 19, 20, 4 (lower case too, which is no letter here). After 20 the record can be asked for again, with
- * more room. */
+ * Look at the answer first: in a refusal *found is 0 too. At the file's end the answer is TULFASHEQ_OK, so stop on *found.
+ *
+ * As many letters and as many lengths as the file has bytes are room for all of its records (of fewer than 2^32 letters each); a
+ * search takes at most TULFASHEQ_LETTERS and TULFASHEQ_SEQUENCES of them.
+ *
+ * Refuses, in this order: 19, 20, 4 (lower case too, which is no letter here). After 20 the same call can be made again with larger
+ * arrays, to which the first *used letters and the first *count lengths are copied. After 19 or 4 the same call answers the
+ * same. */
 uint64_t tulfasheq_fasta(
     const uint8_t *file, size_t file_len,
     uint8_t *letters, size_t letters_len,
