@@ -4,11 +4,13 @@
 //! Behind the feature `library`, since it links `target/host/libtulfasheq.a`,
 //! which `second/library.sh` makes.
 //!
-//! "A refused call sets *place, sets every other number that it answers to 0,
-//! and leaves every array as it was. A call that is not refused sets *place to
-//! 0." What this says of numbers is held to in every call made here.
+//! "A refused call sets *place (0 where the refusal tells no place), sets every
+//! other number that it answers to 0, and leaves every array as it was; numbers
+//! that a call moves on (*at, *used and *count of tulfasheq_fasta) stay. A call
+//! that is not refused sets *place to 0." What this says of numbers is held to
+//! in every call made here.
 //!
-//! A call uses up to 1.5 MiB of stack, for which a thread's usual 2 MiB do.
+//! "A call uses less than 1 MiB of stack", for which a thread's usual 2 MiB do.
 
 mod declared;
 mod reader;
