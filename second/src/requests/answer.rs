@@ -187,6 +187,7 @@ fn first_difference<T: PartialEq + std::fmt::Display>(
     one: &[T],
     other: &[T],
 ) -> Option<(usize, String)> {
+    assert_eq!(one.len(), other.len(), "lists of different lengths");
     (0..one.len())
         .find(|at| one[*at] != other[*at])
         .map(|at| (at, format!("{}, and not {}", one[at], other[at])))
