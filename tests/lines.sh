@@ -167,16 +167,27 @@ ended 2
 printed_nothing
 said_one_line
 
-# ---- from FASTA to motifs
+# ---- from FASTA to motifs, as README.md has it
+
+search() { # FILE
+    timeout 100 ./run lines "$1" >"$work/cut" && {
+        printf '%s\n' 'N[0,1]N' 2
+        cat "$work/cut"
+    } | timeout 100 ./run motifs
+}
 
 begin "FASTA to the printing program"
-{
-    printf '%s\n' 'N[0,1]N' 2
-    ./run lines "$work/e.fa"
-} >"$work/cut"
-cmp -s "$work/cut" "$work/short" || fail "the lines are not the printing program's"
-try ./run motifs <"$work/cut"
+search "$work/e.fa" >"$work/out" 2>"$work/err" || status=$?
+sed 1,2d "$work/short" | cmp -s - "$work/cut" || fail "the lines are not the printing program's"
 ended 0
 printed "$work/short.out"
+
+for input in bad over; do
+    begin "a refused file does not reach the printing program, $input"
+    search "$work/$input" >"$work/out" 2>"$work/err" || status=$?
+    grep -q '^refused ' "$work/cut" || fail "it is not refused"
+    ended 3
+    printed_nothing
+done
 
 echo "tests/lines.sh: $cases cases hold"
