@@ -1,23 +1,58 @@
-//! FASTA files read to their end by the library and by `reader`, with either
-//! check of its lines: held to the same names, letters, lengths and cursors,
-//! and then timed.
+//! FASTA files read to their end by the library and by `reader`, which finds
+//! the ends of its lines one byte after another ("line by line") or as the
+//! library does ("in eights"): held to the same names, letters, lengths and
+//! cursors, and then timed.
 
-use crate::reader::{self, by_byte, by_line};
+use crate::reader::{in_eights, one_by_one, Reader};
 use crate::timing::{in_turn, ratios, row, title, Times, Work};
-use second::library;
 use second::requests::random::Random;
+use second::{library, Refusal};
 
-/// A file of random letters, in lines of 60.
-fn file(count: usize, letters: u64, end: &str) -> Vec<u8> {
-    let mut random = Random::new(letters);
-    let mut file = Vec::new();
-    for number in 1..=count {
-        file.extend(format!(">record{number} of {letters} letters{end}").bytes());
-        for line in random.letters(letters, 4).chunks(60) {
-            file.extend([line, end.as_bytes()].concat());
+/// Records of random letters.
+#[derive(Clone, Copy)]
+struct Records {
+    count: usize,
+    letters: u64,
+    /// The letters of a line, and what ends it.
+    line: usize,
+    end: &'static str,
+}
+
+impl Records {
+    fn new(count: usize, letters: u64, line: usize, end: &'static str) -> Records {
+        Records {
+            count,
+            letters,
+            line,
+            end,
         }
     }
-    file
+
+    fn file(self) -> Vec<u8> {
+        let Records { letters, end, .. } = self;
+        let mut random = Random::new(letters);
+        let mut file = Vec::new();
+        for number in 1..=self.count {
+            file.extend(format!(">record{number} of {letters} letters{end}").bytes());
+            for line in random.letters(letters, 4).chunks(self.line) {
+                file.extend([line, end.as_bytes()].concat());
+            }
+        }
+        file
+    }
+
+    fn name(self) -> String {
+        let Records {
+            count,
+            letters,
+            line,
+            end,
+        } = self;
+        match letters {
+            0 => format!("{count} records without letters"),
+            _ => format!("{count} records of {letters}, lines of {line} ended by {end:?}"),
+        }
+    }
 }
 
 /// What a file is read into.
@@ -29,40 +64,44 @@ struct Tables {
     count: u64,
 }
 
+impl Tables {
+    fn new(records: Records) -> Tables {
+        Tables {
+            letters: vec![0; records.count * records.letters as usize],
+            used: 0,
+            lengths: vec![0; records.count],
+            count: 0,
+        }
+    }
+
+    /// What a call of a reader hands out that is lent these tables.
+    fn lend<T>(
+        &mut self,
+        next: impl FnOnce(&mut [u8], &mut u64, &mut [u32], &mut u64) -> Result<Option<T>, Refusal>,
+    ) -> Option<T> {
+        let (used, count) = (&mut self.used, &mut self.count);
+        next(&mut self.letters, used, &mut self.lengths, count).expect("a file that fits")
+    }
+}
+
 /// A call of the library's reader: the next record's name, and the cursor
 /// behind the record.
 fn by_library<'a>(file: &'a [u8]) -> impl FnMut(&mut Tables) -> Option<(&'a [u8], u64)> {
     let mut reader = library::Reader::new(file);
-    move |to| {
-        let next = reader.next(
-            &mut to.letters,
-            &mut to.used,
-            &mut to.lengths,
-            &mut to.count,
-        );
-        Some((next.expect("a file that fits")?, reader.at()))
-    }
+    move |to| Some((to.lend(|l, u, n, c| reader.next(l, u, n, c))?, reader.at()))
 }
 
 /// The same of `reader`.
 fn by_reader<'a>(
     file: &'a [u8],
-    no_letter: impl Fn(&[u8]) -> Option<usize>,
+    find_end: impl Fn(&[u8]) -> Option<usize> + Copy,
 ) -> impl FnMut(&mut Tables) -> Option<(&'a [u8], u64)> {
-    let mut reader = reader::Reader::new(file, no_letter);
-    move |to| {
-        let next = reader.next(
-            &mut to.letters,
-            &mut to.used,
-            &mut to.lengths,
-            &mut to.count,
-        );
-        Some((next.expect("a file that fits")?, reader.at()))
-    }
+    let mut reader = Reader::new(file, find_end);
+    move |to| Some((to.lend(|l, u, n, c| reader.next(l, u, n, c))?, reader.at()))
 }
 
 /// What calls one after another hand out, over what was read before.
-fn records<'a, 't>(
+fn handed<'a, 't>(
     to: &'t mut Tables,
     mut next: impl FnMut(&mut Tables) -> Option<(&'a [u8], u64)> + 't,
 ) -> impl Iterator<Item = (&'a [u8], u64)> + 't
@@ -73,51 +112,50 @@ where
     std::iter::from_fn(move || next(to))
 }
 
-/// The times of the library, and of `reader` byte by byte and line by line.
-fn measure(file: &[u8], count: usize, letters: u64, rounds: usize) -> Vec<Times> {
-    let mut library = Tables {
-        letters: vec![0; count * letters as usize],
-        used: 0,
-        lengths: vec![0; count],
-        count: 0,
-    };
-    let (mut bytes, mut lines) = (library.clone(), library.clone());
-    let read: Vec<_> = records(&mut library, by_library(file)).collect();
-    assert_eq!(read.len(), count);
-    let same = records(&mut bytes, by_reader(file, by_byte)).eq(read.iter().copied());
-    assert!(same && library == bytes, "byte by byte differs");
-    let same = records(&mut lines, by_reader(file, by_line)).eq(read);
+/// The times of the library, and of `reader` line by line and in eights.
+fn measure(records: Records, file: &[u8], rounds: usize) -> Vec<Times> {
+    let mut library = Tables::new(records);
+    let (mut lines, mut eights) = (library.clone(), library.clone());
+    let read: Vec<_> = handed(&mut library, by_library(file)).collect();
+    assert_eq!(read.len(), records.count);
+    let same = handed(&mut lines, by_reader(file, one_by_one)).eq(read.iter().copied());
     assert!(same && library == lines, "line by line differs");
+    let same = handed(&mut eights, by_reader(file, in_eights)).eq(read);
+    assert!(same && library == eights, "in eights differs");
     let mut works: Vec<Work> = vec![
-        Box::new(|| records(&mut library, by_library(file)).count() as u64),
-        Box::new(|| records(&mut bytes, by_reader(file, by_byte)).count() as u64),
-        Box::new(|| records(&mut lines, by_reader(file, by_line)).count() as u64),
+        Box::new(|| handed(&mut library, by_library(file)).count() as u64),
+        Box::new(|| handed(&mut lines, by_reader(file, one_by_one)).count() as u64),
+        Box::new(|| handed(&mut eights, by_reader(file, in_eights)).count() as u64),
     ];
     in_turn(rounds, &mut works)
 }
 
-/// Files of long records, with either line end, and of many short ones.
+/// Files of long records in long lines, with either line end, and in short
+/// lines; of many short records; and of records without letters.
 pub fn readers() {
-    println!("Reading FASTA, lines of 60 letters\n");
+    println!("Reading FASTA\n");
     title(&[
         "file",
         "bytes",
         "library, ns / byte",
-        "byte by byte",
         "line by line",
-        "library / byte by byte",
+        "in eights",
         "library / line by line",
+        "library / in eights",
     ]);
-    for (count, letters, end, rounds) in [
-        (10, 60_000, "\n", 200),
-        (10, 60_000, "\r\n", 200),
-        (1_024, 64, "\n", 1_000),
+    for (records, rounds) in [
+        (Records::new(10, 60_000, 60, "\n"), 200),
+        (Records::new(10, 60_000, 60, "\r\n"), 200),
+        (Records::new(10, 60_000, 7, "\n"), 200),
+        (Records::new(10, 60_000, 1, "\n"), 100),
+        (Records::new(1_024, 64, 60, "\n"), 1_000),
+        (Records::new(1_024, 0, 60, "\n"), 1_000),
     ] {
-        let file = file(count, letters, end);
-        let times = measure(&file, count, letters, rounds);
+        let file = records.file();
+        let times = measure(records, &file, rounds);
         let each = |times: &Times| format!("{:.2}", times.least() * 1e9 / file.len() as f64);
         row(&[
-            format!("{count} records of {letters}, lines ended by {end:?}"),
+            records.name(),
             file.len().to_string(),
             each(&times[0]),
             each(&times[1]),

@@ -1,27 +1,29 @@
 //! A FASTA reader in plain Rust, with the library's contract: it goes through
 //! a record's lines once to count and check their bytes, and once more to copy
-//! them, since a refused record leaves nothing behind. How a line is checked is
-//! left open: `by_byte` stops at the first byte that is no letter, as the
-//! library does; `by_line` has no way out, so that a compiler can take many
-//! bytes at a time.
+//! them, since a refused record leaves nothing behind. A line's letters are
+//! checked with no way out, so that a compiler can take many bytes at a time,
+//! as the library does. How a line's end is found is left open: `one_by_one`
+//! stops at the first; `in_eights` passes eight bytes at a time, with no way
+//! out among them, and then goes one by one, as the library does.
 
 use second::Refusal;
 
 /// The lines of a file from an offset on, each with the offset that it begins
 /// at and without its end.
 #[derive(Clone)]
-struct Lines<'a> {
+struct Lines<'a, F> {
     file: &'a [u8],
     at: usize,
+    find_end: F,
 }
 
-impl<'a> Iterator for Lines<'a> {
+impl<'a, F: Fn(&[u8]) -> Option<usize>> Iterator for Lines<'a, F> {
     type Item = (usize, &'a [u8]);
 
     fn next(&mut self) -> Option<(usize, &'a [u8])> {
         let at = self.at;
         let rest = self.file.get(at..).filter(|rest| !rest.is_empty())?;
-        let Some(end) = rest.iter().position(|byte| *byte == b'\n') else {
+        let Some(end) = (self.find_end)(rest) else {
             self.at = self.file.len();
             return Some((at, rest));
         };
@@ -31,38 +33,48 @@ impl<'a> Iterator for Lines<'a> {
     }
 }
 
+fn is_end(byte: &u8) -> bool {
+    *byte == b'\n'
+}
+
+/// The first byte 10 of a text.
+pub fn one_by_one(text: &[u8]) -> Option<usize> {
+    text.iter().position(is_end)
+}
+
+/// The same, once the eights before it are passed.
+pub fn in_eights(text: &[u8]) -> Option<usize> {
+    let without = |eight: &&[u8]| !eight.iter().fold(false, |some, byte| some | is_end(byte));
+    let passed = 8 * text.chunks_exact(8).take_while(without).count();
+    Some(passed + one_by_one(&text[passed..])?)
+}
+
 fn is_letter(byte: &u8) -> bool {
     matches!(byte, b'A' | b'C' | b'G' | b'T')
 }
 
-/// The first byte of a line that is no letter.
-pub fn by_byte(text: &[u8]) -> Option<usize> {
+/// The first byte of a line that is no letter, once it is known that there is
+/// one.
+fn no_letter(text: &[u8]) -> Option<usize> {
+    if text.iter().fold(true, |fine, byte| fine & is_letter(byte)) {
+        return None;
+    }
     text.iter().position(|byte| !is_letter(byte))
 }
 
-/// The same, once it is known that there is one.
-pub fn by_line(text: &[u8]) -> Option<usize> {
-    let fine = text.iter().fold(true, |fine, byte| fine & is_letter(byte));
-    if fine {
-        None
-    } else {
-        by_byte(text)
-    }
-}
-
-/// A reader over a lent file, by how it looks for a byte that is no letter.
+/// A reader over a lent file, by how it finds a line's end.
 pub struct Reader<'a, F> {
     file: &'a [u8],
     at: usize,
-    no_letter: F,
+    find_end: F,
 }
 
-impl<'a, F: Fn(&[u8]) -> Option<usize>> Reader<'a, F> {
-    pub fn new(file: &'a [u8], no_letter: F) -> Reader<'a, F> {
+impl<'a, F: Fn(&[u8]) -> Option<usize> + Copy> Reader<'a, F> {
+    pub fn new(file: &'a [u8], find_end: F) -> Reader<'a, F> {
         Reader {
             file,
             at: 0,
-            no_letter,
+            find_end,
         }
     }
 
@@ -82,6 +94,7 @@ impl<'a, F: Fn(&[u8]) -> Option<usize>> Reader<'a, F> {
         let mut lines = Lines {
             file: self.file,
             at: self.at,
+            find_end: self.find_end,
         };
         let Some((_, header)) = lines.find(|(_, text)| !text.is_empty()) else {
             return Ok(None);
@@ -96,7 +109,7 @@ impl<'a, F: Fn(&[u8]) -> Option<usize>> Reader<'a, F> {
                 break;
             }
             size += text.len();
-            bad = bad.or_else(|| Some(at + (self.no_letter)(text)?));
+            bad = bad.or_else(|| Some(at + no_letter(text)?));
         }
         let room = letters.get_mut(*used as usize..);
         let room = room.and_then(|rest| rest.get_mut(..size));
