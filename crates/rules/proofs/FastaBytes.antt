@@ -98,7 +98,7 @@ text-says file at = (λ e. on (lines-from file at) refl e, λ (l, ls, q, d). rw 
     on (l ∷ ls) q e = (l, ls, q, header-not l (first-is l ls q) .0 e)
 
 -- and that of 20 that there is no room for a record
-pub room-says : (letters : List ℕ) (used : ℕ) (lengths : List ℕ) (count size : ℕ) → (no-room? letters used lengths count size ≡ true) ↔ NoRoom letters used lengths count size
+pub room-says : (letters : List ℕ) (used : ℕ) (lengths : List ℕ) (count size : ℕ) → (no-room? (length letters) used (length lengths) count size ≡ true) ↔ NoRoom letters used lengths count size
 room-says letters used lengths count size =
     Iff·trans (either _ _ (either _ _ (less (length letters) (used + size)) (leb-true _ _, le-leb _ _)) (less Fasta-LENGTH size)) (on, back)
   where

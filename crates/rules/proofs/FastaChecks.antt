@@ -31,7 +31,7 @@ pub record Room (letters : List ℕ) (used : ℕ) (lengths : List ℕ) (count si
   pub short : size ≤ Fasta-LENGTH
 
 module _ (letters : List ℕ) (used : ℕ) (lengths : List ℕ) (count : ℕ) where
-  fits-says : (size : ℕ) → (no-room? letters used lengths count size ≡ false) ↔ Room letters used lengths count size
+  fits-says : (size : ℕ) → (no-room? (length letters) used (length lengths) count size ≡ false) ↔ Room letters used lengths count size
   fits-says size = (
     λ e. let h = neither _ (ltb Fasta-LENGTH size) .0 e in
         let k = neither (ltb (length letters) (used + size)) (leb (length lengths) count) .0 (h .0) in
@@ -44,7 +44,7 @@ module _ (letters : List ℕ) (used : ℕ) (lengths : List ℕ) (count : ℕ) wh
 
   pub check20-fine : (e : Entry) → (check20 letters used lengths count e ≡ fine) ↔ Room letters used lengths count (size-of e)
   unfolding check20
-  check20-fine e = Iff·trans (refuse-if-fine (no-room? letters used lengths count (size-of e)) 20) (fits-says (size-of e))
+  check20-fine e = Iff·trans (refuse-if-fine (no-room? (length letters) used (length lengths) count (size-of e)) 20) (fits-says (size-of e))
 
 -- 4: every byte is a letter
 abbrev pub AllLetters : List ℕ → Type 0

@@ -107,12 +107,12 @@ unfoldable pub check19 : List Line → Verdict
 check19 ls = refuse-if (text-first? ls) 19
 
 -- 20: the letters of the next record, behind the `used` that the buffer holds, end past it; or the `count` rows that the lengths
--- table holds are all that it has, or a row of it cannot hold their number
-abbrev pub no-room? : List ℕ → ℕ → List ℕ → ℕ → ℕ → Bool
-no-room? letters used lengths count size = ltb (length letters) (used + size) || leb (length lengths) count || ltb Fasta-LENGTH size
+-- table holds are all that it has, or a row of it cannot hold their number. The test is of both lengths: the buffer's and the table's
+abbrev pub no-room? : ℕ → ℕ → ℕ → ℕ → ℕ → Bool
+no-room? letters used lengths count size = ltb letters (used + size) || leb lengths count || ltb Fasta-LENGTH size
 
 unfoldable pub check20 : List ℕ → ℕ → List ℕ → ℕ → Entry → Verdict
-check20 letters used lengths count e = refuse-if (no-room? letters used lengths count (size-of e)) 20
+check20 letters used lengths count e = refuse-if (no-room? (length letters) used (length lengths) count (size-of e)) 20
 
 -- 4: a byte of its lines that is no letter, by the offset of the first in the file
 abbrev pub check-line : Line → Verdict
