@@ -1,6 +1,6 @@
 -- Where a scan finds the byte, the first piece ends and the others begin.
 use mathlib.Core.Path.{_≡_, refl, sym, ap, _∙_}
-use mathlib.Core.Bool.{Bool, true, false, false≢true}
+use mathlib.Core.Bool.{Bool, true, false, _||_, or-false, or-assoc, false≢true}
 use mathlib.Core.List.{List, [], _∷_}
 use Prim.Native.Nat.{ℕ, zero, suc, _+_, _-_, _≤_, _<_, min}
 use native.Mathlib.Nat.{sub-zero, zero-add}
@@ -9,9 +9,9 @@ use native.Mathlib.Omega.{arith}
 use lib.Dec.{eqb, ltb, leb·suc-suc}
 use lib.ListN.{length, take, drop, getD, length-take, length-drop, drop-of-length-le}
 use lib.Seq.{drop-cons, drop-drop, length-take-le, take-all}
-use borrow.Author.Tests.{eq-eqb, ne-eqb, lt-ltb, le-ltb, ltb-true, ltb-false}
+use borrow.Author.Tests.{eq-eqb, ne-eqb, eqb-true, eqb-false, lt-ltb, le-ltb, ltb-true, ltb-false}
 use Rattle.rules.proofs.Tables.{drop-min}
-use Rattle.rules.specs.Lists.{if}
+use Rattle.rules.specs.Lists.{if, member?}
 use Rattle.rules.specs.Text.{pieces, onto, last, but-last}
 use Rattle.text.specs.Pieces.{find, others, after, two?}
 
@@ -41,6 +41,40 @@ find-le b (x ∷ xs) = go (eqb x b) (find-le b xs)
     go : (t : Bool) → find b xs ≤ length xs → if t 0 (suc (find b xs)) ≤ suc (length xs)
     go true h = omega arith
     go false h = omega arith
+
+-- ---- whether the byte is among some
+
+-- a byte is another exactly if the other is the one
+eqb-comm : (x y : ℕ) → eqb x y ≡ eqb y x
+eqb-comm x y = go (eqb y x) refl
+  where
+    go : (t : Bool) → eqb y x ≡ t → eqb x y ≡ t
+    go true e = eq-eqb x y (sym (eqb-true y x e))
+    go false e = ne-eqb x y (λ w. eqb-false y x e (sym w))
+
+-- the test of those passed and of the rest, one byte further on
+pub among-on : (b : ℕ) (s : Bool) (i : ℕ) (l : List ℕ) → i < length l → s || member? b (drop i l) ≡ s || eqb (getD l i 0) b || member? b (drop (i + 1) l)
+unfolding member?
+among-on b s i l h = rw (drop-cons l i 0 h, add-one, eqb-comm b (getD l i 0)) (ap (λ t. s || t) (go (eqb (getD l i 0) b)) ∙ sym (or-assoc s (eqb (getD l i 0) b) (member? b (drop (suc i) l))))
+  where
+    go : (t : Bool) → if t true (member? b (drop (suc i) l)) ≡ t || member? b (drop (suc i) l)
+    go true = refl
+    go false = refl
+
+-- past the end there is no rest
+pub among-end : (b : ℕ) (s : Bool) (i : ℕ) (l : List ℕ) → length l ≤ i → s || member? b (drop i l) ≡ s
+unfolding member?
+among-end b s i l h = rw (drop-of-length-le l {i = i} h, or-false)
+
+-- where it is not among them the scan goes to their end
+pub not-among : (b : ℕ) (l : List ℕ) → member? b l ≡ false → find b l ≡ length l
+unfolding find member?
+not-among b [] e = refl
+not-among b (x ∷ xs) e = rw (eqb-comm x b) (go (eqb b x) e (not-among b xs))
+  where
+    go : (t : Bool) → if t true (member? b xs) ≡ false → (member? b xs ≡ false → find b xs ≡ length xs) → if t 0 (suc (find b xs)) ≡ suc (length xs)
+    go true e ih = absurd (false≢true (sym e))
+    go false e ih = ap suc (ih e)
 
 -- not among the first n, it stands first where it does after them
 past : (b n : ℕ) (l : List ℕ) → n ≤ length l → find b (take n l) ≡ n → find b l ≡ n + find b (drop n l)

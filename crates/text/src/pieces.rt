@@ -1,14 +1,15 @@
-// A text cut into pieces at a byte: the lines of the input at byte 10, a template's components at [.
-ghost use mathlib.Core.Bool.{false};
+// A text cut into pieces at a byte: the lines of the printing program's input and of a FASTA file at byte 10, a template's
+// components at [.
 ghost use mathlib.Core.Path.{_≡_};
 ghost use Prim.Native.Nat.{_+_, _≤_, min};
 ghost use lib.ListN.{length, drop};
+ghost use Rattle.rules.specs.Lists.{member?};
 ghost use Rattle.rules.specs.Text.{pieces, last};
 ghost use Rattle.text.specs.Pieces.{find, after, two?};
 
 // Whether a byte is among some. All are looked at, also past it: with no way out of the loop, many can be taken at a time.
 fn among(b: u8, bytes: &[u8]) -> bool
-    ensures { λ r. ⌜ (r ≡ false → find b (now (bytes .entry)) ≡ length (now (bytes .entry))) ⌝ }
+    ensures { λ r. ⌜ r ≡ member? b (now (bytes .entry)) ⌝ }
 {
     let mut some = false;
     let mut i = 0;

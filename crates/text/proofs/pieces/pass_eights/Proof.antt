@@ -1,11 +1,11 @@
 -- `pass_eights`: none of the bytes passed is the one looked for, so it stands first where it does from the place reached on.
 use borrow.Author.Needs.{needs}
-use mathlib.Core.Path.{_≡_, _∙_, refl}
+use mathlib.Core.Path.{_≡_, _∙_, refl, sym}
 use Prim.Native.Nat.{_+_, _-_, _≤_}
 use native.Mathlib.Omega.{arith}
 use lib.ListN.{length, drop}
 use Rattle.text.specs.Pieces.{find}
-use Rattle.text.proofs.Scan.{find-past}
+use Rattle.text.proofs.Scan.{find-past, not-among}
 use Rattle.text.proofs.pieces.pass_eights.Statement.{statement}
 use Rattle.text.proofs.pieces.pass_eights.Tie as tie
 
@@ -50,7 +50,7 @@ loop-again c =
     let l = c .before .before .before .before .loop in
     let a = c .before .before .before .before .before .before .args in (
       omega arith,
-      l .inv .1 ∙ find-past (a .b) (l .i) (l .i + 8) (a .text .now) (omega arith) (omega arith) (c .before .among .ensures (c .if1 .left)),
+      l .inv .1 ∙ find-past (a .b) (l .i) (l .i + 8) (a .text .now) (omega arith) (omega arith) (not-among (a .b) _ (sym (c .before .among .ensures) ∙ c .if1 .left)),
     )
 
 returns-2 : tie.Need-returns-2 Inv-loop μ-loop
