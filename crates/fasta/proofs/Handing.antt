@@ -61,17 +61,17 @@ module _ (file : List ℕ) (at : ℕ) (letters : List ℕ) (used : ℕ) (lengths
       sized = sym (b .sized)
 
       -- there is no room for its record
-      pub rule-no-room : {t : Bool} → t ≡ no-room? letters used lengths count size → t ≡ true → rule ≡ stays file at letters used lengths count (refuses 20 0)
+      pub rule-no-room : {t : Bool} → t ≡ no-room? (length letters) used (length lengths) count size → t ≡ true → rule ≡ stays file at letters used lengths count (refuses 20 0)
       unfolding check20 _else_
       rule-no-room e n = rule-header ∙ rw (sized, ← e, n)
 
       -- there is, and a byte is no letter
-      pub rule-bad : {t : Bool} → t ≡ no-room? letters used lengths count size → t ≡ false → bad < length file → rule ≡ stays file at letters used lengths count (refuses 4 bad)
+      pub rule-bad : {t : Bool} → t ≡ no-room? (length letters) used (length lengths) count size → t ≡ false → bad < length file → rule ≡ stays file at letters used lengths count (refuses 4 bad)
       unfolding check20 check4-file _else_
       rule-bad e n k = rule-header ∙ rw (sized, ← e, n, b .checked, lt-ltb bad (length file) k)
 
       -- there is, and all are letters: it is handed out
-      pub rule-record : {t : Bool} {stop : ℕ} → t ≡ no-room? letters used lengths count size → t ≡ false → length file ≤ bad → stop ≡ start + 1 + length (up-to-blank (part file (start + 1) end))
+      pub rule-record : {t : Bool} {stop : ℕ} → t ≡ no-room? (length letters) used (length lengths) count size → t ≡ false → length file ≤ bad → stop ≡ start + 1 + length (up-to-blank (part file (start + 1) end))
           → rule ≡ record { told = gives (entry (start + 1) stop size); at = after; letters = put-at used (texts (body file next)) letters; lengths = put-at count (size ∷ []) lengths }
       unfolding check20 check4-file letters-of _else_
       rule-record e n k q = rule-header ∙ rw (sized, ← e, n, b .checked, le-ltb bad (length file) k, b .cursor, q, name-is)
@@ -86,7 +86,7 @@ unfolding put-at put
 put-one n x table h = set-split table n x h ∙ rw (drop-drop, add-one)
 
 -- where there is room, there is room for each
-pub room-for : (letters : List ℕ) (used : ℕ) (lengths : List ℕ) (count size : ℕ) {t : Bool} → t ≡ no-room? letters used lengths count size → t ≡ false
+pub room-for : (letters : List ℕ) (used : ℕ) (lengths : List ℕ) (count size : ℕ) {t : Bool} → t ≡ no-room? (length letters) used (length lengths) count size → t ≡ false
     → (used + size ≤ length letters) × (count < length lengths) × (size ≤ Fasta-LENGTH)
 room-for letters used lengths count size e n =
     let p = neither (ltb (length letters) (used + size) || leb (length lengths) count) (ltb Fasta-LENGTH size) .0 (sym e ∙ n) in

@@ -11,15 +11,13 @@ use rules::FileRefusal;
 use rules::Handed;
 use rules::Name;
 use text::read::copy_part;
-ghost use mathlib.Core.Bool.{_||_};
 ghost use mathlib.Core.List.{map};
 ghost use mathlib.Core.Path.{_≡_};
 ghost use Prim.Native.Nat.{_+_, _≤_};
-ghost use lib.Dec.{leb, ltb};
+ghost use lib.Dec.{ltb};
 ghost use lib.ListN.{length};
-ghost use Rattle.rules.specs.Fasta.{line, up-to-blank, texts, check-line, reader-rule};
+ghost use Rattle.rules.specs.Fasta.{line, up-to-blank, texts, no-room?, check-line, reader-rule};
 ghost use Rattle.rules.specs.Letters.{value};
-ghost use Rattle.rules.specs.Limits.{Fasta-LENGTH};
 ghost use Rattle.rules.specs.Lists.{if, put-at, run};
 ghost use Rattle.rules.specs.Told.{fine, refused, toldHanded};
 ghost use Rattle.fasta.specs.Scanned.{part, HeaderAt, in-body?, body, BodyAt};
@@ -122,7 +120,7 @@ fn name_end(file: &[u8], from: usize, end: usize) -> usize
 
 // Whether a buffer and a table have no room for a record of so many letters, `used` and `count` of them being filled.
 fn no_room(letters: usize, used: usize, lengths: usize, count: usize, size: usize) -> bool
-    ensures { λ r. ⌜ r ≡ (ltb letters (used + size) || leb lengths count || ltb Fasta-LENGTH size) ⌝ }
+    ensures { λ r. ⌜ r ≡ no-room? letters used lengths count size ⌝ }
 {
     if letters < used {
         return true;
