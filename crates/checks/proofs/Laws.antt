@@ -1,28 +1,48 @@
--- Laws that the checks lean on: checks two by two, a sum from one index to the next, a power of the base one letter at a time,
--- and how far the search for a bad component is.
-use mathlib.Core.Bool.{Bool, true, false}
+-- Laws that the checks lean on: checks two by two, a test of every byte, a sum from one index to the next, a power of the base
+-- one letter at a time, and how far the search for a bad component is.
+use mathlib.Core.Bool.{Bool, true, false, _&&_, not, and-assoc}
 use mathlib.Core.List.{List, [], _∷_}
-use mathlib.Core.Path.{_≡_, _∙_, refl, sym}
+use mathlib.Core.Path.{_≡_, _∙_, refl, sym, ap}
 use Prim.Native.Nat.{ℕ, zero, suc, _+_, _-_, _/_, _^_, _≤_, _<_, min}
 use native.Mathlib.Nat.{pow-suc}
-use native.Mathlib.Numerals.{sub-one}
+use native.Mathlib.Numerals.{sub-one, add-one}
 use native.Mathlib.Omega.{arith}
 use lib.Dec.{ltb, eqb}
-use lib.ListN.{length, getD, take, drop}
+use lib.ListN.{length, getD, take, drop, drop-of-length-le}
+use lib.Seq.{drop-cons}
 use borrow.Author.Tests.{ltb-true, ltb-false, lt-ltb, le-ltb, eq-eqb, ne-eqb}
+use Rattle.rules.specs.Letters.{letter?}
 use Rattle.rules.specs.Limits.{Letter-BASES, Template-COMPONENTS}
-use Rattle.rules.specs.Refusals.{_else_, first, first-bad}
+use Rattle.rules.specs.Lists.{all?}
+use Rattle.rules.specs.Refusals.{_else_, first, first-bad, bad-byte}
 use Rattle.rules.specs.Template.{slots, none, components}
 use Rattle.rules.specs.Told.{Verdict, fine, refused}
 use Rattle.rules.specs.declared.Component.{Component}
 use Rattle.rules.specs.declared.Template.{Template}
 use Rattle.rules.proofs.Tables.{take-min}
-use Rattle.rules.proofs.Verdicts.{else-assoc, else-fine, here-in, later-in, over-in}
+use Rattle.rules.proofs.Tests.{both, and-true}
+use Rattle.rules.proofs.Verdicts.{bad-cons, else-assoc, else-fine, here-in, later-in, over-in}
 
 -- of four checks, what the first two find, and else the last two
 pub in-two : (a b c d : Verdict) → first (a ∷ b ∷ c ∷ d ∷ []) ≡ (a else b) else (c else d)
 unfolding first
 in-two a b c d = simp (else-assoc, else-fine)
+
+-- EVERY BYTE. A test of those passed and of the rest, one byte further on
+pub all-on : (f : ℕ → Bool) (a : Bool) (i : ℕ) (l : List ℕ) → i < length l → a && all? f (drop i l) ≡ a && f (getD l i 0) && all? f (drop (i + 1) l)
+unfolding all?
+all-on f a i l h = rw (drop-cons l i 0 h, add-one, and-assoc)
+
+-- past the end there is no rest
+pub all-end : (f : ℕ → Bool) (a : Bool) (i : ℕ) (l : List ℕ) → length l ≤ i → a && all? f (drop i l) ≡ a
+unfolding all?
+all-end f a i l h = rw (drop-of-length-le l {i = i} h, and-true)
+
+-- where all are letters none is bad
+pub all-letters : (o : ℕ) (l : List ℕ) → all? letter? l ≡ true → first-bad 4 bad-byte o l ≡ fine
+unfolding all? first-bad
+all-letters o [] e = refl
+all-letters o (b ∷ l) e = let h = both (letter? b) (all? letter? l) .0 e in bad-cons 4 bad-byte o b l .1 (ap not (h .0), all-letters (suc o) l (h .1))
 
 -- what is left of a number once another is taken away says whether they are the same
 pub same-left : (a s l : ℕ) → a + s ≡ l → eqb s l ≡ eqb a 0

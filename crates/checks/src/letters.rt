@@ -1,4 +1,4 @@
-// Letters: whether a byte is one, and the table of their values; nothing else has them.
+// Letters: the table of their values, and whether a byte is a letter at all, by comparing.
 ghost use mathlib.Core.List.{map};
 ghost use mathlib.Core.Path.{_≡_};
 ghost use Rattle.rules.specs.Letters.{letter?, value};

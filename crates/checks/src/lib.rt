@@ -6,16 +6,15 @@ pub mod letters;
 use letters::is_letter;
 use letters::value;
 use letters::values;
-ghost use mathlib.Core.Bool.{true};
 ghost use mathlib.Core.List.{map};
 ghost use mathlib.Core.Path.{_≡_};
 ghost use Prim.Native.Nat.{ℕ, _+_, _^_};
 ghost use lib.Dec.{ltb};
 ghost use lib.ListN.{length};
 ghost use Rattle.checks.specs.Orders.{template-checks, value-checks-before-13};
-ghost use Rattle.rules.specs.Letters.{value};
+ghost use Rattle.rules.specs.Letters.{letter?, value};
 ghost use Rattle.rules.specs.Limits.{Letter-BASES, Template-LENGTH};
-ghost use Rattle.rules.specs.Lists.{if, run};
+ghost use Rattle.rules.specs.Lists.{if, all?, run};
 ghost use Rattle.rules.specs.Refusals.{_else_, first, first-bad, bad-byte, outside, bad-gap, check1, check2, check3, check4, check5, check6, check7, check8, check9, check11-place, check12, set-checks, new-checks};
 ghost use Rattle.rules.specs.Saved.{place-rule?};
 ghost use Rattle.rules.specs.Told.{fine, refused, toldChecked};
@@ -68,7 +67,7 @@ pub fn check_sum(letters: &[u8], lengths: &[u32]) -> Checked
 // Whether all bytes are letters. Every byte is looked at, also past one that is none: with no way out of the loop, many bytes
 // can be taken at a time.
 pub fn all_letters(bytes: &[u8]) -> bool
-    ensures { λ r. ⌜ ((o : ℕ) → r ≡ true → first-bad 4 bad-byte o (now (bytes .entry)) ≡ fine) ⌝ }
+    ensures { λ r. ⌜ r ≡ all? letter? (now (bytes .entry)) ⌝ }
 {
     let mut all = true;
     let mut i = 0;

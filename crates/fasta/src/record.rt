@@ -11,14 +11,12 @@ use rules::FileRefusal;
 use rules::Handed;
 use rules::Name;
 use text::read::copy_part;
-ghost use mathlib.Core.List.{map};
 ghost use mathlib.Core.Path.{_≡_};
 ghost use Prim.Native.Nat.{_+_, _≤_};
 ghost use lib.Dec.{ltb};
 ghost use lib.ListN.{length};
 ghost use Rattle.rules.specs.Fasta.{line, up-to-blank, texts, no-room?, check-line, reader-rule};
-ghost use Rattle.rules.specs.Letters.{value};
-ghost use Rattle.rules.specs.Lists.{if, put-at, run};
+ghost use Rattle.rules.specs.Lists.{if, put-at};
 ghost use Rattle.rules.specs.Told.{fine, refused, toldHanded};
 ghost use Rattle.fasta.specs.Scanned.{part, HeaderAt, in-body?, body, BodyAt};
 
@@ -47,16 +45,18 @@ fn earlier(a: usize, b: usize, end: usize) -> usize
     if a < end { a } else { b }
 }
 
-// The first byte of a line that is no letter; the file's end where there is none.
-fn bad_in(values: &[u8], file: &[u8], start: usize, end: usize) -> usize
-    requires { ⌜ (now values ≡ map value (run 0 256)) × (start ≤ end) × (end ≤ length (now file)) ⌝ }
+// The first byte of a line that is no letter; the file's end where there is none. The table of values is made only where there
+// is one.
+fn bad_in(file: &[u8], start: usize, end: usize) -> usize
+    requires { ⌜ (start ≤ end) × (end ≤ length (now file)) ⌝ }
     ensures { λ r. ⌜ check-line (line start (part (now (file .entry)) start end)) ≡ if (ltb r (length (now (file .entry)))) (refused 4 r) fine ⌝ }
 {
     let text = &file[start..end];
     if all_letters(text) {
         return file.len();
     }
-    let mark = find_mark(values, text);
+    let table = values();
+    let mark = find_mark(&table, text);
     if mark < text.len() {
         start + mark
     } else {
@@ -65,8 +65,8 @@ fn bad_in(values: &[u8], file: &[u8], start: usize, end: usize) -> usize
 }
 
 // Reads a record's lines, from the one behind its header to the next header.
-fn measure(values: &[u8], file: &[u8], from: usize) -> Body
-    requires { ⌜ (now values ≡ map value (run 0 256)) × (from ≤ length (now file)) ⌝ }
+fn measure(file: &[u8], from: usize) -> Body
+    requires { ⌜ from ≤ length (now file) ⌝ }
     ensures { λ r. ⌜ BodyAt (now (file .entry)) from (r .size) (r .bad) (r .next) ⌝ }
 {
     let mut at = from;
@@ -75,7 +75,7 @@ fn measure(values: &[u8], file: &[u8], from: usize) -> Body
     while in_body(file, at) {
         let line = line_at(file, at);
         let end = line.end;
-        let found = bad_in(values, file, at, end);
+        let found = bad_in(file, at, end);
         bad = earlier(bad, found, file.len());
         size += end - at;
         at = line.next;
@@ -144,9 +144,8 @@ pub(crate) fn hand_out(
     ensures { λ _. ⌜ now (letters .exit) ≡ (reader-rule (now (file .entry)) at (now (letters .entry)) used (now (lengths .entry)) count) .letters ⌝ }
     ensures { λ _. ⌜ now (lengths .exit) ≡ (reader-rule (now (file .entry)) at (now (letters .entry)) used (now (lengths .entry)) count) .lengths ⌝ }
 {
-    let table = values();
     let next = header.next;
-    let body = measure(&table, file, next);
+    let body = measure(file, next);
     let size = body.size;
     let bad = body.bad;
     if no_room(letters.len(), used, lengths.len(), count, size) {

@@ -1,25 +1,24 @@
--- `all_letters`: as long as all bytes passed are letters, the first that is none stands among the rest.
+-- `all_letters`: all are letters exactly if all those passed are, and all of the rest.
 use borrow.Author.Needs.{needs}
-use mathlib.Core.Bool.{true, not}
-use mathlib.Core.Path.{_≡_, _∙_, ap, sym}
-use Prim.Native.Nat.{ℕ, _+_, _-_, _≤_}
-use native.Mathlib.Nat.{zero-add}
+use mathlib.Core.Bool.{_&&_}
+use mathlib.Core.Path.{_≡_, _∙_, refl, sym}
+use Prim.Native.Nat.{_-_, _≤_}
 use native.Mathlib.Omega.{arith}
 use lib.ListN.{length, drop}
-use Rattle.rules.proofs.Tests.{both}
-use Rattle.rules.proofs.Verdicts.{later, over}
-use Rattle.rules.specs.Refusals.{first-bad, bad-byte}
+use Rattle.rules.specs.Letters.{letter?}
+use Rattle.rules.specs.Lists.{all?}
+use Rattle.checks.proofs.Laws.{all-on, all-end}
 use Rattle.checks.proofs.all_letters.Statement.{statement}
 use Rattle.checks.proofs.all_letters.Tie as tie
 
 abbrev Inv-loop : tie.InvT-loop
-Inv-loop bytes all₀ i₀ all i = (i ≤ length bytes) × ((o : ℕ) → all ≡ true → first-bad 4 bad-byte o bytes ≡ first-bad 4 bad-byte (i + o) (drop i bytes))
+Inv-loop bytes all₀ i₀ all i = (i ≤ length bytes) × (all? letter? bytes ≡ all && all? letter? (drop i bytes))
 
 abbrev μ-loop : tie.MeasureT-loop
 μ-loop bytes all₀ i₀ all i = length bytes - i
 
 loop-holds : tie.Need-loop-holds Inv-loop μ-loop
-loop-holds c = (omega arith, λ o e. rw zero-add)
+loop-holds c = (omega arith, refl)
 
 shared-slice-read-is-letter : tie.Need-shared-slice-read-is-letter Inv-loop μ-loop
 shared-slice-read-is-letter c = search needs
@@ -36,18 +35,14 @@ loop-less c = search needs
 loop-again : tie.Need-loop-again Inv-loop μ-loop
 loop-again c =
     let l = c .before .before .before .loop in
-    let xs = c .before .before .before .before .before .args .bytes .now in (
-      omega arith,
-      λ o e.
-          let h = both (l .all) (c .is-letter .result) .0 e in
-          l .inv .1 o (h .0) ∙ later 4 bad-byte 0 o xs (l .i) (omega arith) (ap not (sym (c .is-letter .ensures) ∙ h .1)),
-    )
+    let xs = c .before .before .before .before .before .args .bytes .now in
+    (omega arith, l .inv .1 ∙ all-on letter? (l .all) (l .i) xs (omega arith) ∙ rw (c .is-letter .ensures))
 
 returns : tie.Need-returns Inv-loop μ-loop
-returns c o e =
+returns c =
     let l = c .before .loop in
     let xs = c .before .before .before .args .bytes .now in
-    l .inv .1 o e ∙ over 4 bad-byte o xs (l .i) (omega arith)
+    sym (l .inv .1 ∙ all-end letter? (l .all) (l .i) xs (omega arith))
 
 pub all-letters-spec : {M : Type 1} → statement M
 all-letters-spec =

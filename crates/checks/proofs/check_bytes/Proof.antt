@@ -3,6 +3,7 @@ use mathlib.Core.Path.{sym, _∙_}
 use native.Mathlib.Nat.{zero-add}
 use borrow.Author.Needs.{needs}
 use Rattle.rules.specs.Refusals.{check4}
+use Rattle.checks.proofs.Laws.{all-letters}
 use Rattle.checks.proofs.check_bytes.Statement.{statement}
 use Rattle.checks.proofs.check_bytes.Tie as tie
 
@@ -11,7 +12,7 @@ all-letters-requires c κs = search needs
 
 returns : tie.Need-returns
 unfolding check4
-returns c = sym (c .before .all-letters .ensures 0 (c .if1 .taken))
+returns c = sym (all-letters 0 _ (sym (c .before .all-letters .ensures) ∙ c .if1 .taken))
 
 values-requires : tie.Need-values-requires
 values-requires c κs = search needs

@@ -1,5 +1,7 @@
 -- The first mark of the line's text, counted from the line's start; none where all of the text are letters.
 use borrow.Author.Needs.{needs}
+use mathlib.Core.Path.{_∙_, sym}
+use Rattle.checks.proofs.Laws.{all-letters}
 use Rattle.fasta.proofs.Body.{bad-here, bad-none, bad-nowhere}
 use Rattle.fasta.proofs.record.bad_in.Statement.{statement}
 use Rattle.fasta.proofs.record.bad_in.Tie as tie
@@ -18,8 +20,14 @@ all-letters-requires c κs = search needs
 
 returns : tie.Need-returns
 returns c =
-    let a = c .before .before .before .before .before .args in
-    bad-nowhere (a .file .now) (a .start) (a .end) (λ o. c .before .all-letters .ensures o (c .if1 .taken))
+    let a = c .before .before .before .before .args in
+    bad-nowhere (a .file .now) (a .start) (a .end) (λ o. all-letters o _ (sym (c .before .all-letters .ensures) ∙ c .if1 .taken))
+
+values-requires : tie.Need-values-requires
+values-requires c κs = search needs
+
+slice-aggregate-find-mark : tie.Need-slice-aggregate-find-mark
+slice-aggregate-find-mark c = search needs
 
 find-mark-requires : tie.Need-find-mark-requires
 find-mark-requires c κs = search needs
@@ -29,15 +37,15 @@ add-result c = search needs
 
 returns-2 : tie.Need-returns-2
 returns-2 c =
-    let a = c .before .before .before .before .before .before .before .args in
-    let p = c .before .before .before .before .before .before .before .pre in
-    bad-here (a .file .now) (a .start) (a .end) (c .before .find-mark .result) (p .1) (p .2) (c .before .find-mark .ensures) (c .if2 .taken)
+    let a = c .before .before .before .before .before .before .before .before .args in
+    let p = c .before .before .before .before .before .before .before .before .pre in
+    bad-here (a .file .now) (a .start) (a .end) (c .before .find-mark .result) (p .0) (p .1) (c .before .find-mark .ensures) (c .if2 .taken)
 
 returns-3 : tie.Need-returns-3
 returns-3 c =
-    let a = c .before .before .before .before .before .before .before .args in
-    let p = c .before .before .before .before .before .before .before .pre in
-    bad-none (a .file .now) (a .start) (a .end) (c .before .find-mark .result) (p .1) (p .2) (c .before .find-mark .ensures) (c .if2 .left)
+    let a = c .before .before .before .before .before .before .before .before .args in
+    let p = c .before .before .before .before .before .before .before .before .pre in
+    bad-none (a .file .now) (a .start) (a .end) (c .before .find-mark .result) (p .0) (p .1) (c .before .find-mark .ensures) (c .if2 .left)
 
 pub bad-in-spec : {M : Type 1} → statement M
 bad-in-spec =
@@ -48,6 +56,8 @@ bad-in-spec =
     part-text-end
     all-letters-requires
     returns
+    values-requires
+    slice-aggregate-find-mark
     find-mark-requires
     add-result
     returns-2

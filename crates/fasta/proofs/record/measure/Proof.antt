@@ -9,26 +9,26 @@ use Rattle.fasta.proofs.record.measure.Statement.{statement}
 use Rattle.fasta.proofs.record.measure.Tie as tie
 
 abbrev Inv-loop : tie.InvT-loop
-Inv-loop values file from at₀ size₀ bad₀ at size bad = Measured file from at size bad
+Inv-loop file from at₀ size₀ bad₀ at size bad = Measured file from at size bad
 
 abbrev μ-loop : tie.MeasureT-loop
-μ-loop values file from at₀ size₀ bad₀ at size bad = length file - at
+μ-loop file from at₀ size₀ bad₀ at size bad = length file - at
 
 loop-holds : tie.Need-loop-holds Inv-loop μ-loop
-loop-holds c = let s = c .before .before in measured-none (s .args .file .now) (s .args .from) (s .pre .1)
+loop-holds c = let s = c .before in measured-none (s .args .file .now) (s .args .from) (s .pre)
 
 in-body-requires : tie.Need-in-body-requires Inv-loop μ-loop
 in-body-requires c κs = search needs
 
 line-at-requires : tie.Need-line-at-requires Inv-loop μ-loop
 line-at-requires c κs =
-    let a = c .before .before .before .before .before .args in
+    let a = c .before .before .before .before .args in
     in-file (a .file .now) (c .before .before .loop .at) (sym (c .before .in-body .ensures) ∙ c .if1 .taken)
 
 bad-in-requires : tie.Need-bad-in-requires Inv-loop μ-loop
 bad-in-requires c κs =
     let l = c .line-at .ensures .1 in
-    (c .before .before .before .before .before .before .pre .0, l .forward, omega (arith, l .ended, l .within))
+    (l .forward, omega (arith, l .ended, l .within))
 
 earlier-requires : tie.Need-earlier-requires Inv-loop μ-loop
 earlier-requires c κs = search needs
