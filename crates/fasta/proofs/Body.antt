@@ -23,7 +23,7 @@ use Rattle.fasta.proofs.FileLines.{part-length, lines-end, line-some, h
 -- ---- the first byte of a line that is no letter
 
 -- where it is, or the file's end
-abbrev pub bad-at : List ℕ → ℕ → Verdict
+abbrev bad-at : List ℕ → ℕ → Verdict
 bad-at file bad = if (ltb bad (length file)) (refused 4 bad) fine
 
 module _ (file : List ℕ) (start end mark : ℕ) (h : start ≤ end) (k : end ≤ length file)
