@@ -12,9 +12,11 @@ use borrow.Author.Tests.{eqb-true, eqb-false, ltb-true, ltb-false, lt-ltb, le-lt
 use Rattle.rules.proofs.Tests.{both}
 use Rattle.rules.proofs.Verdicts.{fine-else, else-fine}
 use Rattle.rules.specs.Fasta.{Line, line, text?, lines-from, header?, up-to-header, entries, texts, check-line, check-lines, cursor-after}
-use Rattle.rules.specs.Lists.{if, keep, each, some?, put, put-at}
+use Rattle.rules.specs.Letters.{letter?}
+use Rattle.rules.specs.Lists.{if, all?, keep, each, some?, put, put-at}
 use Rattle.rules.specs.Refusals.{_else_, first, first-bad, bad-byte}
 use Rattle.rules.specs.Told.{Verdict, fine, refused}
+use Rattle.checks.proofs.Laws.{all-letters}
 use Rattle.text.proofs.Printed.{_then_, wrote-length, room}
 use Rattle.text.specs.Printed.{write, Wrote}
 use Rattle.fasta.specs.Scanned.{part, LineAt, in-body?, body, BodyAt}
@@ -36,8 +38,8 @@ module _ (file : List ℕ) (start end mark : ℕ) (h : start ≤ end) (k : end �
   bad-none m = f start ∙ rw (le-ltb mark (length (part file start end)) m, le-ltb (length file) (length file) (omega arith))
 
 -- none, where all are letters
-pub bad-nowhere : (file : List ℕ) (start end : ℕ) → ((o : ℕ) → first-bad 4 bad-byte o (part file start end) ≡ fine) → check-line (line start (part file start end)) ≡ bad-at file (length file)
-bad-nowhere file start end f = f start ∙ rw (le-ltb (length file) (length file) (omega arith))
+pub bad-nowhere : (file : List ℕ) (start end : ℕ) → all? letter? (part file start end) ≡ true → check-line (line start (part file start end)) ≡ bad-at file (length file)
+bad-nowhere file start end e = all-letters start (part file start end) e ∙ rw (le-ltb (length file) (length file) (omega arith))
 
 -- ---- a line that is no header, before others: an empty one is none of them, and has nothing to count or to refuse
 

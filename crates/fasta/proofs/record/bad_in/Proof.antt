@@ -1,7 +1,6 @@
 -- The first mark of the line's text, counted from the line's start; none where all of the text are letters.
 use borrow.Author.Needs.{needs}
 use mathlib.Core.Path.{_∙_, sym}
-use Rattle.checks.proofs.Laws.{all-letters}
 use Rattle.fasta.proofs.Body.{bad-here, bad-none, bad-nowhere}
 use Rattle.fasta.proofs.record.bad_in.Statement.{statement}
 use Rattle.fasta.proofs.record.bad_in.Tie as tie
@@ -21,7 +20,7 @@ all-letters-requires c κs = search needs
 returns : tie.Need-returns
 returns c =
     let a = c .before .before .before .before .args in
-    bad-nowhere (a .file .now) (a .start) (a .end) (λ o. all-letters o _ (sym (c .before .all-letters .ensures) ∙ c .if1 .taken))
+    bad-nowhere (a .file .now) (a .start) (a .end) (sym (c .before .all-letters .ensures) ∙ c .if1 .taken)
 
 values-requires : tie.Need-values-requires
 values-requires c κs = search needs
