@@ -12,7 +12,7 @@ use lib.ListN.{length, take, drop, set, length-append, length-take}
 use lib.Seq.{length-take-le, take-at, take-suc-set}
 use borrow.Author.Tests.{le-ltb, lt-ltb, lt-leb}
 use Rattle.rules.specs.Calls.{on-refusal}
-use Rattle.rules.specs.Fasta.{Line, lines-from, Entry, entries, letters-of, size-of, records, check19, check20, check4-file, next-checks, reader-checks, ReaderRule, stays, hands-out, reader-rule, cursor-after, lines-checks, lines-rule}
+use Rattle.rules.specs.Fasta.{Line, lines-from, Entry, letters-of, size-of, records-from, records, check19, check20, check4-file, next-checks, reader-checks, ReaderRule, cursor-after, stays, hands-out, reader-rule, lines-checks, lines-for, lines-rule}
 use Rattle.rules.specs.Limits.{Fasta-BYTES, Fasta-LENGTH}
 use Rattle.rules.specs.Lists.{each, put, put-at}
 use Rattle.rules.specs.Refusals.{_else_, first}
@@ -24,7 +24,7 @@ use Rattle.rules.proofs.FastaFits.{records-fit}
 use Rattle.rules.proofs.FastaLines.{left-next}
 use Rattle.rules.proofs.Tables.{put-front, put-at-long}
 use Rattle.text.specs.Printed as Printed
-use Rattle.lines.specs.Printing.{left, lines-for, rest-rule, Here}
+use Rattle.lines.specs.Printing.{rest-rule, Here}
 
 -- ---- the buffer
 
@@ -53,7 +53,7 @@ lines-long (e ∷ es) =
 pub at-first : (file out : List ℕ) → length file ≤ Fasta-BYTES → Here file out 0 0
 unfolding rest-rule lines-for lines-rule lines-checks records first _else_
 at-first file out h =
-    record { short = omega (arith, lines-long (left file 0), records-fit file); whole = rw (le-ltb Fasta-BYTES (length file) h) }
+    record { short = omega (arith, lines-long (records-from file 0), records-fit file); whole = rw (le-ltb Fasta-BYTES (length file) h) }
 
 -- a file that cannot be held
 pub too-long : (file : List ℕ) → Fasta-BYTES < length file → print-refused 20 0 ≡ lines-rule file
@@ -82,7 +82,7 @@ in-buffer text out n w = omega (arith, length-take n out, ap length (w .0), w .1
 
 -- what a record of so many letters leaves: room for the byte 10 behind them, and once that is there, a line more and a record fewer
 abbrev pub Record : List ℕ → ℕ → ℕ → ℕ → ℕ → List ℕ → Type 0
-Record file at used size next letters = (used + size < length letters) × (length (left file next) < length (left file at)) × Here file (set letters (used + size) 10) (used + size + 1) next
+Record file at used size next letters = (used + size < length letters) × (length (records-from file next) < length (records-from file at)) × Here file (set letters (used + size) 10) (used + size + 1) next
 
 -- what a call leaves, by what it tells: where the reader is then, and what the buffer holds
 abbrev pub After : List ℕ → ℕ → ℕ → Told Handing → ℕ → List ℕ → Type 0
@@ -95,14 +95,14 @@ module _ (file : List ℕ) (at used : ℕ) (out row : List ℕ) (small : length 
   ls = lines-from file at
 
   -- the line of the next record and those after it are no longer than the file, behind the lines so far
-  shorter : {e : Entry} {es : List Entry} → entries ls ≡ e ∷ es → used + size-of e + 1 + length (lines-for es) ≤ length file
+  shorter : {e : Entry} {es : List Entry} → records-from file at ≡ e ∷ es → used + size-of e + 1 + length (lines-for es) ≤ length file
   unfolding lines-for each
   shorter {e} {es} q =
       let h : used + length (lines-for (e ∷ es)) ≤ length file = rw q at (here .short) in
       omega (arith, h, length-append (with-end (letters-of e)) (lines-for es), length-append (letters-of e) (10 ∷ []))
 
   -- so there is room for it
-  never-full : {e : Entry} {es : List Entry} → entries ls ≡ e ∷ es → check20 out used row 0 e ≡ fine
+  never-full : {e : Entry} {es : List Entry} → records-from file at ≡ e ∷ es → check20 out used row 0 e ≡ fine
   unfolding check20
   never-full {e} {es} q =
       let h = shorter q in
@@ -122,21 +122,21 @@ module _ (file : List ℕ) (at used : ℕ) (out row : List ℕ) (small : length 
   printed v es before = on-refusal (first (v ∷ map check4-file es)) print-refused (before ++ lines-for es)
 
   -- behind a record that passes, what is printed is what was to be printed
-  passed : {e : Entry} {es : List Entry} → check19 ls ≡ fine → entries ls ≡ e ∷ es → check4-file e ≡ fine
+  passed : {e : Entry} {es : List Entry} → check19 ls ≡ fine → records-from file at ≡ e ∷ es → check4-file e ≡ fine
       → rest-rule file (cursor-after file es) (take used out ++ with-end (letters-of e)) ≡ rest-rule file at (take used out)
   unfolding rest-rule lines-for first _else_ each check19
   passed {e} {es} a q b =
       let l = left-next file at q in
       rw (a, q, b, l .records, l .no-text) (ap (λ t. on-refusal (first (map check4-file es)) print-refused t) (append-assoc (take used out) (with-end (letters-of e)) _))
 
-  whole : {v : Verdict} {es : List Entry} → check19 ls ≡ v → entries ls ≡ es → printed v es (take used out) ≡ lines-rule file
+  whole : {v : Verdict} {es : List Entry} → check19 ls ≡ v → records-from file at ≡ es → printed v es (take used out) ≡ lines-rule file
   unfolding rest-rule
   whole a q = rw (a, q) at (here .whole)
 
   abbrev AfterRule : ReaderRule → Type 0
   AfterRule r = After file at used (r .told) (r .at) (r .letters)
 
-  after-rule : (v : Verdict) → check19 ls ≡ v → (es : List Entry) → entries ls ≡ es → AfterRule (rule v es)
+  after-rule : (v : Verdict) → check19 ls ≡ v → (es : List Entry) → records-from file at ≡ es → AfterRule (rule v es)
   unfolding lines-for first _else_ each
   after-rule (refused n p) a es q = whole a q
   after-rule fine a [] q = sym (append-nil (take used out)) ∙ whole a q
@@ -157,7 +157,7 @@ module _ (file : List ℕ) (at used : ℕ) (out row : List ℕ) (small : length 
 
   after-call : AfterRule (reader-rule file at out used row 0)
   unfolding reader-rule reader-checks
-  after-call = after-rule (check19 ls) refl (entries ls) refl
+  after-call = after-rule (check19 ls) refl (records-from file at) refl
 
   -- THE TURN, of what a call answered
   pub turned : {h k : Handed} {next : ℕ} {letters : List ℕ} → toldHanded h ≡ (reader-rule file at out used row 0) .told

@@ -4,11 +4,9 @@ use mathlib.Core.Path.{_≡_}
 use Prim.Native.Nat.{ℕ, _+_, _≤_, _<_}
 use lib.ListN.{length, take}
 use Rattle.rules.specs.Calls.{on-refusal}
-use Rattle.rules.specs.Fasta.{lines-from, Entry, entries, letters-of, check19, check4-file, lines-rule}
-use Rattle.rules.specs.Lists.{each}
+use Rattle.rules.specs.Fasta.{lines-from, records-from, check19, check4-file, lines-for, lines-rule}
 use Rattle.rules.specs.Refusals.{first}
 use Rattle.rules.specs.Text.{print-refused}
-use Rattle.rules.specs.TextRefused.{with-end}
 use Rattle.lines.specs.declared.print.Turn.{Turn}
 use Rattle.lines.specs.declared.print.Turn.the-variants as turn
 
@@ -16,28 +14,20 @@ use Rattle.lines.specs.declared.print.Turn.the-variants as turn
 abbrev pub refusal : ℕ → ℕ → Turn
 refusal n p = turn.Refused n p
 
--- the records that are left from a cursor on
-abbrev pub left : List ℕ → ℕ → List Entry
-left file at = entries (lines-from file at)
-
--- some records, a line for each
-unfoldable pub lines-for : List Entry → List ℕ
-lines-for es = each (λ e. with-end (letters-of e)) es
-
 -- WHAT IS PRINTED of a file where some lines stand and the reader is at a cursor: what is refused from there on, or those lines and
 -- one for each record that is left
 unfoldable pub rest-rule : List ℕ → ℕ → List ℕ → List ℕ
 rest-rule file at before =
-    on-refusal (first (check19 (lines-from file at) ∷ map check4-file (left file at))) print-refused (before ++ lines-for (left file at))
+    on-refusal (first (check19 (lines-from file at) ∷ map check4-file (records-from file at))) print-refused (before ++ lines-for (records-from file at))
 
 -- the lines so far, `used` bytes of them, stand at the front of a buffer and the reader is at a cursor: with those to come they are
 -- no longer than the file, and the whole printout is what is printed from here
 pub record Here (file out : List ℕ) (used at : ℕ) : Type 0 where
-  pub short : used + length (lines-for (left file at)) ≤ length file
+  pub short : used + length (lines-for (records-from file at)) ≤ length file
   pub whole : rest-rule file at (take used out) ≡ lines-rule file
 
 -- after the next record: its line stands there too, and fewer are left; or the lines so far are the whole printout; or a refusal is
 abbrev pub Turned : List ℕ → ℕ → ℕ → List ℕ → Turn → Type 0
-Turned file at used out (turn.Line end next) = (length (left file next) < length (left file at)) × Here file out end next
+Turned file at used out (turn.Line end next) = (length (records-from file next) < length (records-from file at)) × Here file out end next
 Turned file at used out turn.End = take used out ≡ lines-rule file
 Turned file at used out (turn.Refused n p) = print-refused n p ≡ lines-rule file

@@ -11,7 +11,7 @@ use lib.Dec.{eqb, ltb}
 use lib.ListN.{length, take, drop, getD, take-append-drop}
 use lib.Seq.{take-append-le, drop-append-le, drop-drop}
 use borrow.Author.Tests.{eqb-true, leb-true, le-leb, ltb-true, ltb-false}
-use Rattle.rules.specs.Fasta.{Line, lines-of, text?, lines-from, header?, Entry, entries, blank?, up-to-blank, name-of, name-start, name-end, texts, text-first?, no-room?, check-line, check-lines}
+use Rattle.rules.specs.Fasta.{Line, lines-of, text?, lines-from, header?, Entry, blank?, up-to-blank, name-of, name-start, name-end, texts, records-from, text-first?, no-room?, check-line, check-lines}
 use Rattle.rules.specs.FastaRefused.{TextBefore, NoRoom, FirstNoLetter}
 use Rattle.rules.specs.Letters.{letter?}
 use Rattle.rules.specs.Limits.{Fasta-LENGTH}
@@ -60,7 +60,7 @@ mark-some l h = go (l .text) (eqb-true _ _ h)
     go [] e = absurd (omega arith)
     go (b ∷ bs) e = omega arith
 
-pub name-part : (file : List ℕ) (at : ℕ) (e : Entry) → List·Memᴰ e (entries (lines-from file at)) → take (name-end e - name-start e) (drop (name-start e) file) ≡ name-of e
+pub name-part : (file : List ℕ) (at : ℕ) (e : Entry) → List·Memᴰ e (records-from file at) → take (name-end e - name-start e) (drop (name-start e) file) ≡ name-of e
 unfolding name-of
 name-part file at e m =
     let r = record-laid file at m in

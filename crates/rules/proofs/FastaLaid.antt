@@ -9,7 +9,7 @@ use native.Mathlib.Omega.{arith}
 use lib.Dec.{eqb}
 use lib.ListN.{length, take, drop, getD}
 use lib.Seq.{take-take, take-length, take-append-seam, length-take-le, drop-drop, getD-take, getD-drop}
-use Rattle.rules.specs.Fasta.{Line, line, without-return, lines-of, text?, lines-from, header?, Entry, up-to-header, entries}
+use Rattle.rules.specs.Fasta.{Line, line, without-return, lines-of, text?, lines-from, header?, Entry, up-to-header, entries, records-from}
 use Rattle.rules.specs.Lists.{if, keep}
 use Rattle.rules.specs.Text.{pieces}
 use Rattle.rules.proofs.FastaLines.{pieces-next}
@@ -119,5 +119,5 @@ module _ (file : List ℕ) where
       go true h m ih = one h (List·Memᴰ·cases-cons m) ih
       go false h m ih = ih m
 
-  pub record-laid : (at : ℕ) {e : Entry} → List·Memᴰ e (entries (lines-from file at)) → RecordLaid e
+  pub record-laid : (at : ℕ) {e : Entry} → List·Memᴰ e (records-from file at) → RecordLaid e
   record-laid at m = laid-entries at (lines-from file at) (laid at) m

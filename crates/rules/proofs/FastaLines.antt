@@ -8,7 +8,7 @@ use Prim.Native.Nat.{ℕ, _+_}
 use native.Mathlib.Omega.{arith}
 use lib.ListN.{length, drop}
 use lib.Seq.{drop-append-add, drop-drop, drop-length}
-use Rattle.rules.specs.Fasta.{Line, line, without-return, lines-of, text?, lines-from, header?, Entry, up-to-header, entries, text-first?, cursor-after}
+use Rattle.rules.specs.Fasta.{Line, line, without-return, lines-of, text?, lines-from, header?, Entry, up-to-header, entries, records-from, text-first?, cursor-after}
 use Rattle.rules.specs.Lists.{if, keep, each, some?}
 use Rattle.rules.specs.Text.{pieces}
 use Rattle.rules.proofs.TextPieces.{pieces-are}
@@ -56,7 +56,7 @@ module _ (file : List ℕ) where
 
   -- WHAT IS LEFT to read at a cursor: these records, with no text before the first
   pub record Left (at : ℕ) (es : List Entry) : Type 0 where
-    pub records : entries (lines-from file at) ≡ es
+    pub records : records-from file at ≡ es
     pub no-text : text-first? (lines-from file at) ≡ false
 
   -- at the first of the records of some lines these are left
@@ -80,5 +80,5 @@ module _ (file : List ℕ) where
       go true q r = let z : entries ls ≡ es = cc in rw (← z) (left-at ls (s .1))
       go false q r = r q
 
-  pub left-next : (at : ℕ) {e : Entry} {es : List Entry} → entries (lines-from file at) ≡ e ∷ es → Left (cursor-after file es) es
+  pub left-next : (at : ℕ) {e : Entry} {es : List Entry} → records-from file at ≡ e ∷ es → Left (cursor-after file es) es
   left-next at {e} {es} q = left-behind (lines-from file at) e es (standing at) q

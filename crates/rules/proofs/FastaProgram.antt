@@ -11,7 +11,7 @@ use lib.Dec.{ltb}
 use lib.ListN.{length}
 use borrow.Author.Tests.{ltb-false, le-ltb}
 use Rattle.rules.specs.Calls.{begin-rule}
-use Rattle.rules.specs.Fasta.{Line, lines-from, header?, Entry, up-to-header, entries, letters-of, records, check19, check-line, check-lines, check4-file, lines-checks, lines-rule}
+use Rattle.rules.specs.Fasta.{Line, lines-from, header?, Entry, up-to-header, entries, letters-of, records, check19, check-line, check-lines, check4-file, lines-checks, lines-for, lines-rule}
 use Rattle.rules.specs.FastaRefused.{FirstNoLetter, letter-lines, LinesRefuses, too-long, text-first, bad-letter, input-of}
 use Rattle.rules.specs.Letters.{value}
 use Rattle.rules.specs.Limits.{Fasta-BYTES, Text-BYTES, Text-QUORUM-DIGITS}
@@ -106,7 +106,7 @@ module _ (file : List ℕ) where
       go (refused n p) e = absurd (h n p (order-says n p e))
 
   lines-printed : first (lines-checks file) ≡ fine → lines-rule file ≡ each with-end (map letters-of (records file))
-  unfolding lines-rule
+  unfolding lines-rule lines-for
   lines-printed e = rw e (sym (each-map with-end letters-of (records file)))
 
 -- no 10 is among letters

@@ -6,7 +6,7 @@ use mathlib.Core.List.{List, [], _∷_, List·Memᴰ, List·Memᴰ·head}
 use Prim.Native.Nat.{ℕ, _-_}
 use lib.ListN.{length, take, drop}
 use Rattle.rules.specs.Calls.{on-refusal}
-use Rattle.rules.specs.Fasta.{Line, lines-from, Entry, entries, name-of, name-start, name-end, size-of, check19, check20, check4-file, next-checks, reader-checks, stays, hands-out, reader-rule}
+use Rattle.rules.specs.Fasta.{Line, lines-from, Entry, name-of, name-start, name-end, size-of, records-from, check19, check20, check4-file, next-checks, reader-checks, stays, hands-out, reader-rule}
 use Rattle.rules.specs.FastaRefused.{TextBefore, NoRoom, FirstNoLetter, RefusesNext, text-before, no-room, no-letter}
 use Rattle.rules.specs.Refusals.{_else_, first}
 use Rattle.rules.specs.Refused.{RefusesAt, RefusesIf}
@@ -20,14 +20,14 @@ pub record FastaRefused : Type 0 where
   -- a line's text is the part of the file from the line's offset on
   pub in-file : (file : List ℕ) (at : ℕ) (l : Line) → List·Memᴰ l (lines-from file at) → l .text ≡ take (length (l .text)) (drop (l .at) file)
   -- and a record's name the part between its two offsets
-  pub named : (file : List ℕ) (at : ℕ) (e : Entry) → List·Memᴰ e (entries (lines-from file at)) → take (name-end e - name-start e) (drop (name-start e) file) ≡ name-of e
+  pub named : (file : List ℕ) (at : ℕ) (e : Entry) → List·Memᴰ e (records-from file at) → take (name-end e - name-start e) (drop (name-start e) file) ≡ name-of e
   -- 19: a line that is not empty before the first record
   pub nineteen : (file : List ℕ) (at : ℕ) → RefusesIf (check19 (lines-from file at)) 19 (TextBefore file at)
   -- 20: no room for the next record
   pub twenty : (letters : List ℕ) (used : ℕ) (lengths : List ℕ) (count : ℕ) (e : Entry)
       → RefusesIf (check20 letters used lengths count e) 20 (NoRoom letters used lengths count (size-of e))
   -- 4: a byte of its lines that is no letter, with the offset of the first in the file
-  pub four : (file : List ℕ) (at : ℕ) (e : Entry) → List·Memᴰ e (entries (lines-from file at)) → RefusesAt (check4-file e) 4 (FirstNoLetter file (e .lines))
+  pub four : (file : List ℕ) (at : ℕ) (e : Entry) → List·Memᴰ e (records-from file at) → RefusesAt (check4-file e) 4 (FirstNoLetter file (e .lines))
   -- a call refuses in this order, and nothing else
   pub in-order : (file : List ℕ) (at : ℕ) (letters : List ℕ) (used : ℕ) (lengths : List ℕ) (count n p : ℕ)
       → ((reader-rule file at letters used lengths count) .told ≡ refuses n p) ↔ RefusesNext file at letters used lengths count n p
@@ -47,7 +47,7 @@ no-reason v n p At r e h = never n p (sym (r n p .1 (refl, h)) ∙ e)
 pub reader-refuses : (file : List ℕ) (at : ℕ) (letters : List ℕ) (used : ℕ) (lengths : List ℕ) (count n p : ℕ)
     → ((reader-rule file at letters used lengths count) .told ≡ refuses n p) ↔ (first (reader-checks file at letters used lengths count) ≡ refused n p)
 unfolding reader-rule
-reader-refuses file at letters used lengths count n p = go (first (reader-checks file at letters used lengths count)) (entries (lines-from file at))
+reader-refuses file at letters used lengths count n p = go (first (reader-checks file at letters used lengths count)) (records-from file at)
   where
     go : (v : Verdict) (es : List Entry) → ((on-refusal v (λ n p. stays file at letters used lengths count (refuses n p)) (hands-out file at letters used lengths count es)) .told ≡ refuses n p) ↔ (v ≡ refused n p)
     go fine [] = (λ e. cc, λ e. cc)
@@ -63,31 +63,31 @@ says-20 : (letters : List ℕ) (used : ℕ) (lengths : List ℕ) (count : ℕ) (
 unfolding check20
 says-20 letters used lengths count e = refuses-if _ 20 (room-says letters used lengths count (size-of e))
 
-says-4 : (file : List ℕ) (at : ℕ) (e : Entry) → List·Memᴰ e (entries (lines-from file at)) → RefusesAt (check4-file e) 4 (FirstNoLetter file (e .lines))
+says-4 : (file : List ℕ) (at : ℕ) (e : Entry) → List·Memᴰ e (records-from file at) → RefusesAt (check4-file e) 4 (FirstNoLetter file (e .lines))
 unfolding check4-file
 says-4 file at e m = lines-say file _ (e .lines) (record-laid file at m .others)
 
 module _ (file : List ℕ) (at : ℕ) (letters : List ℕ) (used : ℕ) (lengths : List ℕ) (count : ℕ) where
   -- the next record is among those that are left
-  next-in : (e : Entry) (es : List Entry) → entries (lines-from file at) ≡ e ∷ es → List·Memᴰ e (entries (lines-from file at))
+  next-in : (e : Entry) (es : List Entry) → records-from file at ≡ e ∷ es → List·Memᴰ e (records-from file at)
   next-in e es q = rw q (List·Memᴰ·head refl)
 
   -- from what the checks tell to the sentence, check by check
   order-says : (n p : ℕ) → first (reader-checks file at letters used lengths count) ≡ refused n p → RefusesNext file at letters used lengths count n p
   unfolding reader-checks first _else_
-  order-says n p f = go-19 (check19 (lines-from file at)) refl (entries (lines-from file at)) refl f
+  order-says n p f = go-19 (check19 (lines-from file at)) refl (records-from file at) refl f
     where
-      go-4 : (e : Entry) (es : List Entry) → entries (lines-from file at) ≡ e ∷ es → (TextBefore file at → ⊥) → (NoRoom letters used lengths count (size-of e) → ⊥)
+      go-4 : (e : Entry) (es : List Entry) → records-from file at ≡ e ∷ es → (TextBefore file at → ⊥) → (NoRoom letters used lengths count (size-of e) → ⊥)
           → (v : Verdict) → check4-file e ≡ v → v else fine ≡ refused n p → RefusesNext file at letters used lengths count n p
       go-4 e es q free room fine c f = never n p (sym f)
       go-4 e es q free room (refused m i) c f = let r = says-4 file at e (next-in e es q) n p .0 (c ∙ f) in no-letter (r .0) e (free, es, q) room (r .1)
 
-      go-20 : (e : Entry) (es : List Entry) → entries (lines-from file at) ≡ e ∷ es → (TextBefore file at → ⊥)
+      go-20 : (e : Entry) (es : List Entry) → records-from file at ≡ e ∷ es → (TextBefore file at → ⊥)
           → (v : Verdict) → check20 letters used lengths count e ≡ v → v else check4-file e else fine ≡ refused n p → RefusesNext file at letters used lengths count n p
       go-20 e es q free fine c f = go-4 e es q free (λ h. no-reason _ 20 0 _ (says-20 letters used lengths count e) c (refl, h)) (check4-file e) refl f
       go-20 e es q free (refused m i) c f = let r = says-20 letters used lengths count e n p .0 (c ∙ f) in no-room (r .0) (r .1 .0) e (free, es, q) (r .1 .1)
 
-      go-19 : (v : Verdict) → check19 (lines-from file at) ≡ v → (es : List Entry) → entries (lines-from file at) ≡ es → v else first (next-checks letters used lengths count es) ≡ refused n p
+      go-19 : (v : Verdict) → check19 (lines-from file at) ≡ v → (es : List Entry) → records-from file at ≡ es → v else first (next-checks letters used lengths count es) ≡ refused n p
           → RefusesNext file at letters used lengths count n p
       go-19 fine c [] q f = never n p (sym f)
       go-19 fine c (e ∷ es) q f = go-20 e es q (λ h. no-reason _ 19 0 _ (says-19 file at) c (refl, h)) (check20 letters used lengths count e) refl f

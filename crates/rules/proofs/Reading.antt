@@ -10,7 +10,7 @@ use native.Mathlib.Numerals.{add-one}
 use native.Mathlib.Omega.{arith}
 use lib.ListN.{length, take, length-append, length-map}
 use Rattle.rules.specs.Calls.{on-refusal}
-use Rattle.rules.specs.Fasta.{lines-from, Entry, entries, letters-of, size-of, records, text-first?, check19, reader-checks, next-checks, ReaderRule, stays, hands-out, reader-rule, cursor-after, Held, at-first, call, after, HandsOut, no-call, one-more, handing}
+use Rattle.rules.specs.Fasta.{lines-from, Entry, letters-of, size-of, records-from, records, text-first?, check19, next-checks, reader-checks, ReaderRule, handing, cursor-after, stays, hands-out, reader-rule, Held, at-first, call, after, HandsOut, no-call, one-more}
 use Rattle.rules.specs.FastaRead.{ReadToEnd, ReadWhole, Readable}
 use Rattle.rules.specs.Letters.{value}
 use Rattle.rules.specs.Limits.{Fasta-LENGTH}
@@ -58,7 +58,7 @@ module _ (file : List ℕ) where
     checks = reader-checks file (h .at) (h .letters) (h .used) (h .lengths) (h .count)
 
     gave : {x : Handing} → (call file h) .told ≡ gives x
-        → (first checks ≡ fine) × (call file h ≡ hands-out file (h .at) (h .letters) (h .used) (h .lengths) (h .count) (entries (lines-from file (h .at))))
+        → (first checks ≡ fine) × (call file h ≡ hands-out file (h .at) (h .letters) (h .used) (h .lengths) (h .count) (records-from file (h .at)))
     unfolding reader-rule
     gave {x} e = unrefused _ _ _ x (λ n p. refl) e
 
@@ -77,9 +77,9 @@ module _ (file : List ℕ) where
     -- a call that finds none, or hands one out
     found-none : (call file h) .told ≡ gives no-entry → Left file (h .at) []
     unfolding reader-checks
-    found-none e = let g = gave e in go (entries (lines-from file (h .at))) refl (g .0) (ap (λ r. r .told) (sym (g .1)) ∙ e)
+    found-none e = let g = gave e in go (records-from file (h .at)) refl (g .0) (ap (λ r. r .told) (sym (g .1)) ∙ e)
       where
-        go : (es : List Entry) → entries (lines-from file (h .at)) ≡ es → first (check19 (lines-from file (h .at)) ∷ next-checks (h .letters) (h .used) (h .lengths) (h .count) es) ≡ fine
+        go : (es : List Entry) → records-from file (h .at) ≡ es → first (check19 (lines-from file (h .at)) ∷ next-checks (h .letters) (h .used) (h .lengths) (h .count) es) ≡ fine
             → (hands-out file (h .at) (h .letters) (h .used) (h .lengths) (h .count) es) .told ≡ gives no-entry → Left file (h .at) []
         go [] q f t = record { records = q; no-text = none-fine (lines-from file (h .at)) .0 f }
         go (x ∷ es) q f t = let z : _≡_ {A = ℕ} 0 1 = cc in absurd (omega arith)
@@ -87,9 +87,9 @@ module _ (file : List ℕ) where
     found-next : {start end size : ℕ} → (call file h) .told ≡ gives (entry start end size)
         → (e : Entry) × (es : List Entry) × Left file (h .at) (e ∷ es) × Fit h e × (handing e ≡ entry start end size)
     unfolding reader-checks
-    found-next {start} {end} {size} e = let g = gave e in go (entries (lines-from file (h .at))) refl (g .0) (ap (λ r. r .told) (sym (g .1)) ∙ e)
+    found-next {start} {end} {size} e = let g = gave e in go (records-from file (h .at)) refl (g .0) (ap (λ r. r .told) (sym (g .1)) ∙ e)
       where
-        go : (es : List Entry) → entries (lines-from file (h .at)) ≡ es → first (check19 (lines-from file (h .at)) ∷ next-checks (h .letters) (h .used) (h .lengths) (h .count) es) ≡ fine
+        go : (es : List Entry) → records-from file (h .at) ≡ es → first (check19 (lines-from file (h .at)) ∷ next-checks (h .letters) (h .used) (h .lengths) (h .count) es) ≡ fine
             → (hands-out file (h .at) (h .letters) (h .used) (h .lengths) (h .count) es) .told ≡ gives (entry start end size)
             → (e : Entry) × (es : List Entry) × Left file (h .at) (e ∷ es) × Fit h e × (handing e ≡ entry start end size)
         go [] q f t = let z : _≡_ {A = ℕ} 0 1 = cc in absurd (omega arith)
@@ -153,7 +153,7 @@ module _ (file : List ℕ) where
 
   -- what is left behind a record runs from what is then held; the record is a call more in front
   run-behind : (h k : Held) (x : Entry) (es : List Entry) (xs : List Handing) {g : Held} → Left file (h .at) (x ∷ es) → Fit h x → g ≡ moved-on h x es
-      → (g .used ≤ length (g .letters) → g .count ≤ length (g .lengths) → Run g (entries (lines-from file (g .at))) xs k) → Run h (entries (lines-from file (h .at))) (handing x ∷ xs) k
+      → (g .used ≤ length (g .letters) → g .count ≤ length (g .lengths) → Run g (records-from file (g .at)) xs k) → Run h (records-from file (h .at)) (handing x ∷ xs) k
   run-behind h k x es xs l f a r =
       let m : h .count + length (size-of x ∷ []) ≤ length (h .lengths) = omega (arith, f .0 .row) in
       let s = (rw a at r) (omega (arith, f .0 .ends, put-at-long (h .used) (letters-of x) (h .letters) (f .0 .ends))) (omega (arith, put-at-long (h .count) (size-of x ∷ []) (h .lengths) m)) in
@@ -161,7 +161,7 @@ module _ (file : List ℕ) where
 
   -- calls until one finds no record are over all that are left
   run-of : {h k : Held} {xs : List Handing} → HandsOut file h xs k → (call file k) .told ≡ gives no-entry → h .used ≤ length (h .letters) → h .count ≤ length (h .lengths)
-      → Run h (entries (lines-from file (h .at))) xs k
+      → Run h (records-from file (h .at)) xs k
   unfolding each
   run-of (no-call {h}) e u c =
       let l = found-none h e in
@@ -181,8 +181,8 @@ module _ (file : List ℕ) where
     where
       go : ((x : Entry) × (es : List Entry) × Left file (h .at) (x ∷ es) × Fit h x × (handing x ≡ entry start end size))
           → ((after file h size) .used ≤ length ((after file h size) .letters) → (after file h size) .count ≤ length ((after file h size) .lengths)
-          → Run (after file h size) (entries (lines-from file ((after file h size) .at))) xs k)
-          → Run h (entries (lines-from file (h .at))) (entry start end size ∷ xs) k
+          → Run (after file h size) (records-from file ((after file h size) .at)) xs k)
+          → Run h (records-from file (h .at)) (entry start end size ∷ xs) k
       go (x, es, l, f, s) r =
           let n : size ≡ size-of x = cc in
           let a : after file h size ≡ moved-on h x es = ap (after file h) n ∙ after-next h x es l f in

@@ -94,9 +94,13 @@ letters-of e = texts (e .lines)
 abbrev pub size-of : Entry → ℕ
 size-of e = length (letters-of e)
 
+-- the records from an offset on
+abbrev pub records-from : List ℕ → ℕ → List Entry
+records-from file at = entries (lines-from file at)
+
 -- WHAT A FILE HOLDS: its records, in file order
 unfoldable pub records : List ℕ → List Entry
-records file = entries (lines-from file 0)
+records file = records-from file 0
 
 -- WHAT IS REFUSED. 19: a line that is not empty before the first record
 abbrev pub text-first? : List Line → Bool
@@ -131,7 +135,7 @@ next-checks letters used lengths count (e ∷ es) = check20 letters used lengths
 
 unfoldable pub reader-checks : List ℕ → ℕ → List ℕ → ℕ → List ℕ → ℕ → List Verdict
 reader-checks file at letters used lengths count =
-    check19 (lines-from file at) ∷ next-checks letters used lengths count (entries (lines-from file at))
+    check19 (lines-from file at) ∷ next-checks letters used lengths count (records-from file at)
 
 -- what it tells, where it stands then, and what the buffer of letters and the lengths table hold then
 pub record ReaderRule : Type 0 where
@@ -139,6 +143,10 @@ pub record ReaderRule : Type 0 where
   pub at : ℕ
   pub letters : List ℕ
   pub lengths : List ℕ
+
+-- what is handed out of a record: its name by its offsets, and how many letters it has
+abbrev pub handing : Entry → Handing
+handing e = entry (name-start e) (name-end e) (size-of e)
 
 -- after a record the reader stands at the > of the next, or at the file's end
 abbrev pub cursor-after : List ℕ → List Entry → ℕ
@@ -156,7 +164,7 @@ module _ (file : List ℕ) (at : ℕ) (letters : List ℕ) (used : ℕ) (lengths
   hands-out [] = stays (gives no-entry)
   hands-out (e ∷ es) =
       record {
-        told = gives (entry (name-start e) (name-end e) (size-of e));
+        told = gives (handing e);
         at = cursor-after file es;
         letters = put-at used (letters-of e) letters;
         lengths = put-at count (size-of e ∷ []) lengths;
@@ -167,7 +175,7 @@ module _ (file : List ℕ) (at : ℕ) (letters : List ℕ) (used : ℕ) (lengths
   reader-rule =
       on-refusal (first (reader-checks file at letters used lengths count))
       (λ n p. stays (refuses n p))
-      (hands-out (entries (lines-from file at)))
+      (hands-out (records-from file at))
 
 -- ONE CALL AFTER ANOTHER. What a caller holds between two: the cursor, how much of the buffer and of the table is used, and both
 pub record Held : Type 0 where
@@ -195,14 +203,14 @@ pub data HandsOut (file : List ℕ) : Held → List Handing → Held → Type 0 
   one-more : {h k : Held} {start end size : ℕ} {xs : List Handing} → (call file h) .told ≡ gives (entry start end size)
       → HandsOut file (after file h size) xs k → HandsOut file h (entry start end size ∷ xs) k
 
--- what is handed out of a record
-abbrev pub handing : Entry → Handing
-handing e = entry (name-start e) (name-end e) (size-of e)
-
 -- THE PROGRAM `lines`: one sequence a line. It refuses a file that it cannot hold, then what the reader refuses
 unfoldable pub lines-checks : List ℕ → List Verdict
 lines-checks file = refuse-if (ltb Fasta-BYTES (length file)) 20 ∷ check19 (lines-from file 0) ∷ map check4-file (records file)
 
+-- some records, a line for each
+unfoldable pub lines-for : List Entry → List ℕ
+lines-for es = each (λ e. with-end (letters-of e)) es
+
 -- ITS RULE: all that it prints for a file
 unfoldable pub lines-rule : List ℕ → List ℕ
-lines-rule file = on-refusal (first (lines-checks file)) print-refused (each (λ e. with-end (letters-of e)) (records file))
+lines-rule file = on-refusal (first (lines-checks file)) print-refused (lines-for (records file))

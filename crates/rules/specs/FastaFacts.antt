@@ -5,7 +5,7 @@ use mathlib.Core.Path.{_≡_, refl}
 use Prim.Native.Nat.{ℕ}
 use lib.ListN.{replicate}
 use Rattle.rules.specs.Facts.{Fact, is}
-use Rattle.rules.specs.Fasta.{without-return, lines-of, lines-from, header?, Entry, up-to-header, entries, up-to-blank, name-of, texts, letters-of, size-of, records, check19, check20, check-lines, check4-file, reader-checks, ReaderRule, reader-rule, Held, at-first, call, after, lines-checks, lines-rule}
+use Rattle.rules.specs.Fasta.{without-return, lines-of, lines-from, header?, Entry, up-to-header, entries, up-to-blank, name-of, texts, letters-of, size-of, records, check19, check20, check-lines, check4-file, reader-checks, ReaderRule, reader-rule, Held, at-first, call, after, lines-checks, lines-for, lines-rule}
 use Rattle.rules.specs.Letters.{value, letter?}
 use Rattle.rules.specs.Lists.{each, keep, some?, put, put-at}
 use Rattle.rules.specs.Refusals.{_else_, first, first-bad, check1}
@@ -24,11 +24,11 @@ with-returns =
     ∷ []
 
 -- a record written again: its name on one line, its letters on the next
-written : Entry → List ℕ
-written e = 62 ∷ name-of e ++ 10 ∷ letters-of e ++ 10 ∷ []
+again : Entry → List ℕ
+again e = 62 ∷ name-of e ++ 10 ∷ letters-of e ++ 10 ∷ []
 
-all-written : List ℕ → List ℕ
-all-written f = each written (records f)
+all-again : List ℕ → List ℕ
+all-again f = each again (records f)
 
 -- what is told, as numbers: a record's name by its offsets and its letters by their number, a refusal by its number and place
 told : Told Handing → List ℕ
@@ -60,19 +60,19 @@ held-2 = after file held-1 0
 facts : List Fact
 facts =
     -- its records: p1 with ACGTA, p2 with none
-    is (all-written file) (62 ∷ 112 ∷ 49 ∷ 10 ∷ 65 ∷ 67 ∷ 71 ∷ 84 ∷ 65 ∷ 10 ∷ 62 ∷ 112 ∷ 50 ∷ 10 ∷ 10 ∷ [])
+    is (all-again file) (62 ∷ 112 ∷ 49 ∷ 10 ∷ 65 ∷ 67 ∷ 71 ∷ 84 ∷ 65 ∷ 10 ∷ 62 ∷ 112 ∷ 50 ∷ 10 ∷ 10 ∷ [])
     -- 13 before 10 is no byte of a line, and empty lines are skipped: the same records
-    ∷ is (all-written with-returns) (all-written file)
+    ∷ is (all-again with-returns) (all-again file)
     -- a file of empty lines, or of nothing, has no record
-    ∷ is (all-written (10 ∷ 13 ∷ 10 ∷ 10 ∷ [])) []
-    ∷ is (all-written []) []
+    ∷ is (all-again (10 ∷ 13 ∷ 10 ∷ 10 ∷ [])) []
+    ∷ is (all-again []) []
     -- and the search over it is refused with 1
     ∷ is (refused-with (check1 (map size-of (records (10 ∷ []))))) (1 ∷ 0 ∷ [])
     -- > inside a line begins no record: it is a byte of a name, or of the letter lines
-    ∷ is (all-written (62 ∷ 97 ∷ 62 ∷ 10 ∷ 67 ∷ 62 ∷ 71 ∷ 10 ∷ [])) (62 ∷ 97 ∷ 62 ∷ 10 ∷ 67 ∷ 62 ∷ 71 ∷ 10 ∷ [])
+    ∷ is (all-again (62 ∷ 97 ∷ 62 ∷ 10 ∷ 67 ∷ 62 ∷ 71 ∷ 10 ∷ [])) (62 ∷ 97 ∷ 62 ∷ 10 ∷ 67 ∷ 62 ∷ 71 ∷ 10 ∷ [])
     -- a tab ends a name as a space does; a name may be empty
-    ∷ is (all-written (62 ∷ 97 ∷ 9 ∷ 98 ∷ 32 ∷ 99 ∷ 10 ∷ 65 ∷ [])) (62 ∷ 97 ∷ 10 ∷ 65 ∷ 10 ∷ [])
-    ∷ is (all-written (62 ∷ 32 ∷ 98 ∷ 10 ∷ 65 ∷ [])) (62 ∷ 10 ∷ 65 ∷ 10 ∷ [])
+    ∷ is (all-again (62 ∷ 97 ∷ 9 ∷ 98 ∷ 32 ∷ 99 ∷ 10 ∷ 65 ∷ [])) (62 ∷ 97 ∷ 10 ∷ 65 ∷ 10 ∷ [])
+    ∷ is (all-again (62 ∷ 32 ∷ 98 ∷ 10 ∷ 65 ∷ [])) (62 ∷ 10 ∷ 65 ∷ 10 ∷ [])
     -- the first call: the name at 1 to 3, 5 letters, the cursor at the next >, the letters and their number written
     ∷ is (first-call 6 3 file) (1 ∷ 3 ∷ 5 ∷ 20 ∷ 65 ∷ 67 ∷ 71 ∷ 84 ∷ 65 ∷ 9 ∷ 5 ∷ 8 ∷ 8 ∷ [])
     -- the second: a record of no letters, and the cursor at the file's end; then there is none, and all stays
@@ -97,5 +97,5 @@ facts =
     ∷ []
 
 the-facts : map (λ f. f .computed) facts ≡ map (λ f. f .paper) facts
-unfolding facts file with-returns written all-written told refused-with all-told first-call held-1 held-2 without-return lines-of lines-from header? up-to-header entries up-to-blank name-of texts letters-of records check19 check20 check-lines check4-file reader-checks reader-rule lines-checks lines-rule value letter? each keep some? put put-at _else_ first first-bad check1 pieces digits-of decimal print-refused
+unfolding facts file with-returns again all-again told refused-with all-told first-call held-1 held-2 without-return lines-of lines-from header? up-to-header entries up-to-blank name-of texts letters-of records check19 check20 check-lines check4-file reader-checks reader-rule lines-checks lines-for lines-rule value letter? each keep some? put put-at _else_ first first-bad check1 pieces digits-of decimal print-refused
 the-facts = refl

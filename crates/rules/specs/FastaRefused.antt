@@ -6,7 +6,7 @@ use mathlib.Core.List.{List, _∷_, _++_, List·Memᴰ}
 use mathlib.Core.Path.{_≡_}
 use Prim.Native.Nat.{ℕ, _+_, _≤_, _<_}
 use lib.ListN.{length, getD}
-use Rattle.rules.specs.Fasta.{Line, lines-from, Entry, entries, size-of, records}
+use Rattle.rules.specs.Fasta.{Line, lines-from, Entry, size-of, records-from, records}
 use Rattle.rules.specs.Limits.{Fasta-BYTES, Fasta-LENGTH}
 use Rattle.rules.specs.Lists.{each}
 use Rattle.rules.specs.Refused.{IsLetter}
@@ -35,7 +35,7 @@ pub record FirstNoLetter (file : List ℕ) (ls : List Line) (p : ℕ) : Type 0 w
 -- THE ORDER of what a call refuses: 19; then, of the next record, 20; then 4. 19 and 20 tell place 0. e is the next record, and no text
 -- stands before it
 abbrev pub NextIs : List ℕ → ℕ → Entry → Type 0
-NextIs file at e = (TextBefore file at → ⊥) × (es : List Entry) × (entries (lines-from file at) ≡ e ∷ es)
+NextIs file at e = (TextBefore file at → ⊥) × (es : List Entry) × (records-from file at ≡ e ∷ es)
 
 pub data RefusesNext (file : List ℕ) (at : ℕ) (letters : List ℕ) (used : ℕ) (lengths : List ℕ) (count n p : ℕ) : Type 0 where
   text-before : n ≡ 19 → p ≡ 0 → TextBefore file at → RefusesNext file at letters used lengths count n p

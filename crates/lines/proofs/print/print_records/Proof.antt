@@ -4,7 +4,8 @@ use borrow.Author.Needs.{needs}
 use mathlib.Core.Path.{_≡_, refl, subst}
 use native.Mathlib.Omega.{arith}
 use lib.ListN.{length}
-use Rattle.lines.specs.Printing.{left, Here, Turned}
+use Rattle.rules.specs.Fasta.{records-from}
+use Rattle.lines.specs.Printing.{Here, Turned}
 use Rattle.lines.proofs.Turns.{at-first, all-printed, refused-printed}
 use Rattle.lines.proofs.print.print_records.Statement.{statement}
 use Rattle.lines.proofs.print.print_records.Tie as tie
@@ -13,7 +14,7 @@ abbrev Inv-loop : tie.InvT-loop
 Inv-loop file out₀ used₀ at₀ out used at = (length out ≡ length out₀) × Here file out used at
 
 abbrev μ-loop : tie.MeasureT-loop
-μ-loop file out₀ used₀ at₀ out used at = length (left file at)
+μ-loop file out₀ used₀ at₀ out used at = length (records-from file at)
 
 loop-holds : tie.Need-loop-holds Inv-loop μ-loop
 loop-holds c = (refl, at-first _ _ (c .before .before .pre .0))
