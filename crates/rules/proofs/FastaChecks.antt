@@ -20,7 +20,7 @@ use Rattle.rules.proofs.Tests.{neither, not-false}
 use Rattle.rules.proofs.Verdicts.{first-cons, refuse-if-fine, bad-cons}
 
 -- 19: the first line is a header
-pub check19-fine : (ls : List Line) → (check19 ls ≡ fine) ↔ (text-first? ls ≡ false)
+check19-fine : (ls : List Line) → (check19 ls ≡ fine) ↔ (text-first? ls ≡ false)
 unfolding check19
 check19-fine ls = refuse-if-fine (text-first? ls) 19
 
@@ -42,7 +42,7 @@ module _ (letters : List ℕ) (used : ℕ) (lengths : List ℕ) (count : ℕ) wh
     ),
   )
 
-  pub check20-fine : (e : Entry) → (check20 letters used lengths count e ≡ fine) ↔ Room letters used lengths count (size-of e)
+  check20-fine : (e : Entry) → (check20 letters used lengths count e ≡ fine) ↔ Room letters used lengths count (size-of e)
   unfolding check20
   check20-fine e = Iff·trans (refuse-if-fine (no-room? (length letters) used (length lengths) count (size-of e)) 20) (fits-says (size-of e))
 

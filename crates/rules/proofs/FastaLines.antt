@@ -22,7 +22,7 @@ pieces-next b l p q ps e =
     (pieces-are b _ q ps .1 (record { whole = refl; none = λ r m. c .none r (List·Memᴰ·tail m) }))
 
 -- each of some lines is the first of those from its own offset on
-abbrev pub Standing : List ℕ → List Line → Type 0
+abbrev Standing : List ℕ → List Line → Type 0
 Standing file [] = Unit {0}
 Standing file (l ∷ ls) = (lines-from file (l .at) ≡ l ∷ ls) × Standing file ls
 
@@ -45,12 +45,12 @@ module _ (file : List ℕ) where
       let q : pieces 10 (drop (o + length text + 1) file) ≡ next ∷ rest = rw (drop-drop, n) at (pieces-next 10 (drop o file) text next rest e) in
       standing-more o (without-return text) (lines-of (o + length text + 1) (next ∷ rest)) (ap (λ ps. keep text? (lines-of o ps)) e) (lines-standing (o + length text + 1) (next ∷ rest) q)
 
-  pub standing : (at : ℕ) → Standing file (lines-from file at)
+  standing : (at : ℕ) → Standing file (lines-from file at)
   unfolding lines-from
   standing at = lines-standing at (pieces 10 (drop at file)) refl
 
   -- there is no line from the file's end on
-  pub no-lines : lines-from file (length file) ≡ []
+  no-lines : lines-from file (length file) ≡ []
   unfolding lines-from pieces lines-of keep some?
   no-lines = rw (drop-length file)
 

@@ -3,24 +3,19 @@
 use mathlib.Core.Path.{_≡_, refl, sym, _∙_}
 use mathlib.Core.Logic.{_↔_, Iff·trans}
 use mathlib.Core.List.{List, [], _∷_, List·Memᴰ, List·Memᴰ·head}
-use Prim.Native.Nat.{ℕ, _-_}
-use lib.ListN.{length, take, drop}
+use Prim.Native.Nat.{ℕ}
 use Rattle.rules.specs.Calls.{on-refusal}
-use Rattle.rules.specs.Fasta.{Line, lines-from, Entry, name-of, name-start, name-end, size-of, records-from, check19, check20, check4-file, next-checks, reader-checks, stays, hands-out, reader-rule}
+use Rattle.rules.specs.Fasta.{lines-from, Entry, size-of, records-from, check19, check20, check4-file, next-checks, reader-checks, stays, hands-out, reader-rule}
 use Rattle.rules.specs.FastaRefused.{TextBefore, NoRoom, FirstNoLetter, RefusesNext, text-before, no-room, no-letter}
 use Rattle.rules.specs.Refusals.{_else_, first}
 use Rattle.rules.specs.Refused.{RefusesAt, RefusesIf}
 use Rattle.rules.specs.Told.{Verdict, fine, refused, refuses}
-use Rattle.rules.proofs.FastaBytes.{name-part, text-says, room-says, lines-say}
-use Rattle.rules.proofs.FastaLaid.{laid, laid-line, record-laid}
+use Rattle.rules.proofs.FastaBytes.{text-says, room-says, lines-say}
+use Rattle.rules.proofs.FastaLaid.{record-laid}
 use Rattle.rules.proofs.Refused.{refuses-if}
 use Rattle.rules.proofs.Verdicts.{never}
 
 pub record FastaRefused : Type 0 where
-  -- a line's text is the part of the file from the line's offset on
-  pub in-file : (file : List ℕ) (at : ℕ) (l : Line) → List·Memᴰ l (lines-from file at) → l .text ≡ take (length (l .text)) (drop (l .at) file)
-  -- and a record's name the part between its two offsets
-  pub named : (file : List ℕ) (at : ℕ) (e : Entry) → List·Memᴰ e (records-from file at) → take (name-end e - name-start e) (drop (name-start e) file) ≡ name-of e
   -- 19: a line that is not empty before the first record
   pub nineteen : (file : List ℕ) (at : ℕ) → RefusesIf (check19 (lines-from file at)) 19 (TextBefore file at)
   -- 20: no room for the next record
@@ -104,8 +99,6 @@ module _ (file : List ℕ) (at : ℕ) (letters : List ℕ) (used : ℕ) (lengths
 pub fasta-refused : FastaRefused
 fasta-refused =
     record {
-      in-file = λ file at l m. laid-line file at (lines-from file at) (laid file at) m .1;
-      named = name-part;
       nineteen = says-19;
       twenty = says-20;
       four = says-4;
