@@ -1,5 +1,6 @@
--- A file is longer than its records: their letters are parts of it that do not overlap, and each has a > besides. So a buffer as long
--- as the file, and a table with as many rows, are always room enough.
+-- A file is longer than its records: their letters are parts of it that do not overlap, and each has a > besides. So the
+-- letters of all records and a row for each are no more than the file's bytes, and a buffer and a table as long as the file have room
+-- for every record that a row can count.
 use mathlib.Core.Path.{_≡_, refl, ap, _∙_}
 use mathlib.Core.Bool.{Bool, true, false}
 use mathlib.Core.List.{List, [], _∷_, _++_}

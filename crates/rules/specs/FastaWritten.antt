@@ -47,7 +47,8 @@ pub record ProperRecord (r : WrittenRecord) : Type 0 where
   pub blank-rest : (r .rest ≡ []) ⊎ (getD (r .rest) 0 0 ≡ 32) ⊎ (getD (r .rest) 0 0 ≡ 9)
   pub no-mark : (text : List ℕ) → List·Memᴰ text (r .parts) → getD text 0 0 ≡ 62 → ⊥
 
--- a file is empty lines, and then records one after another; an empty line behind a record is one of its own
+-- a file is empty lines, and then records one after another; an empty line behind a record is one of its own. The empty text behind a
+-- last byte 10 counts too: as one of the last record's lines, or, in a file without a record, as one of the empty lines
 pub record InWrittenRecords (file : List ℕ) (rs : List WrittenRecord) : Type 0 where
   pub lines : List WrittenLine
   pub last : List ℕ
