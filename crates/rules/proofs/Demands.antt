@@ -45,7 +45,7 @@ use Rattle.rules.proofs.LowFirst.{Bytes}
 use Rattle.rules.proofs.OccurrenceOrder.{rows-in-order}
 use Rattle.rules.proofs.Occurs.{parts-worded, parts-some, rows-are}
 use Rattle.rules.proofs.Prefix.{size-some}
-use Rattle.rules.proofs.Reading.{handed-stays, none-stays, read-whole, reads}
+use Rattle.rules.proofs.Reading.{handed-stays, none-stays, read-whole, read-none, reads}
 use Rattle.rules.proofs.Refused.{EachRefusal, each-refusal}
 use Rattle.rules.proofs.Relayed.{leg-between}
 use Rattle.rules.proofs.Searches.{list-rises, list-holds}
@@ -162,14 +162,18 @@ pub record Demand2 : Type 0 where
       → let rows = page t (sequences letters lengths) m f (length out) in
       (c .rows ≡ length rows) × (c .length ≡ length (whole-list t (sequences letters lengths) m)) × ((recover-rule letters lengths t m f out) .out ≡ put (joined rows) out)
   -- a FASTA file holds the lines and the records that it was written from; every file is written from lines, and from records if no
-  -- text stands before the first
+  -- text stands before the first; and a line's text and a record's name are the parts of it that their offsets tell
   pub fasta-holds : FastaWritten
   -- a FASTA file read to its end hands out its records in file order, and the sequences that a search is then lent are their letters:
   -- so all this, and demand 3, reads of the records
   pub fasta : (file letters lengths : List ℕ) (xs : List Handing) (k : Held) → ReadToEnd file letters lengths xs k → ReadWhole file letters lengths xs k
+  -- a file without a record gives none, and the search over what was read is then refused with 1
+  pub fasta-none : (file letters lengths : List ℕ) (xs : List Handing) (k : Held) → ReadToEnd file letters lengths xs k → records file ≡ [] → (t : Template) (quorum : ℕ)
+      → begin-rule (take (k .used) (k .letters)) (take (k .count) (k .lengths)) t quorum ≡ refuses 1 0
   -- and it can be read so exactly if no text stands before its first record, there is room, and the records' lines hold letters alone
   pub fasta-reads : (file letters lengths : List ℕ) → Readable file letters lengths ↔ ((xs : List Handing) × (k : Held) × ReadToEnd file letters lengths xs k)
-  -- a buffer and a table as long as the file are always room enough
+  -- the letters of all records and a row for each are no more than the file's bytes, so a buffer and a table as long as the file have
+  -- room for every record that a row can count
   pub fasta-room : (file : List ℕ) → length (each letters-of (records file)) + length (records file) ≤ length file
   -- the program `lines` prints the records' letters, one sequence a line, for the printing program to search
   pub fasta-lines : FastaProgram
@@ -257,6 +261,7 @@ demand2 =
       recovery = λ letters lengths t m f out c e. let r = written-gives (first (recover-checks letters lengths t m f)) _ c _ out e in (ap (λ c. c .rows) (r .1), ap (λ c. c .length) (r .1), r .2);
       fasta-holds = fasta-written;
       fasta = read-whole;
+      fasta-none = read-none;
       fasta-reads = reads;
       fasta-room = records-fit;
       fasta-lines = fasta-program;

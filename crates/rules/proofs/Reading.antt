@@ -9,16 +9,17 @@ use Prim.Native.Nat.{ℕ, suc, _+_, _≤_}
 use native.Mathlib.Numerals.{add-one}
 use native.Mathlib.Omega.{arith}
 use lib.ListN.{length, take, length-append, length-map}
-use Rattle.rules.specs.Calls.{on-refusal}
+use Rattle.rules.specs.Calls.{begin-rule, on-refusal}
 use Rattle.rules.specs.Fasta.{lines-from, Entry, letters-of, size-of, records-from, records, text-first?, check19, next-checks, reader-checks, ReaderRule, handing, cursor-after, stays, hands-out, reader-rule, Held, at-first, call, after, HandsOut, no-call, one-more}
 use Rattle.rules.specs.FastaRead.{ReadToEnd, ReadWhole, Readable}
 use Rattle.rules.specs.Letters.{value}
 use Rattle.rules.specs.Limits.{Fasta-LENGTH}
 use Rattle.rules.specs.Lists.{each, put-at, sum}
-use Rattle.rules.specs.Refusals.{first}
+use Rattle.rules.specs.Refusals.{_else_, first, check1, new-checks}
 use Rattle.rules.specs.Refused.{StaysOutside}
 use Rattle.rules.specs.Sequences.{split, sequences}
 use Rattle.rules.specs.Told.{Verdict, fine, refused, gives, refuses, Handing, entry, no-entry}
+use Rattle.rules.specs.declared.Template.{Template}
 use Rattle.rules.proofs.All.{no-member, members}
 use Rattle.rules.proofs.FastaBytes.{text-says}
 use Rattle.rules.proofs.FastaChecks.{Room, AllLetters, none-fine, next-fine}
@@ -242,6 +243,12 @@ module _ (file letters lengths : List ℕ) where
         buffer-stays = rw (r .buffer) (put-stays (k .used) (each letters-of es) letters (omega (arith, r .room)) (omega (arith, u)));
         table-stays = rw (r .table) (put-stays (k .count) (map size-of es) lengths (omega (arith, r .rows, length-map es size-of)) (omega (arith, c)));
       }
+
+  -- a file without a record gives none: no row is used, so a search over them is refused
+  pub read-none : (xs : List Handing) (k : Held) → ReadToEnd file letters lengths xs k → records file ≡ [] → (t : Template) (quorum : ℕ)
+      → begin-rule (take (k .used) (k .letters)) (take (k .count) (k .lengths)) t quorum ≡ refuses 1 0
+  unfolding begin-rule new-checks check1 first _else_
+  read-none xs k e n t quorum = let b : take (k .count) (k .lengths) ≡ [] = read-whole xs k e .sizes ∙ ap (map size-of) n in rw b
 
   -- exactly the readable files can be read so
   pub reads : Readable file letters lengths ↔ ((xs : List Handing) × (k : Held) × ReadToEnd file letters lengths xs k)
