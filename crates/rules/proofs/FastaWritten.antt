@@ -1,7 +1,7 @@
--- WHAT A FASTA FILE IS MADE OF: files as they are written (specs/FastaWritten.antt) are read back, every file is written so, and what
--- is read of one are parts of it. The statements stand in front,
--- the proofs behind them. Of the texts of a file's lines those that begin with > begin the records, and no others do; so the texts
--- from one such to the next are a record's, and joining what it was cut into gives its letters.
+-- WHAT A FASTA FILE IS MADE OF: files as they are written (specs/FastaWritten.antt) are read back, every file is written so, and lines
+-- and names are parts of it. The statements stand in front, the proofs behind them. Of the texts of a file's lines those that begin
+-- with > begin the records, and no others do; so the texts from one such to the next are a record's, and joining what it was cut into
+-- gives its letters.
 use mathlib.Core.Path.{_≡_, refl, sym, ap, _∙_}
 use mathlib.Core.Logic.{_↔_, _⊎_, inl, inr}
 use mathlib.Core.Bool.{Bool, true, false}
