@@ -24,7 +24,7 @@ module _ (file : List ℕ) (at : ℕ) (letters : List ℕ) (used : ℕ) (lengths
   entry-fits : (e : Entry) → check20 letters used lengths count e ≡ fine → (used + size-of e ≤ length letters) × (count < length lengths)
   unfolding check20
   entry-fits e q =
-      let h = refuse-if-fine (no-room? letters used lengths count (size-of e)) 20 .0 q in
+      let h = refuse-if-fine (no-room? (length letters) used (length lengths) count (size-of e)) 20 .0 q in
       let k = neither (ltb (length letters) (used + size-of e) || leb (length lengths) count) (ltb Fasta-LENGTH (size-of e)) .0 h in
       let l = neither (ltb (length letters) (used + size-of e)) (leb (length lengths) count) .0 (k .0) in
       (ltb-false _ _ (l .0), leb-false _ _ (l .1))

@@ -120,7 +120,7 @@ module _ (letters : List ℕ) (used : ℕ) (lengths : List ℕ) (count : ℕ) wh
   next-numbered : (es : List Entry) → AllNumbered (next-checks letters used lengths count es)
   unfolding check20 check4-file check-lines
   next-numbered [] = tt
-  next-numbered (e ∷ es) = (if-numbered (no-room? letters used lengths count (size-of e)) 20 0 (omega arith), (all-numbered _ (lines-numbered (e .lines)), tt))
+  next-numbered (e ∷ es) = (if-numbered (no-room? (length letters) used (length lengths) count (size-of e)) 20 0 (omega arith), (all-numbered _ (lines-numbered (e .lines)), tt))
 
   reader-numbered : (file : List ℕ) (at : ℕ) → AllNumbered (reader-checks file at letters used lengths count)
   unfolding reader-checks check19
