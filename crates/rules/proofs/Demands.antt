@@ -103,7 +103,7 @@ pub record Demand1 : Type 0 where
   pub reader : (file : List ℕ) (at : ℕ) (letters : List ℕ) (used : ℕ) (lengths : List ℕ) (count n p : ℕ)
       → ((reader-rule file at letters used lengths count) .told ≡ refuses n p) ↔ (first (reader-checks file at letters used lengths count) ≡ refused n p)
   pub reader-leaves : (file : List ℕ) (at : ℕ) (letters : List ℕ) (used : ℕ) (lengths : List ℕ) (count n p : ℕ)
-      → first (reader-checks file at letters used lengths count) ≡ refused n p → reader-rule file at letters used lengths count ≡ stays file at letters used lengths count (refuses n p)
+      → first (reader-checks file at letters used lengths count) ≡ refused n p → reader-rule file at letters used lengths count ≡ record { told = refuses n p; at = at; letters = letters; lengths = lengths }
   -- where the reader finds no record all stays too, and where it hands one out all but that record's letters and its row
   pub reader-none : (file : List ℕ) (h : Held) → (call file h) .told ≡ gives no-entry → call file h ≡ stays file (h .at) (h .letters) (h .used) (h .lengths) (h .count) (gives no-entry)
   pub reader-stays : (file : List ℕ) (h : Held) {start end size : ℕ} → (call file h) .told ≡ gives (entry start end size)
