@@ -58,6 +58,15 @@ begin() {
     status=0
 }
 
+# Runs a command where no file may grow beyond a few KiB, not even the one that it prints to.
+in_little_room() { # COMMAND..
+    (
+        trap '' XFSZ
+        ulimit -f 8
+        "$@" >"$work/out" 2>"$work/err"
+    ) || status=$?
+}
+
 # Runs a command, and keeps what it prints and how it ends.
 try() {
     timeout 100 "$@" >"$work/out" 2>"$work/err" || status=$?

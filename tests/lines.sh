@@ -104,11 +104,7 @@ not_any() {
 }
 
 begin "no room for what is kept"
-(
-    trap '' XFSZ
-    ulimit -f 8
-    timeout 100 ./run lines "$work/long.fa" >"$work/out" 2>"$work/err"
-) || status=$?
+in_little_room timeout 100 ./run lines "$work/long.fa"
 not_any
 
 begin "standard output closed"

@@ -21,11 +21,7 @@ stopped
 
 begin "standard output on a file that may not grow"
 bare <"$work/long" >"$work/long.out"
-(
-    trap '' XFSZ
-    ulimit -f 8
-    bare <"$work/long" >"$work/out" 2>"$work/err"
-) || status=$?
+in_little_room bare <"$work/long"
 stopped
 printed_rows_of "$work/long.out"
 

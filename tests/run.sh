@@ -38,11 +38,7 @@ for input in short bad slow; do
 done
 
 begin "standard output on a file that may not grow"
-(
-    trap '' XFSZ
-    ulimit -f 8
-    timeout 100 ./run motifs "$work/long" >"$work/out" 2>"$work/err"
-) || status=$?
+in_little_room timeout 100 ./run motifs "$work/long"
 not_whole
 printed_rows_of "$work/long.out"
 
