@@ -15,7 +15,7 @@ ghost use Rattle.checks.specs.Orders.{template-checks, value-checks-befo
 ghost use Rattle.rules.specs.Letters.{letter?, value};
 ghost use Rattle.rules.specs.Limits.{Letter-BASES, Template-LENGTH};
 ghost use Rattle.rules.specs.Lists.{if, all?, run};
-ghost use Rattle.rules.specs.Refusals.{_else_, first, first-bad, bad-byte, outside, bad-gap, check1, check2, check3, check4, check5, check6, check7, check8, check9, check11-place, check12, set-checks, new-checks};
+ghost use Rattle.rules.specs.Refusals.{_else_, first, first-bad, bad-byte, outside, bad-gap, check1, check2, check3, check4, check5, check6, check7, check8, check9, check12, check23, set-checks, new-checks};
 ghost use Rattle.rules.specs.Saved.{place-rule?};
 ghost use Rattle.rules.specs.Told.{fine, refused, toldChecked};
 use rules::Checked;
@@ -23,6 +23,7 @@ use rules::Component;
 use rules::Letter;
 use rules::Offset;
 use rules::Place;
+use rules::RecordNumber;
 use rules::Refusal;
 use rules::Search;
 use rules::SequenceSet;
@@ -205,11 +206,16 @@ pub fn place_rule(t: Template, p: Place) -> bool
     (j <= t.letters()) & spelled_by(p.number, j)
 }
 
-// 11, of a search: a place that breaks its rule.
+// 23: a place that breaks its rule. Its record comes after the size record and those of the components.
 pub fn check_place(s: Search) -> Checked
-    ensures { λ r. ⌜ toldChecked r ≡ check11-place s ⌝ }
+    ensures { λ r. ⌜ toldChecked r ≡ check23 s ⌝ }
 {
-    Checked::refuse_if(!place_rule(s.template, s.place), Refusal::SavedLayout)
+    let t = s.template;
+    let at = t.count as u32 + 1;
+    Checked::refuse_if(
+        !place_rule(t, s.place),
+        Refusal::PlaceRule(RecordNumber(at)),
+    )
 }
 
 // 12: a search over other sequences than the lent ones.
@@ -266,7 +272,7 @@ pub fn check_new(letters: &[u8], lengths: &[u32], t: Template, quorum: u64) -> C
         .then(check_quorum(lengths, quorum))
 }
 
-// 5, 11, 6, 7, 8, 12, 9: those of a search value, before 13.
+// 5, 23, 6, 7, 8, 12, 9: those of a search value, before 13.
 pub fn check_value(letters: &[u8], lengths: &[u32], s: Search) -> Checked
     ensures { λ r. ⌜ toldChecked r ≡ first (value-checks-before-13 (now (letters .entry)) (now (lengths .entry)) s) ⌝ }
 {

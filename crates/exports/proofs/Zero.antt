@@ -15,8 +15,8 @@ use Rattle.rules.specs.Join.{rising?}
 use Rattle.rules.specs.Limits.{Template-COMPONENTS, Template-LENGTH, SequenceSet-SEQUENCES, SequenceSet-LETTERS}
 use Rattle.rules.specs.Lists.{if, sum}
 use Rattle.rules.specs.Recovery.{whole-list}
-use Rattle.rules.specs.Refusals.{_else_, first, first-bad, outside, bad-range, passes?, check1, check2, check3, check4, check5, check6, check7, check8, check9, check10, check11, check11-place, check12, check13, check14, check15, check6-head, check8-range, check16, check17, set-checks, new-checks, restore-checks, value-checks, search-checks, save-checks, recover-checks, join-checks}
-use Rattle.rules.specs.Saved.{bytes, sized?, laid-out?, place-rule?, read-search}
+use Rattle.rules.specs.Refusals.{_else_, first, first-bad, outside, bad-range, passes?, check1, check2, check3, check4, check5, check6, check7, check8, check9, check10, check11, check12, check13, check14, check15, check6-head, check8-range, check16, check17, check21, check22, check23, set-checks, new-checks, restore-checks, value-checks, search-checks, save-checks, recover-checks, join-checks}
+use Rattle.rules.specs.Saved.{bytes, sized?, sums?, place-rule?, read-search}
 use Rattle.rules.specs.Sequences.{sequences}
 use Rattle.rules.specs.Template.{size}
 use Rattle.rules.specs.Told.{Verdict, fine, refused, refuses}
@@ -82,23 +82,23 @@ module _ (letters lengths : List ℕ) where
       both-numbered (set-checks letters lengths) (check5 t ∷ check6 t ∷ check7 t ∷ check8 t ∷ check9 lengths quorum ∷ []) (set-numbered letters lengths) (h .0, (h .1 .0, (h .1 .1 .0, (h .1 .1 .1, (if-numbered (outside 1 (length lengths) quorum) 9 0 (omega arith), tt)))))
 
   value-numbered : (s : Search) → AllNumbered (value-checks letters lengths s)
-  unfolding check9 check12 check13
+  unfolding check9 check12 check13 check23
   value-numbered s =
       let h = template-numbered (s .template) in
-      (h .1 .0, (h .1 .1 .0, (h .1 .1 .1, (if-numbered (not (eqb (s .set .sequences) (length lengths) && eqb (s .set .letters) (length letters))) 12 0 (omega arith), (if-numbered (outside 1 (length lengths) (s .quorum)) 9 0 (omega arith), (if-numbered (not (passes? letters lengths s)) 13 0 (omega arith), tt))))))
+      (if-numbered (not (place-rule? (s .template) (s .place))) 23 _ (omega arith), (h .1 .0, (h .1 .1 .0, (h .1 .1 .1, (if-numbered (not (eqb (s .set .sequences) (length lengths) && eqb (s .set .letters) (length letters))) 12 0 (omega arith), (if-numbered (outside 1 (length lengths) (s .quorum)) 9 0 (omega arith), (if-numbered (not (passes? letters lengths s)) 13 0 (omega arith), tt)))))))
 
   restore-numbered : (bs : List ℕ) → AllNumbered (restore-checks letters lengths bs)
-  unfolding restore-checks check10 check11
+  unfolding restore-checks check10 check11 check21 check22
   restore-numbered bs =
       let s = read-search bs in
-      both-numbered (set-checks letters lengths) (check10 bs ∷ check5 (s .template) ∷ check11 bs ∷ value-checks letters lengths s) (set-numbered letters lengths)
-      (if-numbered (not (sized? bs)) 10 0 (omega arith), (template-numbered (s .template) .0, (if-numbered (not (laid-out? bs)) 11 0 (omega arith), value-numbered s)))
+      both-numbered (set-checks letters lengths) (check10 bs ∷ check5 (s .template) ∷ check11 bs ∷ check21 bs ∷ check22 bs ∷ value-checks letters lengths s) (set-numbered letters lengths)
+      (if-numbered (not (sized? bs)) 10 0 (omega arith), (template-numbered (s .template) .0, (bad-numbered 11 _ 0 _ (omega arith), (bad-numbered 21 _ 0 _ (omega arith), (if-numbered (not (sums? bs)) 22 0 (omega arith), value-numbered s)))))
 
   save-numbered : (s : Search) (out : List ℕ) → AllNumbered (save-checks letters lengths s out)
-  unfolding save-checks search-checks check11-place
+  unfolding save-checks search-checks
   save-numbered s out =
       both-numbered (search-checks letters lengths s) (check17 (length (bytes s)) out ∷ [])
-      (both-numbered (set-checks letters lengths) (check5 (s .template) ∷ check11-place s ∷ value-checks letters lengths s) (set-numbered letters lengths) (template-numbered (s .template) .0, (if-numbered (not (place-rule? (s .template) (s .place))) 11 0 (omega arith), value-numbered s)))
+      (both-numbered (set-checks letters lengths) (check5 (s .template) ∷ value-checks letters lengths s) (set-numbered letters lengths) (template-numbered (s .template) .0, value-numbered s))
       (room-numbered _ out, tt)
 
   recover-numbered : (t : Template) (m f : ℕ) → AllNumbered (recover-checks letters lengths t m f)

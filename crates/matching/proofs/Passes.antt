@@ -26,7 +26,7 @@ before A d o = if (leb d o) (A (o - d)) false
 
 flagged-at : (A : ℕ → Bool) (n o : ℕ) → o < n → getD (flagged A n) o 0 ≡ bit (A o)
 unfolding flagged
-flagged-at A n o h = getD-map-run (λ i. bit (A i)) 0 n o h ∙ ap (λ (i : ℕ). bit (A i)) (zero-add o)
+flagged-at A n o h = getD-map-run (λ i. bit (A i)) 0 0 n o h ∙ ap (λ (i : ℕ). bit (A i)) (zero-add o)
 
 length-flagged : (A : ℕ → Bool) (n : ℕ) → length (flagged A n) ≡ n
 unfolding flagged

@@ -10,7 +10,7 @@ use Rattle.rules.specs.Saved.{place-rule?}
 use Rattle.rules.specs.Sound.{SoundSet, SoundTemplate}
 use Rattle.rules.specs.Told.{Verdict, fine, refused}
 use Rattle.rules.specs.declared.Search.{Search}
-use Rattle.rules.proofs.EachCheck.{check11-place-fine}
+use Rattle.rules.proofs.EachCheck.{check23-fine}
 use Rattle.rules.proofs.Sound.{set-sound, template-sound}
 use Rattle.rules.proofs.Verdicts.{else-assoc, else-fine, else-both, none-of, all-fine}
 
@@ -60,4 +60,4 @@ module _ (letters lengths : List ℕ) (s : Search) where
         template-sound t (all-fine (check5 t ∷ check6 t ∷ check7 t ∷ check8 t ∷ []) (c 0, (c 2, (c 3, (c 4, tt)))))
 
     pub rule-is : place-rule? (s .template) (s .place) ≡ true
-    rule-is = check11-place-fine s .0 (none-of (value-checks-before-13 letters lengths s) fine-value 1)
+    rule-is = check23-fine s .0 (none-of (value-checks-before-13 letters lengths s) fine-value 1)

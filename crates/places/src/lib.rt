@@ -62,7 +62,7 @@ pub fn check_passes(
     Checked::refuse_if(!through, Refusal::NotACandidate)
 }
 
-// 1 to 4, 5, 11, 6, 7, 8, 12, 9, 13: what a leg or a save checks of its search. The two tables are for the work, each with room
+// 1 to 4, 5, 23, 6, 7, 8, 12, 9, 13: what a leg or a save checks of its search. The two tables are for the work, each with room
 // for the most letters that there may be.
 pub fn check_search(
     letters: &[u8],

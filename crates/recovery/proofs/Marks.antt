@@ -59,7 +59,7 @@ counts-sum cs s e = ap sum e ∙ sym (occurrences-count cs s)
 -- at each position of the sequence
 counts-at : (cs : List Part) (s : List ℕ) (p : ℕ) → 1 ≤ p → p ≤ length s → getD (counts cs s) (p - 1) 0 ≡ length (starts cs s p)
 unfolding counts
-counts-at cs s p some inside = let e : 1 + (p - 1) ≡ p = omega arith in getD-map-run (ways cs s) 1 (length s) (p - 1) (omega arith) ∙ ap (ways cs s) e ∙ ways-count cs s p
+counts-at cs s p some inside = let e : 1 + (p - 1) ≡ p = omega arith in getD-map-run (ways cs s) 0 1 (length s) (p - 1) (omega arith) ∙ ap (ways cs s) e ∙ ways-count cs s p
 
 sign-at : (l : List ℕ) (i : ℕ) → getD (map sign l) i 0 ≡ sign (getD l i 0)
 unfolding sign

@@ -61,7 +61,7 @@ pub record Demand1 : Type 0 where
   -- of a call's checks, in their order, the first that applies is told, all before it being fine; so a call is refused only if one
   -- of its checks applies
   pub first-applies : (vs : List Verdict) (n p : ℕ) → (first vs ≡ refused n p) ↔ FirstOf vs n p
-  -- and each of 1 to 17 applies exactly if the paper's sentence holds, and tells the place that the paper names
+  -- and each of 1 to 17 and 21 to 23 applies exactly if its sentence, the paper's or request 2's, holds, and tells the place that it names
   pub each : EachRefusal
   -- 18 is the printing program's: it comes before all others, exactly if a line of its input is bad, and tells the lowest that is
   pub text : TextRefused

@@ -1,22 +1,23 @@
 -- What each check says, by its number: a check is fine exactly if its sentence holds of the numbers. Each is a test that
 -- refuses, or a search for the first bad one of a list.
-use mathlib.Core.Path.{_≡_, refl}
+use mathlib.Core.Path.{_≡_, refl, ap, _∙_}
 use mathlib.Core.Logic.{_↔_, Iff·rfl, Iff·trans}
 use mathlib.Core.Bool.{Bool, true, false, _&&_, not}
-use mathlib.Core.List.{List}
+use mathlib.Core.List.{List, []}
 use Prim.Native.Nat.{ℕ, zero, suc, _+_, _≤_, _<_}
+use native.Mathlib.Nat.{zero-add, add-zero}
 use native.Mathlib.Omega.{arith}
 use lib.Dec.{ltb, eqb}
 use lib.ListN.{length, getD}
 use borrow.Author.Tests.{ltb-false, le-ltb, eqb-true, eq-eqb, ne-eqb}
 use Rattle.rules.specs.Join.{rising?}
 use Rattle.rules.specs.Letters.{letter?}
-use Rattle.rules.specs.Limits.{Template-COMPONENTS, Template-LENGTH, Template-GAP, SequenceSet-SEQUENCES, SequenceSet-LETTERS}
+use Rattle.rules.specs.Limits.{Record-EXTRA, Template-COMPONENTS, Template-LENGTH, Template-GAP, SequenceSet-SEQUENCES, SequenceSet-LETTERS}
 use Rattle.rules.specs.Lists.{sum}
 use Rattle.rules.specs.Profile.{profile-of}
 use Rattle.rules.specs.Recovery.{whole-list}
-use Rattle.rules.specs.Refusals.{refuse-if, bad-byte, bad-length, bad-range, bad-gap, check1, check2, check3, check4, check5, check6, check7, check8, check9, check10, check11, check11-place, check12, passes?, check13, check14, check15, check6-head, check8-range, check16, check17}
-use Rattle.rules.specs.Saved.{sized?, laid-out?, place-rule?}
+use Rattle.rules.specs.Refusals.{refuse-if, bad-byte, bad-length, bad-range, bad-gap, check1, check2, check3, check4, check5, check6, check7, check8, check9, check10, check11, check12, passes?, check13, check14, check15, check6-head, check8-range, check16, check17, check21, check22, check23, first-bad}
+use Rattle.rules.specs.Saved.{sized?, record-at, component-count, saved-records, kind?, unnamed-blank?, sums?, place-rule?}
 use Rattle.rules.specs.Sequences.{sequences}
 use Rattle.rules.specs.Support.{valid}
 use Rattle.rules.specs.Template.{slots, none, components, size}
@@ -24,6 +25,7 @@ use Rattle.rules.specs.Told.{fine}
 use Rattle.rules.specs.declared.Component.{Component}
 use Rattle.rules.specs.declared.Search.{Search}
 use Rattle.rules.specs.declared.Template.{Template}
+use Rattle.rules.proofs.Over.{length-map-run, getD-map-run}
 use Rattle.rules.proofs.Tests.{neither, both, not-false, two}
 use Rattle.rules.proofs.Verdicts.{inside, refuse-if-fine, refuse-at-fine, none-bad, all-good, none-bad-in, all-good-in}
 
@@ -115,14 +117,43 @@ pub check10-fine : (bs : List ℕ) → (check10 bs ≡ fine) ↔ (sized? bs ≡ 
 unfolding check10
 check10-fine bs = wants _ 10 Iff·rfl
 
--- 11: they keep their layout; or, of a search, the place keeps its rule
-pub check11-fine : (bs : List ℕ) → (check11 bs ≡ fine) ↔ (laid-out? bs ≡ true)
-unfolding check11
-check11-fine bs = wants _ 11 Iff·rfl
+-- the records of saved bytes, by their numbers: there are so many, and record i is one of them
+pub records-counted : (bs : List ℕ) → length (saved-records bs) ≡ component-count bs + Record-EXTRA
+unfolding saved-records
+records-counted bs = length-map-run (record-at bs) 0 _
 
-pub check11-place-fine : (s : Search) → (check11-place s ≡ fine) ↔ (place-rule? (s .template) (s .place) ≡ true)
-unfolding check11-place
-check11-place-fine s = wants _ 11 Iff·rfl
+pub record-numbered : (bs : List ℕ) (i : ℕ) → i < component-count bs + Record-EXTRA → getD (saved-records bs) i [] ≡ record-at bs i
+unfolding saved-records
+record-numbered bs i h = getD-map-run (record-at bs) [] 0 _ i h ∙ ap (record-at bs) (zero-add i)
+
+-- no record is bad exactly if each passes its test
+each-record : (n : ℕ) (test : ℕ → List ℕ → Bool) (bs : List ℕ)
+    → (first-bad n (λ i r. not (test i r)) 0 (saved-records bs) ≡ fine) ↔ ((i : ℕ) → i < component-count bs + Record-EXTRA → test i (record-at bs i) ≡ true)
+each-record n test bs = (
+  λ e i h. not-false (test i (record-at bs i)) .0 (rw (add-zero i, record-numbered bs i h) at (none-bad n (λ i r. not (test i r)) [] 0 (saved-records bs) e i (rw (records-counted bs) h))),
+  λ f. all-good n (λ i r. not (test i r)) [] 0 (saved-records bs) (λ i h. let l : i < component-count bs + Record-EXTRA = rw (records-counted bs) at h in
+      rw (add-zero i, record-numbered bs i l) (not-false (test i (record-at bs i)) .1 (f i l))),
+)
+
+-- 11: each record has its kind, and a component's its number
+pub check11-fine : (bs : List ℕ) → (check11 bs ≡ fine) ↔ ((i : ℕ) → i < component-count bs + Record-EXTRA → kind? (component-count bs) i (record-at bs i) ≡ true)
+unfolding check11
+check11-fine bs = each-record 11 (kind? (component-count bs)) bs
+
+-- 21: and 0 in the bytes that the paper does not name
+pub check21-fine : (bs : List ℕ) → (check21 bs ≡ fine) ↔ ((i : ℕ) → i < component-count bs + Record-EXTRA → unnamed-blank? (component-count bs) i (record-at bs i) ≡ true)
+unfolding check21
+check21-fine bs = each-record 21 (unnamed-blank? (component-count bs)) bs
+
+-- 22: K is the sum of the lengths
+pub check22-fine : (bs : List ℕ) → (check22 bs ≡ fine) ↔ (sums? bs ≡ true)
+unfolding check22
+check22-fine bs = wants _ 22 Iff·rfl
+
+-- 23: the place keeps its rule
+pub check23-fine : (s : Search) → (check23 s ≡ fine) ↔ (place-rule? (s .template) (s .place) ≡ true)
+unfolding check23
+check23-fine s = Iff·trans (refuse-at-fine _ 23 _) (not-false _)
 
 -- 12: the search is over as many sequences and letters as are lent
 pub check12-fine : (letters lengths : List ℕ) (s : Search) → (check12 letters lengths s ≡ fine) ↔ ((s .set .sequences ≡ length lengths) × (s .set .letters ≡ length letters))

@@ -1,29 +1,30 @@
--- What 11 says of saved bytes, byte by byte: a byte is a field of one byte, blank bytes are zeros one by one, and the records of
--- the components are tested one after the other.
+-- What 11 and 21 to 23 say of saved bytes, byte by byte: a byte is a field of one byte, blank bytes are zeros one by one, and the
+-- records are tested one after the other.
 use mathlib.Core.Path.{_≡_, refl, sym, ap, _∙_}
-use mathlib.Core.Logic.{_↔_, Iff·trans, _⊎_, inl, inr}
-use mathlib.Core.Bool.{true, false, _&&_}
+use mathlib.Core.Logic.{_↔_, Iff·trans, Iff·rfl, _⊎_, inl, inr, ⊎-elim}
+use mathlib.Core.Bool.{Bool, true, false, _&&_, false≢true}
 use mathlib.Core.List.{List, [], _∷_, map}
 use Prim.Native.Nat.{ℕ, zero, suc, _+_, _-_, _*_, _≤_, _<_}
-use native.Mathlib.Nat.{add-zero, eq-or-lt-of-le}
+use native.Mathlib.Nat.{add-zero}
 use native.Mathlib.Omega.{arith}
 use lib.Dec.{eqb}
 use lib.ListN.{getD, take, drop}
 use lib.Seq.{getD-drop, drop-drop}
 use borrow.Author.Tests.{leb-true, ltb-true, le-leb, lt-ltb}
-use Rattle.rules.specs.Limits.{Record-SIZE, Record-COMPONENT, Record-PLACE, Template-COMPONENTS}
+use Rattle.rules.specs.Limits.{Record-EXTRA, Record-SIZE, Record-COMPONENT, Record-PLACE, Template-COMPONENTS}
 use Rattle.rules.specs.Lists.{all?, run, sum}
 use Rattle.rules.specs.Profile.{profile-of, exactly}
-use Rattle.rules.specs.Refused.{byte, Blank, SizeLaid, ComponentLaid, PlaceLaid, RecordsLaid, saved-size, saved-lengths, saved-place, PlaceRule}
-use Rattle.rules.specs.Saved.{read-low, record-at, field, component-count, read-component, read-place, read-template, read-search, blank?, size-record?, component-record?, place-record?, component-records?, place-rule?, laid-out?}
+use Rattle.rules.specs.Refused.{byte, Blank, NotZero, OfRecord, WrongKind, NotBlank, SizeLaid, ComponentLaid, PlaceLaid, RecordsLaid, saved-size, saved-lengths, saved-place, PlaceRule}
+use Rattle.rules.specs.Saved.{read-low, record-at, field, component-count, read-component, read-place, read-template, read-search, blank?, size-kind?, component-kind?, place-kind?, size-blank?, component-blank?, place-blank?, size-record?, component-record?, place-record?, component-records?, sums?, place-rule?, laid-out?, by-record, kind?, unnamed-blank?}
 use Rattle.rules.specs.Template.{size}
 use Rattle.rules.specs.Walk.{place}
 use Rattle.rules.specs.declared.Place.{Place}
 use Rattle.rules.specs.declared.Template.{Template}
 use Rattle.rules.proofs.EachCheck.{same}
 use Rattle.rules.proofs.Exact.{exact-place}
+use Rattle.rules.proofs.LaidOut.{at-component, at-place, which-record, components-each}
 use Rattle.rules.proofs.Rewritten.{read-components}
-use Rattle.rules.proofs.Tests.{both, two, denied, of-three-fails}
+use Rattle.rules.proofs.Tests.{both, two, denied, one-fails}
 
 -- ---- fields and blanks
 
@@ -56,6 +57,20 @@ blank-says bs i k n to e = (
   λ f. all-zero n (drop k (record-at bs i)) .1 (λ j h. getD-drop k (record-at bs i) j 0 ∙ f (k + j) (omega arith) (omega arith)),
 )
 
+-- and else one of them is not 0
+some-not-zero : (n : ℕ) (xs : List ℕ) → all? (λ b. eqb b 0) (take n xs) ≡ false → (i : ℕ) × (i < n) × (getD xs i 0 ≡ 0 → ⊥)
+unfolding all?
+some-not-zero zero xs e = absurd (false≢true (sym e))
+some-not-zero (suc n) [] e = absurd (false≢true (sym e))
+some-not-zero (suc n) (x ∷ xs) e = ⊎-elim (λ f. (0, omega arith, f)) (λ q. let r = some-not-zero n xs q in (suc (r .0), omega (arith, r .1), r .2)) (one-fails _ _ (denied _ (same x 0)) Iff·rfl .0 e)
+
+not-blank : (bs : List ℕ) (i k n to : ℕ) → suc to ≡ k + n → (blank? (record-at bs i) k n ≡ false) ↔ NotZero bs i k to
+unfolding blank?
+not-blank bs i k n to e = (
+  λ b. let r = some-not-zero n (drop k (record-at bs i)) b in (k + r .0, omega arith, omega (arith, r .1), λ z. r .2 (getD-drop k (record-at bs i) (r .0) 0 ∙ z)),
+  λ z. denied _ (blank-says bs i k n to e) .1 (λ f. z .3 (f (z .0) (z .1) (z .2))),
+)
+
 -- ---- the records
 
 module _ (bs : List ℕ) where
@@ -65,36 +80,75 @@ module _ (bs : List ℕ) where
 
   -- the size record keeps its layout
   size-says : (size-record? (record-at bs 0) ≡ true) ↔ SizeLaid bs
-  unfolding size-record?
+  unfolding size-record? size-kind? size-blank?
   size-says = Iff·trans (two _ _ (byte-says 0 0 Record-SIZE) (blank-says bs 0 12 4 15 refl)) (λ h. record { kind = h .0; blank = h .1 }, λ h. (h .kind, h .blank))
 
   -- so does record i, a component's
   component-says : (i : ℕ) → (component-record? i (record-at bs i) ≡ true) ↔ ComponentLaid bs i
-  unfolding component-record?
+  unfolding component-record? component-kind? component-blank?
   component-says i =
-      Iff·trans (two _ _ (two _ _ (two _ _ (byte-says i 0 Record-COMPONENT) (byte-says i 1 i)) (blank-says bs i 3 1 3 refl)) (blank-says bs i 8 8 15 refl))
-      (λ h. record { kind = h .0 .0 .0; number = h .0 .0 .1; blank = h .0 .1; rest = h .1 }, λ h. (((h .kind, h .number), h .blank), h .rest))
+      Iff·trans (two _ _ (two _ _ (byte-says i 0 Record-COMPONENT) (byte-says i 1 i)) (two _ _ (blank-says bs i 3 1 3 refl) (blank-says bs i 8 8 15 refl)))
+      (λ h. record { kind = h .0 .0; number = h .0 .1; blank = h .1 .0; rest = h .1 .1 }, λ h. ((h .kind, h .number), (h .blank, h .rest)))
 
   -- and record i, the place's
   place-says : (i : ℕ) → (place-record? (record-at bs i) ≡ true) ↔ PlaceLaid bs i
-  unfolding place-record?
+  unfolding place-record? place-kind? place-blank?
   place-says i = Iff·trans (two _ _ (byte-says i 0 Record-PLACE) (blank-says bs i 2 6 7 refl)) (λ h. record { kind = h .0; blank = h .1 }, λ h. (h .kind, h .blank))
 
-  -- and the n component records from record i on
-  components-say : (i n : ℕ) → (component-records? bs i n ≡ true) ↔ ((j : ℕ) → i ≤ j → j < i + n → ComponentLaid bs j)
-  unfolding component-records?
-  components-say i zero = (λ e j h l. absurd (omega arith), λ f. refl)
-  components-say i (suc n) = Iff·trans (two _ _ (component-says i) (components-say (suc i) n)) (λ h j l. each h j (eq-or-lt-of-le l), λ f. (f i (omega arith) (omega arith), λ j h l. f j (omega arith) (omega arith)))
-    where
-      each : ComponentLaid bs i × ((j : ℕ) → suc i ≤ j → j < suc i + n → ComponentLaid bs j) → (j : ℕ) → (i ≡ j) ⊎ (i < j) → j < i + suc n → ComponentLaid bs j
-      each h j (inl e) l = rw (← e) (h .0)
-      each h j (inr k) l = h .1 j k (omega arith)
+  -- and all the components' records
+  components-say : (component-records? bs 1 (component-count bs) ≡ true) ↔ ((i : ℕ) → 1 ≤ i → i ≤ component-count bs → ComponentLaid bs i)
+  components-say =
+      Iff·trans (components-each bs 1 (component-count bs))
+      (λ h i k l. component-says i .0 (h i k (omega arith)), λ h i k l. component-says i .1 (h i k (omega arith)))
 
   -- each record, by its kind
   records-say : (size-record? (record-at bs 0) && component-records? bs 1 (component-count bs) && place-record? (record-at bs (suc (component-count bs))) ≡ true) ↔ RecordsLaid bs
   records-say =
-      Iff·trans (two _ _ (two _ _ size-says (components-say 1 (component-count bs))) (place-says (suc (component-count bs))))
-      (λ h. record { sizes = h .0 .0; each = λ i k l. h .0 .1 i k (omega arith); places = h .1 }, λ h. ((h .sizes, λ i k l. h .each i k (omega arith)), h .places))
+      Iff·trans (two _ _ (two _ _ size-says components-say) (place-says (suc (component-count bs))))
+      (λ h. record { sizes = h .0 .0; each = h .0 .1; places = h .1 }, λ h. ((h .sizes, h .each), h .places))
+
+-- ---- which record is bad
+
+-- a test of record i fails exactly if what it denies is said of that record
+of-record : {Size Component Place : Type 0} (n i : ℕ) (size component place : Bool) → (size ≡ false) ↔ Size → (component ≡ false) ↔ Component → (place ≡ false) ↔ Place
+    → i < n + Record-EXTRA → (by-record n i size component place ≡ false) ↔ OfRecord n i Size Component Place
+of-record {Size} {Component} {Place} n i size component place s c p h = go (which-record n i h)
+  where
+    go : (i ≡ 0) ⊎ ((1 ≤ i) × (i ≤ n)) ⊎ (i ≡ suc n) → (by-record n i size component place ≡ false) ↔ OfRecord n i Size Component Place
+    go (inl e) = (λ b. inl (e, s .0 (rw e at b)), λ o. rw e (s .1 (at-first o)))
+      where
+        at-first : OfRecord n i Size Component Place → Size
+        at-first (inl x) = x .1
+        at-first (inr (inl x)) = absurd (omega (arith, x .0))
+        at-first (inr (inr x)) = absurd (omega (arith, x .0))
+    go (inr (inl k)) = (λ b. inr (inl (k .0, k .1, c .0 (rw (at-component n i size component place (k .0) (k .1)) at b))), λ o. rw (at-component n i size component place (k .0) (k .1)) (c .1 (among o)))
+      where
+        among : OfRecord n i Size Component Place → Component
+        among (inl x) = absurd (omega (arith, k .0, x .0))
+        among (inr (inl x)) = x .2
+        among (inr (inr x)) = absurd (omega (arith, k .1, x .0))
+    go (inr (inr e)) = (λ b. inr (inr (e, p .0 (rw (e, at-place n size component place) at b))), λ o. rw (e, at-place n size component place) (p .1 (at-last o)))
+      where
+        at-last : OfRecord n i Size Component Place → Place
+        at-last (inl x) = absurd (omega (arith, x .0))
+        at-last (inr (inl x)) = absurd (omega (arith, x .1))
+        at-last (inr (inr x)) = x .1
+
+module _ (bs : List ℕ) (i : ℕ) (h : i < component-count bs + Record-EXTRA) where
+  -- a byte is not x
+  byte-not : (k x : ℕ) → (eqb (field (record-at bs i) k 1) x ≡ false) ↔ (byte bs i k ≡ x → ⊥)
+  byte-not k x = denied _ (byte-says bs i k x)
+
+  -- record i has not its kind, or not its number
+  pub kind-fails : (kind? (component-count bs) i (record-at bs i) ≡ false) ↔ WrongKind bs i
+  unfolding kind? size-kind? component-kind? place-kind?
+  kind-fails = of-record (component-count bs) i _ _ _ (byte-not 0 Record-SIZE) (one-fails _ _ (byte-not 0 Record-COMPONENT) (byte-not 1 i)) (byte-not 0 Record-PLACE) h
+
+  -- or not 0 where it must
+  pub blank-fails : (unnamed-blank? (component-count bs) i (record-at bs i) ≡ false) ↔ NotBlank bs i
+  unfolding unnamed-blank? size-blank? component-blank? place-blank?
+  blank-fails =
+      of-record (component-count bs) i _ _ _ (not-blank bs i 12 4 15 refl) (one-fails _ _ (not-blank bs i 3 1 3 refl) (not-blank bs i 8 8 15 refl)) (not-blank bs i 2 6 7 refl) h
 
 -- ---- the place rule
 
@@ -115,27 +169,25 @@ saved-sum bs few = rw (read-components bs few) (ap sum (lengths (run 1 (componen
     lengths [] = refl
     lengths (i ∷ is) = rw (field-byte (record-at bs i) 2, lengths is)
 
--- so the search that is read has the saved K and stands at the saved place
-pub saved-read : (bs : List ℕ) → component-count bs ≤ Template-COMPONENTS → (size (read-search bs .template) ≡ sum (saved-lengths bs)) × (read-search bs .place ≡ saved-place bs)
-unfolding read-search read-place
-saved-read bs few = (saved-sum bs few, ap (λ j. place j (field (record-at bs (suc (component-count bs))) 8 8)) (field-byte (record-at bs (suc (component-count bs))) 1))
+-- so the search that is read has the saved K, stands at the saved place, and has as many components
+pub saved-read : (bs : List ℕ) → component-count bs ≤ Template-COMPONENTS
+    → (size (read-search bs .template) ≡ sum (saved-lengths bs)) × (read-search bs .place ≡ saved-place bs) × (read-search bs .template .count ≡ component-count bs)
+unfolding read-search read-place read-template
+saved-read bs few = (saved-sum bs few, ap (λ j. place j (field (record-at bs (suc (component-count bs))) 8 8)) (field-byte (record-at bs (suc (component-count bs))) 1), refl)
 
-module _ (bs : List ℕ) (few : component-count bs ≤ Template-COMPONENTS) (exact : profile-of (read-template bs) ≡ exactly) where
+module _ (bs : List ℕ) (few : component-count bs ≤ Template-COMPONENTS) where
   -- K is the sum of the lengths
-  adds-say : (eqb (field (record-at bs 0) 6 2) (size (read-template bs)) ≡ true) ↔ (saved-size bs ≡ sum (saved-lengths bs))
+  pub adds-say : (sums? bs ≡ true) ↔ (saved-size bs ≡ sum (saved-lengths bs))
+  unfolding sums?
   adds-say = rw (field-two (record-at bs 0) 6, saved-sum bs few) (same (saved-size bs) (sum (saved-lengths bs)))
 
-  -- the place keeps its rule
-  rule-says : (place-rule? (read-template bs) (read-place (record-at bs (suc (component-count bs)))) ≡ true) ↔ PlaceRule (sum (saved-lengths bs)) (saved-place bs)
-  unfolding read-place
-  rule-says = rw (← (saved-sum bs few), ← (field-byte (record-at bs (suc (component-count bs))) 1)) (place-rule-says (read-template bs) exact (read-place (record-at bs (suc (component-count bs)))))
+  module _ (exact : profile-of (read-template bs) ≡ exactly) where
+    -- the place keeps its rule
+    rule-says : (place-rule? (read-template bs) (read-place (record-at bs (suc (component-count bs)))) ≡ true) ↔ PlaceRule (sum (saved-lengths bs)) (saved-place bs)
+    unfolding read-place
+    rule-says = rw (← (saved-sum bs few), ← (field-byte (record-at bs (suc (component-count bs))) 1)) (place-rule-says (read-template bs) exact (read-place (record-at bs (suc (component-count bs)))))
 
-  -- bytes are laid out exactly if every record keeps its layout, K is the sum of the lengths, and the place keeps its rule
-  pub laid-says : (laid-out? bs ≡ true) ↔ (RecordsLaid bs × (saved-size bs ≡ sum (saved-lengths bs)) × PlaceRule (sum (saved-lengths bs)) (saved-place bs))
-  unfolding laid-out?
-  laid-says = Iff·trans (two _ _ (two _ _ (records-say bs) adds-say) rule-says) (λ h. (h .0 .0, h .0 .1, h .1), λ h. ((h .0, h .1), h .2))
-
-  -- and else one of these fails
-  pub laid-fails : (laid-out? bs ≡ false) ↔ ((RecordsLaid bs → ⊥) ⊎ ((saved-size bs ≡ sum (saved-lengths bs)) → ⊥) ⊎ (PlaceRule (sum (saved-lengths bs)) (saved-place bs) → ⊥))
-  unfolding laid-out?
-  laid-fails = of-three-fails _ _ _ (denied _ (records-say bs)) (denied _ adds-say) (denied _ rule-says)
+    -- bytes are laid out exactly if every record keeps its layout, K is the sum of the lengths, and the place keeps its rule
+    pub laid-says : (laid-out? bs ≡ true) ↔ (RecordsLaid bs × (saved-size bs ≡ sum (saved-lengths bs)) × PlaceRule (sum (saved-lengths bs)) (saved-place bs))
+    unfolding laid-out?
+    laid-says = Iff·trans (two _ _ (two _ _ (records-say bs) adds-say) rule-says) (λ h. (h .0 .0, h .0 .1, h .1), λ h. ((h .0, h .1), h .2))

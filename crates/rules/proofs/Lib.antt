@@ -53,6 +53,7 @@ pub mod Truncated
 pub mod Saves
 pub mod Places
 pub mod Accepts
+pub mod JoinLists
 pub mod Refused
 pub mod Stays
 pub mod FastaChecks

@@ -24,7 +24,7 @@ use Rattle.rules.specs.declared.LegAnswer.the-variants as answer
 use Rattle.rules.specs.declared.Recovered.{Recovered}
 use Rattle.rules.specs.declared.Recovered.the-variants as recovered
 use Rattle.rules.specs.declared.Refusal.{Refusal}
-use Rattle.rules.specs.declared.Refusal.the-variants.{SequenceCount, LetterCount, LengthSum, NotALetter, ComponentCount, ComponentLength, MotifLength, GapRange, Quorum, SavedSize, SavedLayout, OtherSet, NotACandidate, MotifNumber, FirstRow, JoinList, Room, TextLine}
+use Rattle.rules.specs.declared.Refusal.the-variants.{SequenceCount, LetterCount, LengthSum, NotALetter, ComponentCount, ComponentLength, MotifLength, GapRange, Quorum, SavedSize, SavedKind, OtherSet, NotACandidate, MotifNumber, FirstRow, JoinList, Room, TextLine, SavedBlank, SavedSum, PlaceRule}
 use Rattle.rules.specs.declared.Saved.{Saved}
 use Rattle.rules.specs.declared.Saved.the-variants as saved
 use Rattle.rules.specs.declared.Search.{Search}
@@ -32,7 +32,7 @@ use Rattle.rules.specs.declared.Template.{Template}
 
 -- ---- what is told gives the answer back
 
--- the refusal with a number and a place: the names in the order of their numbers
+-- the refusal with a number and a place: the names in the order of their numbers, where 19 and 20 name none of these
 named : ℕ → ℕ → Refusal
 named n p =
     getD
@@ -46,7 +46,7 @@ named n p =
     ∷ GapRange p
     ∷ Quorum
     ∷ SavedSize
-    ∷ SavedLayout
+    ∷ SavedKind (record { 0 = p })
     ∷ OtherSet
     ∷ NotACandidate
     ∷ MotifNumber
@@ -54,6 +54,11 @@ named n p =
     ∷ JoinList
     ∷ Room
     ∷ TextLine p
+    ∷ Room
+    ∷ Room
+    ∷ SavedBlank (record { 0 = p })
+    ∷ SavedSum
+    ∷ PlaceRule (record { 0 = p })
     ∷ [])
     (n - 1)
     Room
@@ -70,7 +75,7 @@ named-told MotifLength = refl
 named-told (GapRange i) = refl
 named-told Quorum = refl
 named-told SavedSize = refl
-named-told SavedLayout = refl
+named-told (SavedKind i) = refl
 named-told OtherSet = refl
 named-told NotACandidate = refl
 named-told MotifNumber = refl
@@ -78,6 +83,9 @@ named-told FirstRow = refl
 named-told JoinList = refl
 named-told Room = refl
 named-told (TextLine n) = refl
+named-told (SavedBlank i) = refl
+named-told SavedSum = refl
+named-told (PlaceRule i) = refl
 
 -- what an answer tells, back into the answer: it gives something, or it refuses
 abbrev back : {A B : Type 0} → (A → B) → (Refusal → B) → Told A → B

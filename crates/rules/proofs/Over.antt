@@ -17,7 +17,7 @@ map-run f a zero = rw (add-zero a)
 map-run f a (suc n) = rw (map-run f (suc a) n, add-suc a n, suc-add a n)
 
 -- a list made of a run is as long as the run
-pub length-map-run : (f : ℕ → ℕ) (a n : ℕ) → length (map f (run a n)) ≡ n
+pub length-map-run : {A : Type 0} (f : ℕ → A) (a n : ℕ) → length (map f (run a n)) ≡ n
 length-map-run f a n = simp (length-map, length-run)
 
 -- two functions that agree on a run
@@ -39,11 +39,11 @@ map-shift f a zero = refl
 map-shift f a (suc n) = ap (λ (l : List ℕ). f (suc a) ∷ l) (map-shift f (suc a) n)
 
 -- what stands at a place of a run
-pub getD-map-run : (f : ℕ → ℕ) (a n i : ℕ) → i < n → getD (map f (run a n)) i 0 ≡ f (a + i)
+pub getD-map-run : {A : Type 0} (f : ℕ → A) (d : A) (a n i : ℕ) → i < n → getD (map f (run a n)) i d ≡ f (a + i)
 unfolding run
-getD-map-run f a zero i h = absurd (omega arith)
-getD-map-run f a (suc n) zero h = rw add-zero
-getD-map-run f a (suc n) (suc i) h = getD-map-run f (suc a) n i (omega arith) ∙ ap f (omega arith)
+getD-map-run f d a zero i h = absurd (omega arith)
+getD-map-run f d a (suc n) zero h = rw add-zero
+getD-map-run f d a (suc n) (suc i) h = getD-map-run f d (suc a) n i (omega arith) ∙ ap f (omega arith)
 
 module _ (f : ℕ → ℕ) (o : ℕ) (l : List ℕ) where
   -- before the first turn

@@ -2,23 +2,22 @@
 -- the place that the paper names, or 0. The statements stand in front, the proofs behind them: each check is a test, and a test
 -- that applies says what it tests.
 use mathlib.Core.Path.{_≡_, refl, sym, ap, _∙_}
-use mathlib.Core.Logic.{_↔_, Iff·trans, Iff·rfl, _⊎_, inl, inr, ⊎-elim, ⊎-swap}
+use mathlib.Core.Logic.{_↔_, Iff·trans, Iff·symm, _⊎_, inl, inr, ⊎-elim, ⊎-swap}
 use mathlib.Core.Bool.{Bool, true, false, _&&_, not, false≢true}
-use mathlib.Core.List.{List, [], _∷_}
+use mathlib.Core.List.{List, []}
 use Prim.Native.Nat.{ℕ, zero, suc, _+_, _-_, _*_, _/_, _^_, _≤_, _<_}
 use native.Mathlib.Omega.{arith}
 use lib.Dec.{eqb, leb, ltb}
 use lib.ListN.{length, getD}
 use borrow.Author.Tests.{ltb-true, ltb-false, leb-true, leb-false, lt-ltb, le-ltb, lt-leb, le-leb}
-use Rattle.rules.specs.Join.{rising?}
 use Rattle.rules.specs.Letters.{value, letter?}
 use Rattle.rules.specs.Limits.{Letter-BASES, Record-BYTES, Record-EXTRA, Template-COMPONENTS, Template-LENGTH, Template-LETTERS, Template-GAP, SequenceSet-SEQUENCES, SequenceSet-LETTERS}
 use Rattle.rules.specs.Lists.{if, sum}
 use Rattle.rules.specs.Profile.{exactly, profile-of}
 use Rattle.rules.specs.Recovery.{whole-list}
-use Rattle.rules.specs.Refusals.{refuse-if, outside, bad-byte, bad-length, bad-range, bad-gap, check1, check2, check3, check4, check5, check6, check7, check8, check9, check10, check11, check11-place, check12, passes?, check13, check14, check15, check6-head, check8-range, check16, check17}
-use Rattle.rules.specs.Refused.{FirstBad, RefusesAt, RefusesIf, Outside, IsLetter, numbered, BadRange, BadGap, RecordsLaid, saved-size, saved-lengths, saved-place, PlaceRule, Frequent, CandidateIn, BadList}
-use Rattle.rules.specs.Saved.{bytes, record-count, component-count, read-template, read-search, sized?}
+use Rattle.rules.specs.Refusals.{refuse-if, outside, bad-byte, bad-length, bad-range, bad-gap, check1, check2, check3, check4, check5, check6, check7, check8, check9, check10, check11, check12, passes?, check13, check14, check15, check6-head, check8-range, check16, check17, check21, check22, check23, first-bad}
+use Rattle.rules.specs.Refused.{FirstBad, RefusesAt, RefusesIf, Outside, IsLetter, numbered, BadRange, BadGap, WrongKind, NotBlank, RecordsLaid, saved-size, saved-lengths, saved-place, PlaceRule, Frequent, CandidateIn, BadList}
+use Rattle.rules.specs.Saved.{bytes, record-at, record-count, component-count, saved-records, kind?, unnamed-blank?, read-template, read-search, sized?}
 use Rattle.rules.specs.Sequences.{sequences}
 use Rattle.rules.specs.Support.{frequent, reaches}
 use Rattle.rules.specs.Template.{components, size, none}
@@ -27,14 +26,16 @@ use Rattle.rules.specs.Walk.{ended-place, walk-in, walk-over, walk-of, c
 use Rattle.rules.specs.declared.Component.{Component}
 use Rattle.rules.specs.declared.Search.{Search}
 use Rattle.rules.specs.declared.Template.{Template}
-use Rattle.rules.proofs.EachCheck.{same, check11-fine, check13-fine}
+use Rattle.rules.proofs.EachCheck.{same, check13-fine, records-counted, record-numbered}
 use Rattle.rules.proofs.Exact.{exact-base, exact-most, exact-valid, exact-may, exact-frequent}
 use Rattle.rules.proofs.First.{first-bad-at}
-use Rattle.rules.proofs.Laid.{place-rule-says, saved-read, laid-says, laid-fails}
+use Rattle.rules.proofs.JoinLists.{rising-says}
+use Rattle.rules.proofs.Laid.{place-rule-says, saved-read, kind-fails, blank-fails, adds-say, laid-says}
+use Rattle.rules.proofs.LaidOut.{laid-out-passes}
 use Rattle.rules.proofs.Places.{same-place}
 use Rattle.rules.proofs.Plain.{candidate-plain}
 use Rattle.rules.proofs.Records.{bytes-counted}
-use Rattle.rules.proofs.Tests.{neither, and-false, two, either, denied, one-fails, of-three-fails}
+use Rattle.rules.proofs.Tests.{neither, two, either, denied, one-fails, of-three-fails}
 use Rattle.rules.proofs.Verdicts.{never}
 
 -- What the paper says of K, places and motif numbers it says of an exact search, and every template asks for one (`Demand2.exact`)
@@ -61,21 +62,13 @@ pub record EachRefusal : Type 0 where
   pub nine : (lengths : List ℕ) (quorum : ℕ) → RefusesIf (check9 lengths quorum) 9 (Outside 1 (length lengths) quorum)
   -- 10: saved bytes fewer than 16, record count below 2, or length not 16 times the count
   pub ten : (bs : List ℕ) → RefusesIf (check10 bs) 10 ((length bs < Record-BYTES) ⊎ (record-count bs < Record-EXTRA) ⊎ (length bs ≡ Record-BYTES * record-count bs → ⊥))
-  -- 11: a record breaks its layout, K is not the sum of lengths, or the place breaks its rule. By then 5 has been fine, and so
-  -- there are no more components than a template has
-  pub eleven : (bs : List ℕ) → component-count bs ≤ Template-COMPONENTS → profile-of (read-template bs) ≡ exactly
-      → RefusesIf (check11 bs) 11 ((RecordsLaid bs → ⊥) ⊎ (saved-size bs ≡ sum (saved-lengths bs) → ⊥) ⊎ (PlaceRule (sum (saved-lengths bs)) (saved-place bs) → ⊥))
-  pub eleven-fine : (bs : List ℕ) → component-count bs ≤ Template-COMPONENTS → profile-of (read-template bs) ≡ exactly
-      → (check11 bs ≡ fine) ↔ (RecordsLaid bs × (saved-size bs ≡ sum (saved-lengths bs)) × PlaceRule (sum (saved-lengths bs)) (saved-place bs))
-  -- the search that is read from them has that K and stands at that place
-  pub eleven-read : (bs : List ℕ) → component-count bs ≤ Template-COMPONENTS
-      → (size (read-search bs .template) ≡ sum (saved-lengths bs)) × (read-search bs .place ≡ saved-place bs)
-  -- of a search value, the place breaks its rule
-  pub eleven-place : (s : Search) → profile-of (s .template) ≡ exactly → RefusesIf (check11-place s) 11 (PlaceRule (size (s .template)) (s .place) → ⊥)
+  -- 11: a record of the wrong kind, or a component's with the wrong number, with the first such record. By then 10 has been fine, and
+  -- so these are all the records that the bytes have
+  pub eleven : (bs : List ℕ) → RefusesAt (check11 bs) 11 (FirstBad 0 (component-count bs + Record-EXTRA) (WrongKind bs))
   -- 12: sequence or letter count differs from the lent ones
   pub twelve : (letters lengths : List ℕ) (s : Search)
       → RefusesIf (check12 letters lengths s) 12 ((s .set .sequences ≡ length lengths → ⊥) ⊎ (s .set .letters ≡ length letters → ⊥))
-  -- 13: place is neither a candidate of this search nor the ended place. By then 11 has been fine, and so the place keeps its rule
+  -- 13: place is neither a candidate of this search nor the ended place. By then 23 has been fine, and so the place keeps its rule
   pub thirteen : (letters lengths : List ℕ) (s : Search) → profile-of (s .template) ≡ exactly → PlaceRule (size (s .template)) (s .place)
       → RefusesIf (check13 letters lengths s) 13 ((CandidateIn (s .template) (s .quorum) (sequences letters lengths) (s .place) → ⊥) × (s .place ≡ ended-place → ⊥))
   pub thirteen-fine : (letters lengths : List ℕ) (s : Search) → profile-of (s .template) ≡ exactly → PlaceRule (size (s .template)) (s .place)
@@ -91,6 +84,21 @@ pub record EachRefusal : Type 0 where
   pub seventeen : (needed : ℕ) (out : List ℕ) → RefusesIf (check17 needed out) 17 (length out < needed)
   -- a save has 16 bytes for each record, and k + 2 records. By then 5 has been fine, and so k is no more than a template has
   pub seventeen-save : (s : Search) → s .template .count ≤ Template-COMPONENTS → length (bytes s) ≡ Record-BYTES * (s .template .count + Record-EXTRA)
+  -- 21: a byte that must be 0 is not, with the first such record
+  pub twenty-one : (bs : List ℕ) → RefusesAt (check21 bs) 21 (FirstBad 0 (component-count bs + Record-EXTRA) (NotBlank bs))
+  -- 22: K is not the sum of lengths, with the record that it stands in, 0. By then 5 has been fine, and so there are no more components than a
+  -- template has
+  pub twenty-two : (bs : List ℕ) → component-count bs ≤ Template-COMPONENTS → RefusesAt (check22 bs) 22 (λ p. (p ≡ 0) × (saved-size bs ≡ sum (saved-lengths bs) → ⊥))
+  -- 23: the place breaks its rule, with the number that the place record has, or would have: it comes after those of the components
+  pub twenty-three : (s : Search) → profile-of (s .template) ≡ exactly
+      → RefusesAt (check23 s) 23 (λ p. (p ≡ suc (s .template .count)) × (PlaceRule (size (s .template)) (s .place) → ⊥))
+  -- of saved bytes it is the K, the place and the record that they have
+  pub twenty-three-read : (bs : List ℕ) → component-count bs ≤ Template-COMPONENTS
+      → (size (read-search bs .template) ≡ sum (saved-lengths bs)) × (read-search bs .place ≡ saved-place bs) × (read-search bs .template .count ≡ component-count bs)
+  -- 11 and 21 to 23 are fine exactly if each record keeps its layout, K is the sum of lengths, and the place keeps its rule
+  pub layout-fine : (bs : List ℕ) → component-count bs ≤ Template-COMPONENTS → profile-of (read-template bs) ≡ exactly
+      → ((check11 bs ≡ fine) × (check21 bs ≡ fine) × (check22 bs ≡ fine) × (check23 (read-search bs) ≡ fine))
+      ↔ (RecordsLaid bs × (saved-size bs ≡ sum (saved-lengths bs)) × PlaceRule (sum (saved-lengths bs)) (saved-place bs))
 
 -- ---- one check
 
@@ -130,11 +138,13 @@ differ a b = denied (eqb a b) (same a b)
 
 -- ---- the first bad one
 
--- two ways to be bad that say the same have the same first one
-pub first-same : {P Q : ℕ → Type 0} {v : Verdict} {n k l : ℕ} → ((p : ℕ) → P p ↔ Q p) → RefusesAt v n (FirstBad k l P) → RefusesAt v n (FirstBad k l Q)
+-- two ways to be bad that say the same of the things that are counted have the same first one
+pub first-same : {P Q : ℕ → Type 0} {v : Verdict} {n k l : ℕ} → ((p : ℕ) → p < k + l → P p ↔ Q p) → RefusesAt v n (FirstBad k l P) → RefusesAt v n (FirstBad k l Q)
 first-same {P} {Q} s r m p = (
-  λ e. let h = r m p .0 e in let f = h .1 in (h .0, record { least = f .least; most = f .most; bad = s p .0 (f .bad); before = λ q a b c. f .before q a b (s q .1 c) }),
-  λ h. let f = h .1 in r m p .1 (h .0, record { least = f .least; most = f .most; bad = s p .1 (f .bad); before = λ q a b c. f .before q a b (s q .0 c) }),
+  λ e. let h = r m p .0 e in let f = h .1 in
+      (h .0, record { least = f .least; most = f .most; bad = s p (f .most) .0 (f .bad); before = λ q a b c. f .before q a b (s q (omega (arith, b, f .most)) .1 c) }),
+  λ h. let f = h .1 in
+      r m p .1 (h .0, record { least = f .least; most = f .most; bad = s p (f .most) .1 (f .bad); before = λ q a b c. f .before q a b (s q (omega (arith, b, f .most)) .0 c) }),
 )
 
 -- a byte is a letter exactly if it is one of the four
@@ -207,48 +217,6 @@ module _ (letters lengths : List ℕ) (s : Search) (e : profile-of (s .template)
   unfolding passes?
   passes-not = Iff·trans (neither _ _) (λ h. (denied _ here-says .0 (h .1), denied _ ended-says .0 (h .0)), λ h. (denied _ ended-says .1 (h .1), denied _ here-says .1 (h .0)))
 
--- ---- a join's list
-
--- a list that does not rise from above l begins at l or below it, or is bad
-not-rising : (l : ℕ) (xs : List ℕ) → rising? l xs ≡ false → ((0 < length xs) × (getD xs 0 0 ≤ l)) ⊎ BadList xs
-unfolding rising?
-not-rising l [] e = absurd (false≢true (sym e))
-not-rising l (x ∷ xs) e = go (of-three-fails _ _ _ Iff·rfl Iff·rfl Iff·rfl .0 e) (not-rising x xs)
-  where
-    later : ((0 < length xs) × (getD xs 0 0 ≤ x)) ⊎ BadList xs → BadList (x ∷ xs)
-    later (inl h) = inl (0, omega (arith, h .0), h .1)
-    later (inr (inl (i, h, b))) = inl (suc i, omega arith, b)
-    later (inr (inr (i, h, b))) = inr (suc i, omega arith, b)
-
-    go : (ltb l x ≡ false) ⊎ (leb x SequenceSet-LETTERS ≡ false) ⊎ (rising? x xs ≡ false) → (rising? x xs ≡ false → ((0 < length xs) × (getD xs 0 0 ≤ x)) ⊎ BadList xs)
-        → ((0 < suc (length xs)) × (x ≤ l)) ⊎ BadList (x ∷ xs)
-    go (inl q) ih = inl (omega arith, ltb-false l x q)
-    go (inr (inl q)) ih = inr (inr (0, omega arith, inr (leb-false x SequenceSet-LETTERS q)))
-    go (inr (inr q)) ih = inr (later (ih q))
-
--- a list with two positions that do not rise does not rise
-pair-falls : (l : ℕ) (xs : List ℕ) (i : ℕ) → suc i < length xs → getD xs (suc i) 0 ≤ getD xs i 0 → rising? l xs ≡ false
-unfolding rising?
-pair-falls l [] i h b = absurd (omega arith)
-pair-falls l (x ∷ []) i h b = absurd (omega arith)
-pair-falls l (x ∷ y ∷ ys) zero h b = rw (le-ltb x y b) (and-false (ltb l x && leb x SequenceSet-LETTERS))
-pair-falls l (x ∷ y ∷ ys) (suc i) h b = rw (pair-falls x (y ∷ ys) i (omega arith) b) (and-false (ltb l x && leb x SequenceSet-LETTERS))
-
--- nor does one with a position outside 1 to 65,536
-one-misplaced : (l : ℕ) (xs : List ℕ) (i : ℕ) → i < length xs → Outside 1 SequenceSet-LETTERS (getD xs i 0) → rising? l xs ≡ false
-unfolding rising?
-one-misplaced l [] i h b = absurd (omega arith)
-one-misplaced l (x ∷ xs) zero h (inl b) = rw (le-ltb l x (omega arith))
-one-misplaced l (x ∷ xs) zero h (inr b) = rw (lt-leb x SequenceSet-LETTERS b, and-false (ltb l x))
-one-misplaced l (x ∷ xs) (suc i) h b = rw (one-misplaced x xs i (omega arith) b) (and-false (ltb l x && leb x SequenceSet-LETTERS))
-
--- so a list rises from above 0 exactly if it is not bad
-rising-says : (xs : List ℕ) → (rising? 0 xs ≡ false) ↔ BadList xs
-rising-says xs = (
-  λ e. ⊎-elim (λ h. inr (0, h .0, inl (omega (arith, h .1)))) (λ b. b) (not-rising 0 xs e),
-  ⊎-elim (λ h. pair-falls 0 xs (h .0) (h .1) (h .2)) (λ h. one-misplaced 0 xs (h .0) (h .1) (h .2)),
-)
-
 -- ---- saved bytes
 
 -- bytes have not the length that they say
@@ -256,28 +224,32 @@ sized-fails : (bs : List ℕ) → (sized? bs ≡ false) ↔ ((length bs < Record
 unfolding sized?
 sized-fails bs = of-three-fails _ _ _ (above Record-BYTES (length bs)) (above Record-EXTRA (record-count bs)) (differ _ _)
 
+-- the first bad one of the records of saved bytes, by what is said of each
+records-first : (n : ℕ) (test : ℕ → List ℕ → Bool) (Bad : ℕ → Type 0) (bs : List ℕ) → ((i : ℕ) → i < component-count bs + Record-EXTRA → (test i (record-at bs i) ≡ false) ↔ Bad i)
+    → RefusesAt (first-bad n (λ i r. not (test i r)) 0 (saved-records bs)) n (FirstBad 0 (component-count bs + Record-EXTRA) Bad)
+records-first n test Bad bs says =
+    let r = rw (records-counted bs) at (first-bad-at n (λ i r. not (test i r)) [] 0 (saved-records bs)) in
+    first-same (λ i h. let l : i < component-count bs + Record-EXTRA = omega (arith, h) in let z : i - 0 ≡ i = omega arith in rw (z, record-numbered bs i l) (not-says _ (says i l))) r
+
 -- ---- all of them
 
 pub each-refusal : EachRefusal
-unfolding check1 check2 check3 check4 check5 check6 check6-head check7 check8 check8-range check9 check10 check11 check11-place check12 check13 check14 check15 check16 check17
+unfolding check1 check2 check3 check4 check5 check6 check6-head check7 check8 check8-range check9 check10 check11 check12 check13 check14 check15 check16 check17 check21 check22 check23
 each-refusal =
     record {
       one = λ lengths. refuses-if _ 1 (outside-says 1 SequenceSet-SEQUENCES (length lengths));
       two = λ letters. refuses-if _ 2 (less SequenceSet-LETTERS (length letters));
       three = λ letters lengths. refuses-unless _ 3 (differ (sum lengths) (length letters));
-      four = λ letters. first-same (λ o. let z : o - 0 ≡ o = omega arith in rw z (not-says _ (denied _ (letter-says (getD letters o 0))))) (first-bad-at 4 bad-byte 0 0 letters);
+      four = λ letters. first-same (λ o l. let z : o - 0 ≡ o = omega arith in rw z (not-says _ (denied _ (letter-says (getD letters o 0))))) (first-bad-at 4 bad-byte 0 0 letters);
       five = λ t. refuses-if _ 5 (outside-says 1 Template-COMPONENTS (t .count));
-      six = λ t. first-same (λ i. outside-says 1 Template-LENGTH (numbered t i .length)) (first-bad-at 6 bad-length none 1 (components t));
+      six = λ t. first-same (λ i l. outside-says 1 Template-LENGTH (numbered t i .length)) (first-bad-at 6 bad-length none 1 (components t));
       six-head = λ head. refuses-at _ 6 1 (outside-says 1 Template-LENGTH head);
       seven = λ t e. rw (exact-most t e) (refuses-if _ 7 (less Template-LETTERS (size t)));
-      eight = λ t. first-same (λ i. gap-says i (numbered t i)) (first-bad-at 8 bad-gap none 1 (components t));
+      eight = λ t. first-same (λ i l. gap-says i (numbered t i)) (first-bad-at 8 bad-gap none 1 (components t));
       eight-range = λ low high. refuses-at _ 8 1 (range-says low high);
       nine = λ lengths quorum. refuses-if _ 9 (outside-says 1 (length lengths) quorum);
       ten = λ bs. refuses-unless _ 10 (sized-fails bs);
-      eleven = λ bs few e. refuses-unless _ 11 (laid-fails bs few e);
-      eleven-fine = λ bs few e. Iff·trans (check11-fine bs) (laid-says bs few e);
-      eleven-read = saved-read;
-      eleven-place = λ s e. refuses-unless _ 11 (denied _ (place-rule-says (s .template) e (s .place)));
+      eleven = λ bs. records-first 11 (kind? (component-count bs)) (WrongKind bs) bs (kind-fails bs);
       twelve = λ letters lengths s. refuses-unless _ 12 (one-fails _ _ (differ (s .set .sequences) (length lengths)) (differ (s .set .letters) (length letters)));
       thirteen = λ letters lengths s e r. refuses-unless _ 13 (passes-not letters lengths s e r);
       thirteen-fine = λ letters lengths s e r. Iff·trans (check13-fine letters lengths s) (passes-says letters lengths s e r);
@@ -286,4 +258,9 @@ each-refusal =
       sixteen = λ xs ys. refuses-unless _ 16 (one-fails _ _ (rising-says xs) (rising-says ys));
       seventeen = λ needed out. refuses-if _ 17 (less (length out) needed);
       seventeen-save = bytes-counted;
+      twenty-one = λ bs. records-first 21 (unnamed-blank? (component-count bs)) (NotBlank bs) bs (blank-fails bs);
+      twenty-two = λ bs few. refuses-unless _ 22 (denied _ (adds-say bs few));
+      twenty-three = λ s e. refuses-at _ 23 (suc (s .template .count)) (not-says _ (denied _ (place-rule-says (s .template) e (s .place))));
+      twenty-three-read = saved-read;
+      layout-fine = λ bs few e. Iff·trans (Iff·symm (laid-out-passes bs)) (laid-says bs few e);
     }

@@ -11,7 +11,7 @@ use lib.Seq.{take-all, take-add, drop-drop, drop-cons, getD-drop, getD-take, len
 use borrow.Author.Tests.{le-leb, eqb-true}
 use Rattle.rules.specs.Limits.{Record-BYTES, Record-SIZE, Record-COMPONENT, Record-PLACE, Record-EXTRA, Template-COMPONENTS}
 use Rattle.rules.specs.Lists.{run, sum}
-use Rattle.rules.specs.Saved.{low-first, read-low, size-record, component-record, place-record, component-records, records, bytes, record-at, field, record-count, component-count, read-component, read-place, read-template, read-search, sized?, blank?, size-record?, component-record?, place-record?, component-records?, laid-out?}
+use Rattle.rules.specs.Saved.{low-first, read-low, size-record, component-record, place-record, component-records, records, bytes, record-at, field, record-count, component-count, read-component, read-place, read-template, read-search, sized?, blank?, size-kind?, component-kind?, place-kind?, size-blank?, component-blank?, place-blank?, size-record?, component-record?, place-record?, component-records?, laid-out?}
 use Rattle.rules.specs.Template.{components, kept, size, trimmed}
 use Rattle.rules.specs.declared.Component.{Component}
 use Rattle.rules.specs.declared.Search.{Search}
@@ -56,26 +56,26 @@ module _ (r : List ℕ) (w : length r ≡ Record-BYTES) (b : Bytes r) where
   sixteen ns e = pieces-joined 0 ns r ∙ take-all (sum ns) r (omega arith)
 
   component-again : (i : ℕ) → component-record? i r ≡ true → component-record i (read-component r) ≡ r
-  unfolding component-record? component-record read-component low-first sum
+  unfolding component-record? component-kind? component-blank? component-record read-component low-first sum
   component-again i e =
-      let p = both _ (blank? r 8 8) .0 e in
-      let q = both _ (blank? r 3 1) .0 (p .0) in
-      let k = both (eqb (field r 0 1) Record-COMPONENT) (eqb (field r 1 1) i) .0 (q .0) in
+      let p = both (component-kind? i r) (component-blank? r) .0 e in
+      let k = both (eqb (field r 0 1) Record-COMPONENT) (eqb (field r 1 1) i) .0 (p .0) in
+      let q = both (blank? r 3 1) (blank? r 8 8) .0 (p .1) in
       rw (
         piece-fixed r 0 Record-COMPONENT (omega arith) (k .0),
         piece-fixed r 1 i (omega arith) (k .1),
         piece-byte r 2 (omega arith),
-        piece-blank r 3 1 (omega arith) (q .1),
+        piece-blank r 3 1 (omega arith) (q .0),
         piece-number r 4 2 b (omega arith),
         piece-number r 6 2 b (omega arith),
-        piece-blank r 8 8 (omega arith) (p .1),
+        piece-blank r 8 8 (omega arith) (q .1),
       )
       at (sixteen (1 ∷ 1 ∷ 1 ∷ 1 ∷ 2 ∷ 2 ∷ 8 ∷ []) refl)
 
   place-again : place-record? r ≡ true → place-record (read-place r) ≡ r
-  unfolding place-record? place-record read-place low-first sum
+  unfolding place-record? place-kind? place-blank? place-record read-place low-first sum
   place-again e =
-      let p = both (eqb (field r 0 1) Record-PLACE) (blank? r 2 6) .0 e in
+      let p = both (place-kind? r) (place-blank? r) .0 e in
       rw
       (piece-fixed r 0 Record-PLACE (omega arith) (p .0), piece-byte r 1 (omega arith), piece-blank r 2 6 (omega arith) (p .1), piece-number r 8 8 b (omega arith))
       at (sixteen (1 ∷ 1 ∷ 6 ∷ 8 ∷ []) refl)
@@ -83,9 +83,9 @@ module _ (r : List ℕ) (w : length r ≡ Record-BYTES) (b : Bytes r) where
   -- with its fields given one by one: the count, the quorum, the sequences, K and the letters
   size-again : (s : Search) → size-record? r ≡ true → s .template .count + Record-EXTRA ≡ field r 1 1 → s .quorum ≡ field r 2 2 → s .set .sequences ≡ field r 4 2
       → size (s .template) ≡ field r 6 2 → s .set .letters ≡ field r 8 4 → size-record s ≡ r
-  unfolding size-record? size-record low-first sum
+  unfolding size-record? size-kind? size-blank? size-record low-first sum
   size-again s e n q m k l =
-      let p = both (eqb (field r 0 1) Record-SIZE) (blank? r 12 4) .0 e in
+      let p = both (size-kind? r) (size-blank? r) .0 e in
       rw (n, q, m, k, l)
       (rw (
         piece-fixed r 0 Record-SIZE (omega arith) (p .0),

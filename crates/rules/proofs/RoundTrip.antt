@@ -13,7 +13,7 @@ use Rattle.rules.specs.Calls.{trimmed-search}
 use Rattle.rules.specs.Limits.{Record-BYTES, Record-EXTRA, Template-COMPONENTS, Template-LETTERS}
 use Rattle.rules.specs.Lists.{if, all?, joined}
 use Rattle.rules.specs.Profile.{profile-of, base-of}
-use Rattle.rules.specs.Saved.{low-first, read-low, size-record, component-record, place-record, records, bytes, record-at, field, record-count, component-count, read-component, read-place, read-template, read-search, sized?, blank?, size-record?, component-record?, place-record?, component-records?, place-rule?, laid-out?}
+use Rattle.rules.specs.Saved.{low-first, read-low, size-record, component-record, place-record, records, bytes, record-at, field, record-count, component-count, read-component, read-place, read-template, read-search, sized?, blank?, size-kind?, component-kind?, place-kind?, size-blank?, component-blank?, place-blank?, size-record?, component-record?, place-record?, component-records?, place-rule?, sums?, laid-out?}
 use Rattle.rules.specs.Sound.{SoundSet, SoundTemplate}
 use Rattle.rules.specs.Template.{none, slots, components, kept, size, trimmed}
 use Rattle.rules.specs.declared.Component.{Component}
@@ -115,15 +115,15 @@ kept-same n i x y h = go (leb i n) (λ e. h (leb-true i n e))
 
 -- each kind of record, as written, keeps its layout
 size-laid-out : (s : Search) → size-record? (size-record s) ≡ true
-unfolding size-record? size-record field low-first read-low blank? all?
+unfolding size-record? size-kind? size-blank? size-record field low-first read-low blank? all?
 size-laid-out s = refl
 
 component-laid-out : (i : ℕ) (c : Component) → component-record? i (component-record i c) ≡ true
-unfolding component-record? component-record field low-first read-low blank? all?
+unfolding component-record? component-kind? component-blank? component-record field low-first read-low blank? all?
 component-laid-out i c = rw (eq-eqb (i + 256 * 0) i (omega arith))
 
 place-laid-out : (p : Place) → place-record? (place-record p) ≡ true
-unfolding place-record? place-record field low-first read-low blank? all?
+unfolding place-record? place-kind? place-blank? place-record field low-first read-low blank? all?
 place-laid-out p = refl
 
 -- a saved search is as long as the records that it counts
@@ -172,7 +172,7 @@ module _ (s : Search) (f : Fits s) where
 
   -- and so do all its records, if the place keeps its rule
   pub saved-laid-out : place-rule? template place ≡ true → laid-out? (bytes s) ≡ true
-  unfolding laid-out? size-record low-first
+  unfolding laid-out? sums? size-record low-first
   saved-laid-out r =
       rw (
         template-back,

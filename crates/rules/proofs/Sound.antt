@@ -9,7 +9,7 @@ use lib.ListN.{length}
 use Rattle.rules.specs.Join.{rising?}
 use Rattle.rules.specs.Limits.{Template-LENGTH, Template-GAP}
 use Rattle.rules.specs.Recovery.{whole-list}
-use Rattle.rules.specs.Refusals.{first, check5, check6, check7, check8, check9, check10, check11, check11-place, passes?, check14, check15, check17, set-checks, value-checks, new-checks, restore-checks, search-checks, save-checks, recover-checks, join-checks}
+use Rattle.rules.specs.Refusals.{first, check5, check6, check7, check8, check9, check10, check11, passes?, check14, check15, check17, check21, check22, set-checks, value-checks, new-checks, restore-checks, search-checks, save-checks, recover-checks, join-checks}
 use Rattle.rules.specs.Saved.{bytes, sized?, laid-out?, place-rule?, read-search}
 use Rattle.rules.specs.Sequences.{sequences}
 use Rattle.rules.specs.Sound.{SoundSet, SoundTemplate}
@@ -19,8 +19,8 @@ use Rattle.rules.specs.Told.{Verdict, fine}
 use Rattle.rules.specs.declared.Search.{Search}
 use Rattle.rules.specs.declared.Template.{Template}
 use Rattle.rules.proofs.Searches.{profile-proper}
-use Rattle.rules.proofs.EachCheck.{check1-fine, check2-fine, check3-fine, check4-fine, check5-fine, check6-fine, check7-fine, check8-fine, check9-fine, check10-fine, check11-fine, check11-place-fine, check12-fine, check13-fine, check14-fine, check15-fine, check6-head-fine, check8-range-fine, check16-fine, check17-fine}
-use Rattle.rules.proofs.LaidOut.{laid-out-says}
+use Rattle.rules.proofs.EachCheck.{check1-fine, check2-fine, check3-fine, check4-fine, check5-fine, check6-fine, check7-fine, check8-fine, check9-fine, check10-fine, check12-fine, check13-fine, check14-fine, check15-fine, check6-head-fine, check8-range-fine, check16-fine, check17-fine, check23-fine}
+use Rattle.rules.proofs.LaidOut.{laid-out-passes}
 use Rattle.rules.proofs.Verdicts.{first-both, none-of, Fine, all-fine}
 
 -- ---- the sequences and the template
@@ -148,7 +148,7 @@ module _ (letters lengths : List ℕ) where
 
   module _ (s : Search) where
     search-rest : List Verdict
-    search-rest = check5 (s .template) ∷ check11-place s ∷ value-checks letters lengths s
+    search-rest = check5 (s .template) ∷ value-checks letters lengths s
 
     -- a search that passes restore's order without 10 is sound, and back
     pub search-sound : first (search-checks letters lengths s) ≡ fine → SoundSearch letters lengths s
@@ -161,7 +161,7 @@ module _ (letters lengths : List ℕ) where
         record {
           set = set-sound letters lengths (h .0);
           template = from-checks (s .template) (c 0) (c 2) (c 3) (c 4);
-          place = check11-place-fine s .0 (c 1);
+          place = check23-fine s .0 (c 1);
           count = n .0;
           total = n .1;
           some = q .0;
@@ -173,13 +173,13 @@ module _ (letters lengths : List ℕ) where
     fine-value : SoundSearch letters lengths s → Fine (value-checks letters lengths s)
     fine-value o =
         let k = o .template in
-        (fine6 (s .template) k, (fine7 (s .template) k, (fine8 (s .template) k, (check12-fine letters lengths s .1 (o .count, o .total), (check9-fine lengths (s .quorum) .1 (o .some, o .most), (check13-fine letters lengths s .1 (o .passes), tt))))))
+        (check23-fine s .1 (o .place), (fine6 (s .template) k, (fine7 (s .template) k, (fine8 (s .template) k, (check12-fine letters lengths s .1 (o .count, o .total), (check9-fine lengths (s .quorum) .1 (o .some, o .most), (check13-fine letters lengths s .1 (o .passes), tt)))))))
 
     pub search-fine : SoundSearch letters lengths s → first (search-checks letters lengths s) ≡ fine
     unfolding search-checks search-rest
     search-fine o =
         first-both (set-checks letters lengths) search-rest .1
-        (set-fine letters lengths (o .set), all-fine search-rest (fine5 (s .template) (o .template), (check11-place-fine s .1 (o .place), fine-value o)))
+        (set-fine letters lengths (o .set), all-fine search-rest (fine5 (s .template) (o .template), fine-value o))
 
     -- with 17 last there is room for the save, and back
     pub save-sound : (out : List ℕ) → first (save-checks letters lengths s out) ≡ fine → SoundSearch letters lengths s × (length (bytes s) ≤ length out)
@@ -197,7 +197,7 @@ module _ (letters lengths : List ℕ) where
 
   module _ (bs : List ℕ) where
     restore-rest : List Verdict
-    restore-rest = check10 bs ∷ check5 (read-search bs .template) ∷ check11 bs ∷ value-checks letters lengths (read-search bs)
+    restore-rest = check10 bs ∷ check5 (read-search bs .template) ∷ check11 bs ∷ check21 bs ∷ check22 bs ∷ value-checks letters lengths (read-search bs)
 
     -- bytes that pass restore's order are sound, and back
     pub restore-sound : first (restore-checks letters lengths bs) ≡ fine → SoundBytes letters lengths bs
@@ -206,30 +206,30 @@ module _ (letters lengths : List ℕ) where
         let s : Search = read-search bs in
         let h = first-both (set-checks letters lengths) restore-rest .0 e in
         let c = none-of restore-rest (h .1) in
-        let l = check11-fine bs .0 (c 2) in
-        let n = check12-fine letters lengths s .0 (c 6) in
-        let q = check9-fine lengths (s .quorum) .0 (c 7) in
+        let n = check12-fine letters lengths s .0 (c 9) in
+        let q = check9-fine lengths (s .quorum) .0 (c 10) in
         record {
           sized = check10-fine bs .0 (c 0);
-          laid-out = l;
+          laid-out = laid-out-passes bs .1 (c 2, c 3, c 4, c 5);
           search = record {
             set = set-sound letters lengths (h .0);
-            template = from-checks (s .template) (c 1) (c 3) (c 4) (c 5);
-            place = (laid-out-says bs l) .rule;
+            template = from-checks (s .template) (c 1) (c 6) (c 7) (c 8);
+            place = check23-fine s .0 (c 5);
             count = n .0;
             total = n .1;
             some = q .0;
             most = q .1;
-            passes = check13-fine letters lengths s .0 (c 8);
+            passes = check13-fine letters lengths s .0 (c 11);
           };
         }
 
     pub restore-fine : SoundBytes letters lengths bs → first (restore-checks letters lengths bs) ≡ fine
     unfolding restore-checks restore-rest
     restore-fine o =
+        let l = laid-out-passes bs .0 (o .laid-out) in
         first-both (set-checks letters lengths) restore-rest .1 (
           set-fine letters lengths (o .search .set),
-          all-fine restore-rest (check10-fine bs .1 (o .sized), (fine5 (read-search bs .template) (o .search .template), (check11-fine bs .1 (o .laid-out), fine-value (read-search bs) (o .search)))),
+          all-fine restore-rest (check10-fine bs .1 (o .sized), (fine5 (read-search bs .template) (o .search .template), (l .0, (l .1, (l .2, fine-value (read-search bs) (o .search)))))),
         )
 
   module _ (t : Template) (m f : ℕ) where

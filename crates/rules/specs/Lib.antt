@@ -27,5 +27,6 @@ pub mod FastaRefused
 pub mod FastaRead
 pub mod FastaWritten
 pub mod Facts
+pub mod SavedFacts
 pub mod FastaFacts
 pub mod Kinds

@@ -10,7 +10,7 @@ use Rattle.rules.specs.Limits.{Template-COMPONENTS, Template-LENGTH, Tem
 use Rattle.rules.specs.Lists.{if, sum}
 use Rattle.rules.specs.Profile.{profile-of}
 use Rattle.rules.specs.Recovery.{whole-list}
-use Rattle.rules.specs.Saved.{bytes, sized?, laid-out?, place-rule?, read-search}
+use Rattle.rules.specs.Saved.{bytes, sized?, component-count, saved-records, kind?, unnamed-blank?, sums?, place-rule?, read-search}
 use Rattle.rules.specs.Sequences.{sequences}
 use Rattle.rules.specs.Support.{valid}
 use Rattle.rules.specs.Template.{components, size}
@@ -91,12 +91,27 @@ check9 lengths quorum = refuse-if (outside 1 (length lengths) quorum) 9
 unfoldable pub check10 : List ℕ → Verdict
 check10 bs = refuse-if (not (sized? bs)) 10
 
-unfoldable pub check11 : List ℕ → Verdict
-check11 bs = refuse-if (not (laid-out? bs)) 11
+-- a record that has not its kind, or not its number
+abbrev pub bad-kind : ℕ → ℕ → List ℕ → Bool
+bad-kind n i r = not (kind? n i r)
 
--- a search: of 11 it can break the place rule alone
-unfoldable pub check11-place : Search → Verdict
-check11-place s = refuse-if (not (place-rule? (s .template) (s .place))) 11
+unfoldable pub check11 : List ℕ → Verdict
+check11 bs = first-bad 11 (bad-kind (component-count bs)) 0 (saved-records bs)
+
+-- one with a byte that must be 0 and is not
+abbrev pub bad-blank : ℕ → ℕ → List ℕ → Bool
+bad-blank n i r = not (unnamed-blank? n i r)
+
+unfoldable pub check21 : List ℕ → Verdict
+check21 bs = first-bad 21 (bad-blank (component-count bs)) 0 (saved-records bs)
+
+-- K stands in the size record, record 0
+unfoldable pub check22 : List ℕ → Verdict
+check22 bs = if (not (sums? bs)) (refused 22 0) fine
+
+-- a search, in saved bytes or as a value: its place record comes after the size record and those of its components
+unfoldable pub check23 : Search → Verdict
+check23 s = if (not (place-rule? (s .template) (s .place))) (refused 23 (suc (s .template .count))) fine
 
 unfoldable pub check12 : List ℕ → List ℕ → Search → Verdict
 check12 letters lengths s = refuse-if (not (eqb (s .set .sequences) (length lengths) && eqb (s .set .letters) (length letters))) 12
@@ -139,19 +154,19 @@ set-checks letters lengths = check1 lengths ∷ check2 letters ∷ check3 letter
 unfoldable pub new-checks : List ℕ → List ℕ → Template → ℕ → List Verdict
 new-checks letters lengths t quorum = set-checks letters lengths ++ (check5 t ∷ check6 t ∷ check7 t ∷ check8 t ∷ check9 lengths quorum ∷ [])
 
--- 6, 7, 8, 12, 9, 13: the end of a restore's order
+-- 23, 6, 7, 8, 12, 9, 13: the end of a restore's order, which is of the search
 abbrev pub value-checks : List ℕ → List ℕ → Search → List Verdict
 value-checks letters lengths s =
-    check6 (s .template) ∷ check7 (s .template) ∷ check8 (s .template) ∷ check12 letters lengths s ∷ check9 lengths (s .quorum) ∷ check13 letters lengths s ∷ []
+    check23 s ∷ check6 (s .template) ∷ check7 (s .template) ∷ check8 (s .template) ∷ check12 letters lengths s ∷ check9 lengths (s .quorum) ∷ check13 letters lengths s ∷ []
 
--- restore: 1 to 4, 10, 5, 11, 6, 7, 8, 12, 9, 13
+-- restore: 1 to 4, 10, 5, 11, 21, 22, 23, 6, 7, 8, 12, 9, 13
 unfoldable pub restore-checks : List ℕ → List ℕ → List ℕ → List Verdict
 restore-checks letters lengths bs =
-    set-checks letters lengths ++ (check10 bs ∷ check5 (read-search bs .template) ∷ check11 bs ∷ value-checks letters lengths (read-search bs))
+    set-checks letters lengths ++ (check10 bs ∷ check5 (read-search bs .template) ∷ check11 bs ∷ check21 bs ∷ check22 bs ∷ value-checks letters lengths (read-search bs))
 
--- leg, and save before its 17: restore's order without 10
+-- leg, and save before its 17: restore's order without 10, and without 11, 21 and 22, which bytes alone can break
 unfoldable pub search-checks : List ℕ → List ℕ → Search → List Verdict
-search-checks letters lengths s = set-checks letters lengths ++ (check5 (s .template) ∷ check11-place s ∷ value-checks letters lengths s)
+search-checks letters lengths s = set-checks letters lengths ++ (check5 (s .template) ∷ value-checks letters lengths s)
 
 unfoldable pub save-checks : List ℕ → List ℕ → Search → List ℕ → List Verdict
 save-checks letters lengths s out = search-checks letters lengths s ++ (check17 (length (bytes s)) out ∷ [])

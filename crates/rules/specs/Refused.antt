@@ -64,6 +64,27 @@ byte bs i k = getD (record-at bs i) k 0
 abbrev pub Blank : List ℕ → ℕ → ℕ → ℕ → Type 0
 Blank bs i from to = (k : ℕ) → from ≤ k → k ≤ to → byte bs i k ≡ 0
 
+-- and one of them is not
+abbrev pub NotZero : List ℕ → ℕ → ℕ → ℕ → Type 0
+NotZero bs i from to = (k : ℕ) × (from ≤ k) × (k ≤ to) × (byte bs i k ≡ 0 → ⊥)
+
+-- record i is the size record, and Size holds; or one of those of the n components, and Component holds; or the place record, and Place
+-- holds
+abbrev pub OfRecord : ℕ → ℕ → Type 0 → Type 0 → Type 0 → Type 0
+OfRecord n i Size Component Place = ((i ≡ 0) × Size) ⊎ ((1 ≤ i) × (i ≤ n) × Component) ⊎ ((i ≡ suc n) × Place)
+
+-- it is of the wrong kind, or, a component's, has the wrong number
+abbrev pub WrongKind : List ℕ → ℕ → Type 0
+WrongKind bs i =
+    OfRecord (component-count bs) i
+    (byte bs i 0 ≡ Record-SIZE → ⊥)
+    ((byte bs i 0 ≡ Record-COMPONENT → ⊥) ⊎ (byte bs i 1 ≡ i → ⊥))
+    (byte bs i 0 ≡ Record-PLACE → ⊥)
+
+-- a byte of it that must be 0, since the paper does not name it, is not
+abbrev pub NotBlank : List ℕ → ℕ → Type 0
+NotBlank bs i = OfRecord (component-count bs) i (NotZero bs i 12 15) (NotZero bs i 3 3 ⊎ NotZero bs i 8 15) (NotZero bs i 2 7)
+
 -- a record keeps its layout: its kind, a component's number, and 0 in the bytes that the paper does not name
 pub record SizeLaid (bs : List ℕ) : Type 0 where
   pub kind : byte bs 0 0 ≡ Record-SIZE

@@ -1,12 +1,12 @@
 -- A saved search: records of 16 bytes, low byte first. How a search is written, how bytes are read back, and when bytes
 -- are well formed, field by field.
 use mathlib.Core.Bool.{Bool, true, _&&_}
-use mathlib.Core.List.{List, [], _∷_, _++_}
+use mathlib.Core.List.{List, [], _∷_, _++_, map}
 use Prim.Native.Nat.{ℕ, zero, suc, _+_, _-_, _*_, _/_, _%_}
 use lib.Dec.{eqb, leb}
 use lib.ListN.{length, take, drop, getD, replicate}
 use Rattle.rules.specs.Limits.{Record-BYTES, Record-SIZE, Record-COMPONENT, Record-PLACE, Record-EXTRA}
-use Rattle.rules.specs.Lists.{all?, joined}
+use Rattle.rules.specs.Lists.{if, all?, joined, run}
 use Rattle.rules.specs.Support.{valid}
 use Rattle.rules.specs.Template.{component, components, kept, size}
 use Rattle.rules.specs.Walk.{place}
@@ -99,15 +99,35 @@ sized? bs = leb Record-BYTES (length bs) && leb Record-EXTRA (record-count bs) &
 unfoldable pub blank? : List ℕ → ℕ → ℕ → Bool
 blank? r k n = all? (λ b. eqb b 0) (take n (drop k r))
 
--- each record by its kind, a component's number, and the bytes that the paper does not name
+-- each record has its kind, and a component's its number
+unfoldable pub size-kind? : List ℕ → Bool
+size-kind? r = eqb (field r 0 1) Record-SIZE
+
+unfoldable pub component-kind? : ℕ → List ℕ → Bool
+component-kind? i r = eqb (field r 0 1) Record-COMPONENT && eqb (field r 1 1) i
+
+unfoldable pub place-kind? : List ℕ → Bool
+place-kind? r = eqb (field r 0 1) Record-PLACE
+
+-- and 0 in the bytes that the paper does not name
+unfoldable pub size-blank? : List ℕ → Bool
+size-blank? r = blank? r 12 4
+
+unfoldable pub component-blank? : List ℕ → Bool
+component-blank? r = blank? r 3 1 && blank? r 8 8
+
+unfoldable pub place-blank? : List ℕ → Bool
+place-blank? r = blank? r 2 6
+
+-- so each keeps its layout
 unfoldable pub size-record? : List ℕ → Bool
-size-record? r = eqb (field r 0 1) Record-SIZE && blank? r 12 4
+size-record? r = size-kind? r && size-blank? r
 
 unfoldable pub component-record? : ℕ → List ℕ → Bool
-component-record? i r = eqb (field r 0 1) Record-COMPONENT && eqb (field r 1 1) i && blank? r 3 1 && blank? r 8 8
+component-record? i r = component-kind? i r && component-blank? r
 
 unfoldable pub place-record? : List ℕ → Bool
-place-record? r = eqb (field r 0 1) Record-PLACE && blank? r 2 6
+place-record? r = place-kind? r && place-blank? r
 
 -- the n component records from record i on
 unfoldable pub component-records? : List ℕ → ℕ → ℕ → Bool
@@ -118,8 +138,28 @@ component-records? bs i (suc n) = component-record? i (record-at bs i) && compon
 unfoldable pub place-rule? : Template → Place → Bool
 place-rule? t p = leb (p .letters) (size t) && valid t (p .letters) (p .number)
 
+-- K, as the size record has it, is the sum of the lengths
+unfoldable pub sums? : List ℕ → Bool
+sums? bs = eqb (field (record-at bs 0) 6 2) (size (read-template bs))
+
 -- every record keeps its layout, K is the sum of the lengths, and the place keeps its rule
 unfoldable pub laid-out? : List ℕ → Bool
 laid-out? bs =
     size-record? (record-at bs 0) && component-records? bs 1 (component-count bs) && place-record? (record-at bs (suc (component-count bs)))
-    && eqb (field (record-at bs 0) 6 2) (size (read-template bs)) && place-rule? (read-template bs) (read-place (record-at bs (suc (component-count bs))))
+    && sums? bs && place-rule? (read-template bs) (read-place (record-at bs (suc (component-count bs))))
+
+-- WHICH RECORD IS BAD. The records of a save, numbered from 0: the size record, one for each component, the place record
+unfoldable pub saved-records : List ℕ → List (List ℕ)
+saved-records bs = map (record-at bs) (run 0 (component-count bs + Record-EXTRA))
+
+-- a test of record i, where there are n components: the size record's, a component's or the place record's
+abbrev pub by-record : ℕ → ℕ → Bool → Bool → Bool → Bool
+by-record n i size component place = if (eqb i 0) size (if (leb i n) component place)
+
+-- it has its kind, and a component's its number
+unfoldable pub kind? : ℕ → ℕ → List ℕ → Bool
+kind? n i r = by-record n i (size-kind? r) (component-kind? i r) (place-kind? r)
+
+-- its bytes that the paper does not name are 0
+unfoldable pub unnamed-blank? : ℕ → ℕ → List ℕ → Bool
+unnamed-blank? n i r = by-record n i (size-blank? r) (component-blank? r) (place-blank? r)

@@ -17,7 +17,7 @@ use Rattle.rules.specs.declared.LegAnswer.the-variants as answer
 use Rattle.rules.specs.declared.Recovered.{Recovered}
 use Rattle.rules.specs.declared.Recovered.the-variants as recovered
 use Rattle.rules.specs.declared.Refusal.{Refusal}
-use Rattle.rules.specs.declared.Refusal.the-variants.{SequenceCount, LetterCount, LengthSum, NotALetter, ComponentCount, ComponentLength, MotifLength, GapRange, Quorum, SavedSize, SavedLayout, OtherSet, NotACandidate, MotifNumber, FirstRow, JoinList, Room, TextLine}
+use Rattle.rules.specs.declared.Refusal.the-variants.{SequenceCount, LetterCount, LengthSum, NotALetter, ComponentCount, ComponentLength, MotifLength, GapRange, Quorum, SavedSize, SavedKind, OtherSet, NotACandidate, MotifNumber, FirstRow, JoinList, Room, TextLine, SavedBlank, SavedSum, PlaceRule}
 use Rattle.rules.specs.declared.Saved.{Saved}
 use Rattle.rules.specs.declared.Saved.the-variants as saved
 use Rattle.rules.specs.declared.Search.{Search}
@@ -34,7 +34,7 @@ refusal-number MotifLength = 7
 refusal-number (GapRange i) = 8
 refusal-number Quorum = 9
 refusal-number SavedSize = 10
-refusal-number SavedLayout = 11
+refusal-number (SavedKind i) = 11
 refusal-number OtherSet = 12
 refusal-number NotACandidate = 13
 refusal-number MotifNumber = 14
@@ -42,8 +42,12 @@ refusal-number FirstRow = 15
 refusal-number JoinList = 16
 refusal-number Room = 17
 refusal-number (TextLine n) = 18
+refusal-number (SavedBlank i) = 21
+refusal-number SavedSum = 22
+refusal-number (PlaceRule i) = 23
 
--- the place that it tells: the offset of the byte, the number of the component, the number of the line, and else 0
+-- the place that it tells: the offset of the byte, the number of the component, of the line or of the saved record (K stands in
+-- record 0), and else 0
 abbrev pub refusal-place : Refusal → ℕ
 refusal-place SequenceCount = 0
 refusal-place LetterCount = 0
@@ -55,7 +59,7 @@ refusal-place MotifLength = 0
 refusal-place (GapRange i) = i
 refusal-place Quorum = 0
 refusal-place SavedSize = 0
-refusal-place SavedLayout = 0
+refusal-place (SavedKind i) = i .0
 refusal-place OtherSet = 0
 refusal-place NotACandidate = 0
 refusal-place MotifNumber = 0
@@ -63,6 +67,9 @@ refusal-place FirstRow = 0
 refusal-place JoinList = 0
 refusal-place Room = 0
 refusal-place (TextLine n) = n
+refusal-place (SavedBlank i) = i .0
+refusal-place SavedSum = 0
+refusal-place (PlaceRule i) = i .0
 
 -- the number and the place of a refusal of the FASTA reader: 4 tells the offset in the file
 abbrev pub file-refusal-number : FileRefusal → ℕ

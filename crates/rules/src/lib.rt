@@ -21,6 +21,10 @@ pub struct Offset(pub usize);
 // An offset in a FASTA file, from 0: a counting beside those three, since a file holds more than its letters.
 pub struct FileOffset(pub usize);
 
+// A record's number in a save, from 0: the size record is record 0, a component's has the component's number, and the place record
+// comes after them.
+pub struct RecordNumber(pub u32);
+
 // The letters A, C, G, T: how many there are, and the mark that every other byte has for a value.
 pub struct Letter {}
 
@@ -88,7 +92,7 @@ impl Fasta {
     pub const LENGTH: usize = 4294967295;
 }
 
-// Why a call refuses, one name for each number from 1 to 18, with the place where one is told.
+// Why a call refuses, one name for each number from 1 to 18 and 21 to 23, with the place where one is told.
 pub enum Refusal {
     SequenceCount,
     LetterCount,
@@ -100,7 +104,7 @@ pub enum Refusal {
     GapRange(u8),
     Quorum,
     SavedSize,
-    SavedLayout,
+    SavedKind(RecordNumber),
     OtherSet,
     NotACandidate,
     MotifNumber,
@@ -108,6 +112,9 @@ pub enum Refusal {
     JoinList,
     Room,
     TextLine(usize),
+    SavedBlank(RecordNumber),
+    SavedSum,
+    PlaceRule(RecordNumber),
 }
 
 // What a check finds.

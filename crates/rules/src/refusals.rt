@@ -23,7 +23,7 @@ impl Refusal {
             Refusal::GapRange(_) => 8,
             Refusal::Quorum => 9,
             Refusal::SavedSize => 10,
-            Refusal::SavedLayout => 11,
+            Refusal::SavedKind(_) => 11,
             Refusal::OtherSet => 12,
             Refusal::NotACandidate => 13,
             Refusal::MotifNumber => 14,
@@ -31,6 +31,9 @@ impl Refusal {
             Refusal::JoinList => 16,
             Refusal::Room => 17,
             Refusal::TextLine(_) => 18,
+            Refusal::SavedBlank(_) => 21,
+            Refusal::SavedSum => 22,
+            Refusal::PlaceRule(_) => 23,
         }
     }
 
@@ -49,7 +52,7 @@ impl Refusal {
             Refusal::GapRange(i) => i as u64,
             Refusal::Quorum => 0,
             Refusal::SavedSize => 0,
-            Refusal::SavedLayout => 0,
+            Refusal::SavedKind(i) => i.0 as u64,
             Refusal::OtherSet => 0,
             Refusal::NotACandidate => 0,
             Refusal::MotifNumber => 0,
@@ -57,6 +60,9 @@ impl Refusal {
             Refusal::JoinList => 0,
             Refusal::Room => 0,
             Refusal::TextLine(n) => n as u64,
+            Refusal::SavedBlank(i) => i.0 as u64,
+            Refusal::SavedSum => 0,
+            Refusal::PlaceRule(i) => i.0 as u64,
         }
     }
 }

@@ -6,16 +6,15 @@ use mathlib.Core.List.{List, [], _∷_, _++_}
 use Prim.Native.Nat.{ℕ}
 use lib.ListN.{length}
 use Rattle.rules.specs.Calls.{written-unless, on-refusal, save-rule}
-use Rattle.rules.specs.Refusals.{_else_, first, check5, check6, check7, check8, check9, check10, check11, check12, check13, check17, set-checks, search-checks, save-checks, restore-checks}
+use Rattle.rules.specs.Refusals.{_else_, first, check5, check6, check7, check8, check13, check17, set-checks, search-checks, save-checks, restore-checks}
 use Rattle.rules.specs.Saved.{bytes, read-search, place-rule?}
 use Rattle.rules.specs.Sound.{SoundSet, SoundTemplate}
 use Rattle.rules.specs.Told.{Verdict, fine, refused, refuses}
 use Rattle.rules.specs.declared.Search.{Search}
-use Rattle.rules.proofs.EachCheck.{check11-fine}
-use Rattle.rules.proofs.LaidOut.{laid-out-says}
+use Rattle.rules.proofs.EachCheck.{check23-fine}
 use Rattle.rules.proofs.Sound.{set-sound, template-sound}
 use Rattle.rules.proofs.Verdicts.{else-fine, first-append, first-both, none-of, all-fine}
-use Rattle.saved.specs.Orders.{restore-checks-before-13}
+use Rattle.saved.specs.Orders.{saved-checks-before-13, restore-checks-before-13}
 
 -- a check made after others
 pub then-next : (us : List Verdict) {q r w v : Verdict} → r ≡ q else w → q ≡ first us → w ≡ v → r ≡ first (us ++ (v ∷ []))
@@ -43,13 +42,13 @@ module _ (letters lengths : List ℕ) where
     ready e =
         let s = read-search bs in
         let t = s .template in
-        let rest = check10 bs ∷ check5 t ∷ check11 bs ∷ check6 t ∷ check7 t ∷ check8 t ∷ check12 letters lengths s ∷ check9 lengths (s .quorum) ∷ [] in
+        let rest = saved-checks-before-13 letters lengths bs in
         let h = first-both (set-checks letters lengths) rest .0 e in
         let c = none-of rest (h .1) in
         record {
           set = set-sound letters lengths (h .0);
-          template = template-sound t (all-fine (check5 t ∷ check6 t ∷ check7 t ∷ check8 t ∷ []) (c 1, (c 3, (c 4, (c 5, tt)))));
-          place = (laid-out-says bs (check11-fine bs .0 (c 2))) .rule;
+          template = template-sound t (all-fine (check5 t ∷ check6 t ∷ check7 t ∷ check8 t ∷ []) (c 1, (c 6, (c 7, (c 8, tt)))));
+          place = check23-fine s .0 (c 5);
         }
 
     -- the whole order

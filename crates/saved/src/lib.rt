@@ -1,51 +1,40 @@
 // Save and restore: a search as bytes, and bytes as a search. Both check all that they are given, in the paper's order.
-mod layout;
+mod blanks;
+mod kinds;
 mod read;
+mod sizes;
 mod write;
 
 ghost use mathlib.Core.Bool.{true};
 ghost use mathlib.Core.Path.{_≡_};
 ghost use Rattle.rules.specs.Calls.{save-rule, restore-rule, unless};
-ghost use Rattle.rules.specs.Refusals.{first, check10, check11, check13, search-checks, restore-checks};
+ghost use Rattle.rules.specs.Refusals.{first, check13, search-checks, restore-checks};
 ghost use Rattle.rules.specs.Saved.{read-search, place-rule?};
 ghost use Rattle.rules.specs.Sound.{SoundSet, SoundTemplate};
 ghost use Rattle.rules.specs.Told.{toldChecked, toldSaved, toldBegun};
 ghost use Rattle.saved.specs.Orders.{restore-checks-before-13};
+use blanks::check_blanks;
 use checks::check_count;
 use checks::check_gaps;
 use checks::check_lengths;
+use checks::check_place;
 use checks::check_quorum;
 use checks::check_same_set;
 use checks::check_set;
 use checks::check_size;
-use layout::laid_out;
-use layout::sized;
+use kinds::check_kinds;
 use places::check_passes;
 use read::read_search;
 use rules::Begun;
 use rules::Checked;
-use rules::Refusal;
 use rules::Saved;
 use rules::Search;
 use rules::SequenceSet;
+use sizes::check_adds_up;
+use sizes::check_sized;
 use write::write;
 
-// 10: bytes that are not as long as the records that they count.
-fn check_sized(bytes: &[u8]) -> Checked
-    ensures { λ r. ⌜ toldChecked r ≡ check10 (now (bytes .entry)) ⌝ }
-{
-    Checked::refuse_if(!sized(bytes), Refusal::SavedSize)
-}
-
-// 11: bytes of a search that do not keep their layout.
-fn check_layout(bytes: &[u8], s: Search) -> Checked
-    requires { ⌜ s ≡ read-search (now bytes) ⌝ }
-    ensures { λ r. ⌜ toldChecked r ≡ check11 (now (bytes .entry)) ⌝ }
-{
-    Checked::refuse_if(!laid_out(bytes, s), Refusal::SavedLayout)
-}
-
-// 1 to 4, 10, 5, 11, 6, 7, 8, 12, 9: a restore's order before 13.
+// 1 to 4, 10, 5, 11, 21, 22, 23, 6, 7, 8, 12, 9: a restore's order before 13.
 fn check_saved(letters: &[u8], lengths: &[u32], bytes: &[u8], s: Search) -> Checked
     requires { ⌜ s ≡ read-search (now bytes) ⌝ }
     ensures { λ r. ⌜ toldChecked r ≡ first (restore-checks-before-13 (now (letters .entry)) (now (lengths .entry)) (now (bytes .entry))) ⌝ }
@@ -55,7 +44,10 @@ fn check_saved(letters: &[u8], lengths: &[u32], bytes: &[u8], s: Search) -> Chec
     check_set(letters, lengths)
         .then(check_sized(bytes))
         .then(check_count(t))
-        .then(check_layout(bytes, s))
+        .then(check_kinds(bytes))
+        .then(check_blanks(bytes))
+        .then(check_adds_up(bytes, s))
+        .then(check_place(s))
         .then(check_lengths(t))
         .then(check_size(t))
         .then(check_gaps(t))
@@ -108,7 +100,7 @@ pub fn restore(letters: &[u8], lengths: &[u32], bytes: &[u8]) -> Begun
     begun(s, found)
 }
 
-// 1 to 4, 5, 11, 6, 7, 8, 12, 9, 13: a save's order before 17. The two tables are for the work.
+// 1 to 4, 5, 23, 6, 7, 8, 12, 9, 13: a save's order before 17. The two tables are for the work.
 fn check_search(letters: &[u8], lengths: &[u32], s: Search) -> Checked
     ensures { λ r. ⌜ toldChecked r ≡ first (search-checks (now (letters .entry)) (now (lengths .entry)) s) ⌝ }
 {

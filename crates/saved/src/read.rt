@@ -18,14 +18,13 @@ fn at(bytes: &[u8], j: usize) -> u8
     if j < bytes.len() { bytes[j] } else { 0 }
 }
 
-// The number in n bytes of record i, from byte k on, the low byte first. A byte counts the records, so that there are no more
-// than 256.
-pub(crate) fn field(bytes: &[u8], i: usize, k: usize, n: usize) -> u64
-    requires { ⌜ (i ≤ 256) × (k + n ≤ Record-BYTES) × (n ≤ 8) ⌝ }
+// The number in n bytes of record i, from byte k on, the low byte first.
+pub(crate) fn field(bytes: &[u8], i: u32, k: usize, n: usize) -> u64
+    requires { ⌜ (k + n ≤ Record-BYTES) × (n ≤ 8) ⌝ }
     ensures { λ r. ⌜ r ≡ field (record-at (now (bytes .entry)) i) k n ⌝ }
     ensures { λ r. ⌜ r < 256 ^ n ⌝ }
 {
-    let from = Record::BYTES * i + k;
+    let from = Record::BYTES * (i as usize) + k;
     let mut x: u64 = 0;
     let mut j = n;
     while 0 < j {
@@ -56,8 +55,7 @@ pub(crate) fn component_count(bytes: &[u8]) -> u8
 }
 
 // The component that record i holds.
-fn read_component(bytes: &[u8], i: usize) -> Component
-    requires { ⌜ i ≤ 256 ⌝ }
+fn read_component(bytes: &[u8], i: u32) -> Component
     ensures { λ r. ⌜ r ≡ read-component (record-at (now (bytes .entry)) i) ⌝ }
 {
     let length = field(bytes, i, 2, 1) as u16;
@@ -90,8 +88,7 @@ fn read_template(bytes: &[u8]) -> Template
 }
 
 // The place that record i holds.
-fn read_place(bytes: &[u8], i: usize) -> Place
-    requires { ⌜ i ≤ 256 ⌝ }
+fn read_place(bytes: &[u8], i: u32) -> Place
     ensures { λ r. ⌜ r ≡ read-place (record-at (now (bytes .entry)) i) ⌝ }
 {
     let letters = field(bytes, i, 1, 1) as u8;
@@ -108,7 +105,7 @@ pub(crate) fn read_search(bytes: &[u8]) -> Search
     let sequences = field(bytes, 0, 4, 2) as u32;
     let letters = field(bytes, 0, 8, 4) as u32;
     let set = SequenceSet { sequences, letters };
-    let last = component_count(bytes) as usize + 1;
+    let last = component_count(bytes) as u32 + 1;
     let place = read_place(bytes, last);
     Search {
         template,

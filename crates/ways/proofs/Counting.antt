@@ -40,7 +40,7 @@ ways-past c (d ∷ ds) s o some h = rw (← (stands-by-short (c .fits) (c .slack
 -- the counts have the ways of each position
 pub counts-inside : (cs : List Part) (s : List ℕ) (o : ℕ) → o < length s → getD (counts cs s) o 0 ≡ ways cs s (suc o)
 unfolding counts
-counts-inside cs s o h = getD-map-run (ways cs s) 1 (length s) o h ∙ ap (ways cs s) (one-add o)
+counts-inside cs s o h = getD-map-run (ways cs s) 0 1 (length s) o h ∙ ap (ways cs s) (one-add o)
 
 -- and 0 where there are none
 counts-at : (c : Part) (cs : List Part) (s : List ℕ) → 0 < length (c .word) → (p : ℕ) → entry (counts (c ∷ cs) s) p ≡ ways (c ∷ cs) s p

@@ -19,7 +19,7 @@ over-most f b h n e (suc o) = rw e (go 1 n o)
   where
     go : (a n i : ℕ) → getD (map f (run a n)) i 0 ≤ b
     go a n i = elim (decLt i n) [
-      | yes l ↦ rw (getD-map-run f a n i l) (h (a + i))
+      | yes l ↦ rw (getD-map-run f 0 a n i l) (h (a + i))
       | no l ↦ rw (List·getD-eq-default (map f (run a n)) 0 {n = i} (rw (length-map-run f a n) (omega arith))) (omega arith)
     ]
 

@@ -19,41 +19,59 @@ check-count-requires c κs = search needs
 then-requires-2 : tie.Need-then-requires-2
 then-requires-2 c κs = search needs
 
-check-layout-requires : tie.Need-check-layout-requires
-check-layout-requires c κs = search needs
+check-kinds-requires : tie.Need-check-kinds-requires
+check-kinds-requires c κs = search needs
 
 then-requires-3 : tie.Need-then-requires-3
 then-requires-3 c κs = search needs
 
-check-lengths-requires : tie.Need-check-lengths-requires
-check-lengths-requires c κs = search needs
+check-blanks-requires : tie.Need-check-blanks-requires
+check-blanks-requires c κs = search needs
 
 then-requires-4 : tie.Need-then-requires-4
 then-requires-4 c κs = search needs
 
-check-size-requires : tie.Need-check-size-requires
-check-size-requires c κs = search needs
+check-adds-up-requires : tie.Need-check-adds-up-requires
+check-adds-up-requires c κs = search needs
 
 then-requires-5 : tie.Need-then-requires-5
 then-requires-5 c κs = search needs
 
-check-gaps-requires : tie.Need-check-gaps-requires
-check-gaps-requires c κs = search needs
+check-place-requires : tie.Need-check-place-requires
+check-place-requires c κs = search needs
 
 then-requires-6 : tie.Need-then-requires-6
 then-requires-6 c κs = search needs
 
-check-same-set-requires : tie.Need-check-same-set-requires
-check-same-set-requires c κs = search needs
+check-lengths-requires : tie.Need-check-lengths-requires
+check-lengths-requires c κs = search needs
 
 then-requires-7 : tie.Need-then-requires-7
 then-requires-7 c κs = search needs
 
-check-quorum-requires : tie.Need-check-quorum-requires
-check-quorum-requires c κs = search needs
+check-size-requires : tie.Need-check-size-requires
+check-size-requires c κs = search needs
 
 then-requires-8 : tie.Need-then-requires-8
 then-requires-8 c κs = search needs
+
+check-gaps-requires : tie.Need-check-gaps-requires
+check-gaps-requires c κs = search needs
+
+then-requires-9 : tie.Need-then-requires-9
+then-requires-9 c κs = search needs
+
+check-same-set-requires : tie.Need-check-same-set-requires
+check-same-set-requires c κs = search needs
+
+then-requires-10 : tie.Need-then-requires-10
+then-requires-10 c κs = search needs
+
+check-quorum-requires : tie.Need-check-quorum-requires
+check-quorum-requires c κs = search needs
+
+then-requires-11 : tie.Need-then-requires-11
+then-requires-11 c κs = search needs
 
 returns : tie.Need-returns
 returns c =
@@ -65,18 +83,26 @@ returns c =
     let h = g .before .before in
     let i = h .before .before in
     let j = i .before .before in
-    let s = j .before .before .before .before .before in
+    let k = j .before .before in
+    let l = k .before .before in
+    let s = l .before .before .before .before .before .before .before in
     rw (← s .pre)
-    (then-next _ (c .then8 .ensures)
-    (then-next _ (b .then7 .ensures)
-    (then-next _ (d .then6 .ensures)
-    (then-next _ (e .then5 .ensures)
-    (then-next _ (f .then4 .ensures)
-    (then-next _ (g .then3 .ensures)
-    (then-next _ (h .then2 .ensures)
-    (then-next _ (i .then .ensures) (j .check-set .ensures) (i .before .check-sized .ensures))
-    (h .before .check-count .ensures))
-    (g .before .check-layout .ensures))
+    (then-next _ (c .then11 .ensures)
+    (then-next _ (b .then10 .ensures)
+    (then-next _ (d .then9 .ensures)
+    (then-next _ (e .then8 .ensures)
+    (then-next _ (f .then7 .ensures)
+    (then-next _ (g .then6 .ensures)
+    (then-next _ (h .then5 .ensures)
+    (then-next _ (i .then4 .ensures)
+    (then-next _ (j .then3 .ensures)
+    (then-next _ (k .then2 .ensures)
+    (then-next _ (l .then .ensures) (l .before .before .check-set .ensures) (l .before .check-sized .ensures))
+    (k .before .check-count .ensures))
+    (j .before .check-kinds .ensures))
+    (i .before .check-blanks .ensures))
+    (h .before .check-adds-up .ensures))
+    (g .before .check-place .ensures))
     (f .before .check-lengths .ensures))
     (e .before .check-size .ensures))
     (d .before .check-gaps .ensures))
@@ -92,16 +118,22 @@ check-saved-spec =
     then-requires
     check-count-requires
     then-requires-2
-    check-layout-requires
+    check-kinds-requires
     then-requires-3
-    check-lengths-requires
+    check-blanks-requires
     then-requires-4
-    check-size-requires
+    check-adds-up-requires
     then-requires-5
-    check-gaps-requires
+    check-place-requires
     then-requires-6
-    check-same-set-requires
+    check-lengths-requires
     then-requires-7
-    check-quorum-requires
+    check-size-requires
     then-requires-8
+    check-gaps-requires
+    then-requires-9
+    check-same-set-requires
+    then-requires-10
+    check-quorum-requires
+    then-requires-11
     returns)

@@ -16,7 +16,7 @@ shared-slice-read-result c =
 returns : tie.Need-returns
 returns c =
     let b = c .before in
-    rw (b .pre) (getD-map-run value 0 256 (b .args .b) (b .fits .b .fits) ∙ ap value (zero-add (b .args .b)))
+    rw (b .pre) (getD-map-run value 0 0 256 (b .args .b) (b .fits .b .fits) ∙ ap value (zero-add (b .args .b)))
 
 pub value-spec : {M : Type 1} → statement M
 value-spec = tie.close (tie.spec shared-slice-read-result returns)

@@ -39,6 +39,12 @@ enum-told-6 c = search needs
 enum-told-7 : tie.Need-enum-told-7
 enum-told-7 c = search needs
 
+enum-known-self-4 : tie.Need-enum-known-self-4
+enum-known-self-4 c = search needs
+
+cast-result-3 : tie.Need-cast-result-3
+cast-result-3 c = search needs
+
 enum-told-8 : tie.Need-enum-told-8
 enum-told-8 c = search needs
 
@@ -57,11 +63,23 @@ enum-told-12 c = search needs
 enum-told-13 : tie.Need-enum-told-13
 enum-told-13 c = search needs
 
+enum-known-self-5 : tie.Need-enum-known-self-5
+enum-known-self-5 c = search needs
+
+enum-known-self-6 : tie.Need-enum-known-self-6
+enum-known-self-6 c = search needs
+
+cast-result-4 : tie.Need-cast-result-4
+cast-result-4 c = search needs
+
 enum-told-14 : tie.Need-enum-told-14
 enum-told-14 c = search needs
 
-enum-known-self-4 : tie.Need-enum-known-self-4
-enum-known-self-4 c = search needs
+enum-known-self-7 : tie.Need-enum-known-self-7
+enum-known-self-7 c = search needs
+
+cast-result-5 : tie.Need-cast-result-5
+cast-result-5 c = search needs
 
 returns : tie.Need-returns
 returns c = rw (c .enum-told .given .1)
@@ -94,28 +112,37 @@ returns-10 : tie.Need-returns-10
 returns-10 c = rw (c .enum-told7 .given .1)
 
 returns-11 : tie.Need-returns-11
-returns-11 c = rw (c .enum-told8 .given .1)
+returns-11 c = rw (c .before .before .self4 .given .1)
 
 returns-12 : tie.Need-returns-12
-returns-12 c = rw (c .enum-told9 .given .1)
+returns-12 c = rw (c .enum-told8 .given .1)
 
 returns-13 : tie.Need-returns-13
-returns-13 c = rw (c .enum-told10 .given .1)
+returns-13 c = rw (c .enum-told9 .given .1)
 
 returns-14 : tie.Need-returns-14
-returns-14 c = rw (c .enum-told11 .given .1)
+returns-14 c = rw (c .enum-told10 .given .1)
 
 returns-15 : tie.Need-returns-15
-returns-15 c = rw (c .enum-told12 .given .1)
+returns-15 c = rw (c .enum-told11 .given .1)
 
 returns-16 : tie.Need-returns-16
-returns-16 c = rw (c .enum-told13 .given .1)
+returns-16 c = rw (c .enum-told12 .given .1)
 
 returns-17 : tie.Need-returns-17
-returns-17 c = rw (c .enum-told14 .given .1)
+returns-17 c = rw (c .enum-told13 .given .1)
 
 returns-18 : tie.Need-returns-18
-returns-18 c = rw (c .before .self4 .given .1)
+returns-18 c = rw (c .before .self5 .given .1)
+
+returns-19 : tie.Need-returns-19
+returns-19 c = rw (c .before .before .self6 .given .1)
+
+returns-20 : tie.Need-returns-20
+returns-20 c = rw (c .enum-told14 .given .1)
+
+returns-21 : tie.Need-returns-21
+returns-21 c = rw (c .before .before .self7 .given .1)
 
 pub place-spec : {M : Type 1} → statement M
 place-spec =
@@ -133,14 +160,20 @@ place-spec =
     cast-result-2
     enum-told-6
     enum-told-7
+    enum-known-self-4
+    cast-result-3
     enum-told-8
     enum-told-9
     enum-told-10
     enum-told-11
     enum-told-12
     enum-told-13
+    enum-known-self-5
+    enum-known-self-6
+    cast-result-4
     enum-told-14
-    enum-known-self-4
+    enum-known-self-7
+    cast-result-5
     returns
     returns-2
     returns-3
@@ -158,4 +191,7 @@ place-spec =
     returns-15
     returns-16
     returns-17
-    returns-18)
+    returns-18
+    returns-19
+    returns-20
+    returns-21)

@@ -39,7 +39,7 @@ more : (c : tie.After-at Inv-loop μ-loop) → let l = c .before .before .loop i
 more c =
     let l = c .before .before .loop in
     let s = c .before .before .before .before in
-    read-next (s .args .bytes .now) (Record-BYTES * s .args .i + s .args .k) (s .args .n) (l .j) (l .x) (c .at .result) (l .inv) (s .pre .2) (c .before .loop-test .taken) (c .at .ensures) (omega arith)
+    read-next (s .args .bytes .now) (Record-BYTES * s .args .i + s .args .k) (s .args .n) (l .j) (l .x) (c .at .result) (l .inv) (s .pre .1) (c .before .loop-test .taken) (c .at .ensures) (omega arith)
 
 mul-x : tie.Need-mul-x Inv-loop μ-loop
 mul-x c = omega (arith, more c .1)
@@ -57,7 +57,7 @@ returns : tie.Need-returns Inv-loop μ-loop
 returns c =
     let l = c .before .loop in
     let s = c .before .before .before in
-    read-all (s .args .bytes .now) (s .args .i) (s .args .k) (s .args .n) (l .j) (l .x) (l .inv) (s .pre .1) (c .loop-test .left)
+    read-all (s .args .bytes .now) (s .args .i) (s .args .k) (s .args .n) (l .j) (l .x) (l .inv) (s .pre .0) (c .loop-test .left)
 
 pub field-spec : {M : Type 1} → statement M
 field-spec =

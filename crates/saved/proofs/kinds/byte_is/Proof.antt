@@ -1,7 +1,7 @@
 -- `byte_is`: one byte is a field of its own.
 use borrow.Author.Needs.{needs}
-use Rattle.saved.proofs.layout.byte_is.Statement.{statement}
-use Rattle.saved.proofs.layout.byte_is.Tie as tie
+use Rattle.saved.proofs.kinds.byte_is.Statement.{statement}
+use Rattle.saved.proofs.kinds.byte_is.Tie as tie
 
 field-requires : tie.Need-field-requires
 field-requires c κs = search needs

@@ -1,8 +1,8 @@
 -- `blank`: bytes are all 0 exactly if the number that they are is 0.
 use Rattle.saved.proofs.Fields.{blank-is}
 use borrow.Author.Needs.{needs}
-use Rattle.saved.proofs.layout.blank.Statement.{statement}
-use Rattle.saved.proofs.layout.blank.Tie as tie
+use Rattle.saved.proofs.blanks.blank.Statement.{statement}
+use Rattle.saved.proofs.blanks.blank.Tie as tie
 
 field-requires : tie.Need-field-requires
 field-requires c κs = search needs

@@ -1,7 +1,8 @@
--- `adds_up`: both numbers are as promised.
+-- `adds_up`: both numbers are as promised, and the search is the one that the bytes hold.
+use Rattle.rules.specs.Saved.{read-search, sums?}
 use borrow.Author.Needs.{needs}
-use Rattle.saved.proofs.layout.adds_up.Statement.{statement}
-use Rattle.saved.proofs.layout.adds_up.Tie as tie
+use Rattle.saved.proofs.sizes.adds_up.Statement.{statement}
+use Rattle.saved.proofs.sizes.adds_up.Tie as tie
 
 field-requires : tie.Need-field-requires
 field-requires c κs = search needs
@@ -13,7 +14,8 @@ cast-sum : tie.Need-cast-sum
 cast-sum c = search needs
 
 returns : tie.Need-returns
-returns c = rw (c .letters .ensures, c .before .field .ensures .0)
+unfolding sums? read-search
+returns c = rw (c .letters .ensures, c .before .field .ensures .0, c .before .before .before .pre)
 
 pub adds-up-spec : {M : Type 1} → statement M
 adds-up-spec = tie.close (tie.spec field-requires letters-requires cast-sum returns)

@@ -1,8 +1,8 @@
 -- `sized`: the three tests of the definition.
 use Rattle.rules.specs.Saved.{sized?}
 use borrow.Author.Needs.{needs}
-use Rattle.saved.proofs.layout.sized.Statement.{statement}
-use Rattle.saved.proofs.layout.sized.Tie as tie
+use Rattle.saved.proofs.sizes.sized.Statement.{statement}
+use Rattle.saved.proofs.sizes.sized.Tie as tie
 
 record-count-requires : tie.Need-record-count-requires
 record-count-requires c κs = search needs

@@ -1,8 +1,8 @@
 -- `check_sized`: the test of 10.
 use Rattle.rules.specs.Refusals.{check10}
 use borrow.Author.Needs.{needs}
-use Rattle.saved.proofs.check_sized.Statement.{statement}
-use Rattle.saved.proofs.check_sized.Tie as tie
+use Rattle.saved.proofs.sizes.check_sized.Statement.{statement}
+use Rattle.saved.proofs.sizes.check_sized.Tie as tie
 
 sized-requires : tie.Need-sized-requires
 sized-requires c κs = search needs

@@ -1,0 +1,113 @@
+-- Small facts of damaged saves: what the definitions compute beside what request 2 says of the save of the paper's p9 (E, quorum 2,
+-- after 4 steps) with bytes of it changed.
+use mathlib.Core.List.{List, [], _∷_, _++_, map}
+use mathlib.Core.Path.{_≡_, refl}
+use Prim.Native.Nat.{ℕ, _+_, _*_}
+use lib.ListN.{take, replicate}
+use Rattle.rules.specs.Calls.{moved, restore-rule, save-rule}
+use Rattle.rules.specs.Facts.{Fact, is, letters, lengths, pair}
+use Rattle.rules.specs.Letters.{value, letter?}
+use Rattle.rules.specs.Lists.{run, all?, sum, joined, put, put-at}
+use Rattle.rules.specs.Motif.{spell}
+use Rattle.rules.specs.Profile.{allowed, exactly, profile-of}
+use Rattle.rules.specs.Refusals.{_else_, first, first-bad, check1, check2, check3, check4, check5, check6, check7, check8, check9, check10, check11, check12, check13, check17, check21, check22, check23, restore-checks, search-checks, save-checks}
+use Rattle.rules.specs.Saved.{low-first, read-low, size-record, component-record, place-record, component-records, records, bytes, record-at, field, record-count, component-count, read-component, read-place, read-template, read-search, sized?, blank?, size-kind?, component-kind?, place-kind?, size-blank?, component-blank?, place-blank?, saved-records, kind?, unnamed-blank?, sums?, place-rule?}
+use Rattle.rules.specs.Support.{allowed-in}
+use Rattle.rules.specs.Template.{components, size}
+use Rattle.rules.specs.Told.{Told, gives, refuses}
+use Rattle.rules.specs.Walk.{place}
+use Rattle.rules.specs.declared.Place.{Place}
+use Rattle.rules.specs.declared.Search.{Search}
+
+-- the save: the size record, a record for each of the two components, and the place record, which are its records 0 to 3
+saved : List ℕ
+saved =
+    0x01 ∷ 0x04 ∷ 0x02 ∷ 0x00 ∷ 0x03 ∷ 0x00 ∷ 0x02 ∷ 0x00 ∷ 0x0C ∷ 0x00 ∷ 0x00 ∷ 0x00 ∷ 0x00 ∷ 0x00 ∷ 0x00 ∷ 0x00
+    ∷ 0x02 ∷ 0x01 ∷ 0x01 ∷ 0x00 ∷ 0x00 ∷ 0x00 ∷ 0x00 ∷ 0x00 ∷ 0x00 ∷ 0x00 ∷ 0x00 ∷ 0x00 ∷ 0x00 ∷ 0x00 ∷ 0x00 ∷ 0x00
+    ∷ 0x02 ∷ 0x02 ∷ 0x01 ∷ 0x00 ∷ 0x00 ∷ 0x00 ∷ 0x01 ∷ 0x00 ∷ 0x00 ∷ 0x00 ∷ 0x00 ∷ 0x00 ∷ 0x00 ∷ 0x00 ∷ 0x00 ∷ 0x00
+    ∷ 0x03 ∷ 0x02 ∷ 0x00 ∷ 0x00 ∷ 0x00 ∷ 0x00 ∷ 0x00 ∷ 0x00 ∷ 0x03 ∷ 0x00 ∷ 0x00 ∷ 0x00 ∷ 0x00 ∷ 0x00 ∷ 0x00 ∷ 0x00
+    ∷ []
+
+-- byte k of record i made x
+with-byte : ℕ → ℕ → ℕ → List ℕ → List ℕ
+with-byte i k x bs = put-at (16 * i + k) (x ∷ []) bs
+
+-- what a restore tells: the place of the search that it gives, or its refusal's number and place
+told : List ℕ → List ℕ
+told bs = as-numbers (restore-rule letters lengths bs)
+  where
+    as-numbers : Told Search → List ℕ
+    as-numbers (gives s) = s .place .letters ∷ s .place .number ∷ []
+    as-numbers (refuses n p) = n ∷ p ∷ []
+
+-- the search that is saved so: it stands at AT
+search : Search
+search = record { template = pair; quorum = 2; set = record { sequences = 3; letters = 12 }; place = place 2 3 }
+
+-- the same with another place, or with another number of components too, and what a save of a search tells
+counting : ℕ → Place → Search
+counting n p =
+    record {
+      template = record { count = n; c1 = pair .c1; c2 = pair .c2; c3 = pair .c3; c4 = pair .c4; c5 = pair .c5; c6 = pair .c6 };
+      quorum = search .quorum;
+      set = search .set;
+      place = p;
+    }
+
+told-of-save : Search → List ℕ
+told-of-save s = as-numbers ((save-rule letters lengths s (replicate 64 9)) .told)
+  where
+    as-numbers : Told ℕ → List ℕ
+    as-numbers (gives n) = n ∷ []
+    as-numbers (refuses n p) = n ∷ p ∷ []
+
+-- ONE BYTE CHANGED
+one-changed : List Fact
+one-changed =
+    -- the save as it is
+    is (bytes search) saved
+    -- 11, with the record's number: the kind of each record, and the number of a component's
+    ∷ is (told (with-byte 0 0 2 saved)) (11 ∷ 0 ∷ [])
+    ∷ is (told (with-byte 1 0 3 saved)) (11 ∷ 1 ∷ [])
+    ∷ is (told (with-byte 2 1 1 saved)) (11 ∷ 2 ∷ [])
+    ∷ is (told (with-byte 3 0 1 saved)) (11 ∷ 3 ∷ [])
+    -- 21: bytes that must be 0, in each of the records
+    ∷ is (told (with-byte 0 15 1 saved)) (21 ∷ 0 ∷ [])
+    ∷ is (told (with-byte 1 3 1 saved)) (21 ∷ 1 ∷ [])
+    ∷ is (told (with-byte 2 8 1 saved)) (21 ∷ 2 ∷ [])
+    ∷ is (told (with-byte 3 7 1 saved)) (21 ∷ 3 ∷ [])
+    -- 22: K is 3 where the lengths add up to 2, or 2 where they add up to 3
+    ∷ is (told (with-byte 0 6 3 saved)) (22 ∷ 0 ∷ [])
+    ∷ is (told (with-byte 2 2 2 saved)) (22 ∷ 0 ∷ [])
+    -- 23: a place of 3 letters where K is 2, and the number 16 of 2 letters
+    ∷ is (told (with-byte 3 1 3 saved)) (23 ∷ 3 ∷ [])
+    ∷ is (told (with-byte 3 8 16 saved)) (23 ∷ 3 ∷ [])
+    ∷ []
+
+-- SEVERAL
+several-changed : List Fact
+several-changed =
+    -- the order of the numbers comes first: 11 in the last record before 21, 22 and 23, and so on
+    is (told (with-byte 3 0 1 (with-byte 0 15 1 (with-byte 0 6 3 (with-byte 3 1 9 saved))))) (11 ∷ 3 ∷ [])
+    ∷ is (told (with-byte 3 7 1 (with-byte 0 6 3 (with-byte 3 1 9 saved)))) (21 ∷ 3 ∷ [])
+    ∷ is (told (with-byte 0 6 3 (with-byte 3 1 9 saved))) (22 ∷ 0 ∷ [])
+    -- of two records that break the same, the first is told
+    ∷ is (told (with-byte 1 0 3 (with-byte 3 0 1 saved))) (11 ∷ 1 ∷ [])
+    ∷ is (told (with-byte 1 3 1 (with-byte 2 8 1 saved))) (21 ∷ 1 ∷ [])
+    -- 10 and 5 come before all of these, and 23 before 6: a component of no letters, so that K is 1 and the place has one too many
+    ∷ is (told (with-byte 0 0 2 (take 63 saved))) (10 ∷ 0 ∷ [])
+    ∷ is (told (with-byte 0 0 2 (with-byte 0 1 2 (take 32 saved)))) (5 ∷ 0 ∷ [])
+    ∷ is (told (with-byte 2 2 0 (with-byte 0 6 1 saved))) (23 ∷ 3 ∷ [])
+    -- a save sees 23 alone, with the number that the place record would have
+    ∷ is (told-of-save (moved search (place 3 0))) (23 ∷ 3 ∷ [])
+    ∷ is (told-of-save (moved search (place 2 16))) (23 ∷ 3 ∷ [])
+    -- 5 comes before it, and it before 6: a third component, of no letters
+    ∷ is (told-of-save (counting 0 (place 3 0))) (5 ∷ 0 ∷ [])
+    ∷ is (told-of-save (counting 7 (place 3 0))) (5 ∷ 0 ∷ [])
+    ∷ is (told-of-save (counting 3 (place 3 0))) (23 ∷ 4 ∷ [])
+    ∷ is (told-of-save (counting 3 (place 2 3))) (6 ∷ 3 ∷ [])
+    ∷ []
+
+the-facts : map (λ f. f .computed) (one-changed ++ several-changed) ≡ map (λ f. f .paper) (one-changed ++ several-changed)
+unfolding one-changed several-changed saved with-byte told search counting told-of-save letters lengths pair value letter? run all? sum joined put put-at spell allowed exactly profile-of _else_ first first-bad check1 check2 check3 check4 check5 check6 check7 check8 check9 check10 check11 check12 check13 check17 check21 check22 check23 restore-checks search-checks save-checks low-first read-low size-record component-record place-record component-records records bytes record-at field record-count component-count read-component read-place read-template read-search sized? blank? size-kind? component-kind? place-kind? size-blank? component-blank? place-blank? saved-records kind? unnamed-blank? sums? place-rule? allowed-in components size restore-rule save-rule
+the-facts = refl

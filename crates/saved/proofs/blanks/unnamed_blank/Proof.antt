@@ -1,0 +1,42 @@
+-- `unnamed_blank`: the bytes that the paper does not name, by the kind of the record.
+use borrow.Author.Tests.{ne-eqb, le-leb, lt-leb}
+use Rattle.rules.specs.Saved.{unnamed-blank?, size-blank?, component-blank?, place-blank?}
+use borrow.Author.Needs.{needs}
+use Rattle.saved.proofs.blanks.unnamed_blank.Statement.{statement}
+use Rattle.saved.proofs.blanks.unnamed_blank.Tie as tie
+
+blank-requires : tie.Need-blank-requires
+blank-requires c κs = search needs
+
+returns : tie.Need-returns
+unfolding unnamed-blank? size-blank?
+returns c = rw (c .blank .ensures, c .before .if1 .taken)
+
+blank-requires-2 : tie.Need-blank-requires-2
+blank-requires-2 c κs = search needs
+
+blank-requires-3 : tie.Need-blank-requires-3
+blank-requires-3 c κs = search needs
+
+returns-2 : tie.Need-returns-2
+unfolding unnamed-blank? component-blank?
+returns-2 c = rw (c .blank3 .ensures, c .before .blank2 .ensures, ne-eqb _ 0 (c .before .before .before .if1 .left), le-leb _ _ (c .before .before .if2 .taken))
+
+blank-requires-4 : tie.Need-blank-requires-4
+blank-requires-4 c κs = search needs
+
+returns-3 : tie.Need-returns-3
+unfolding unnamed-blank? place-blank?
+returns-3 c = rw (c .blank4 .ensures, ne-eqb _ 0 (c .before .before .if1 .left), lt-leb _ _ (c .before .if2 .left))
+
+pub unnamed-blank-spec : {M : Type 1} → statement M
+unnamed-blank-spec =
+    tie.close
+    (tie.spec
+    blank-requires
+    returns
+    blank-requires-2
+    blank-requires-3
+    returns-2
+    blank-requires-4
+    returns-3)
