@@ -12,8 +12,26 @@ static const uint8_t letters[12] = {'A', 'C', 'G', 'T', 'A', 'C', 'A', 'G', 'G',
 static const uint32_t lengths[3] = {5, 5, 2};
 static const uint16_t shape[6] = {1, 0, 0, 1, 0, 1};
 
+/* What is wrong with saved bytes. */
+static const char *fault(uint64_t answer) {
+    switch (answer) {
+    case TULFASHEQ_SAVED_SIZE:
+        return "not as long as its records";
+    case TULFASHEQ_SAVED_KIND:
+        return "wrong kind, or wrong number of a component";
+    case TULFASHEQ_SAVED_BLANK:
+        return "a byte that must be 0 is not";
+    case TULFASHEQ_SAVED_SUM:
+        return "the lengths do not add up";
+    case TULFASHEQ_PLACE_RULE:
+        return "no place of this template";
+    default:
+        return "see tulfasheq.h";
+    }
+}
+
 static int refused(uint64_t answer, uint64_t place) {
-    printf("refused %" PRIu64 " %" PRIu64 "\n", answer, place);
+    printf("refused %" PRIu64 " %" PRIu64 ": %s\n", answer, place, fault(answer));
     return 1;
 }
 
@@ -46,5 +64,19 @@ int main(void) {
     memcpy(copy, saved, size);
     if (leg(copy, size, UINT64_MAX))
         return 1;
-    return leg(saved, size - 1, 1) ? 0 : 1; /* bytes cut short are refused */
+    /* Bytes cut short are refused, and so are damaged ones, with the record that is bad: a wrong kind, a byte that must be 0 in the
+     * first component's record, a wrong sum, a place of 9 letters. */
+    static const struct {
+        size_t at;
+        uint8_t byte;
+    } damage[4] = {{0, 9}, {19, 9}, {6, 9}, {49, 9}};
+    if (!leg(saved, size - 1, 1))
+        return 1;
+    for (int i = 0; i < 4; i++) {
+        memcpy(copy, saved, size);
+        copy[damage[i].at] = damage[i].byte;
+        if (!leg(copy, size, 1))
+            return 1;
+    }
+    return 0;
 }

@@ -19,7 +19,9 @@
  * at its new place. They may be stored, copied and handed on: a copy goes on from where it was taken, over the same sequences.
  * They lie in ordinary memory, the caller's array. To store them, write a new file, and rename it over the last one once it is
  * whole. Bytes cut short are refused (10); a save written over an older one and cut in the middle is not covered: it can be as
- * long as it should be, partly new and partly old, and pass every check.
+ * long as it should be, partly new and partly old, and pass every check. A save is records of 16 bytes, counted from 0: the size
+ * record, one for each component, which has the component's number, and last the place record. Damaged bytes are refused with the
+ * number of the record that is bad (11, 21 to 23).
  *
  * Every call answers TULFASHEQ_OK, or a refusal. A refused call sets *place (0 where the refusal tells no place), sets every other
  * number that it answers to 0, and leaves every array as it was; numbers that a call moves on (*at, *used and *count of
@@ -65,7 +67,8 @@ enum tulfasheq_answer {
                                        place: the first such component, from 1 */
     TULFASHEQ_QUORUM = 9,           /* a quorum of 0 or above the number of sequences */
     TULFASHEQ_SAVED_SIZE = 10,      /* saved bytes that are not as long as the records that they count */
-    TULFASHEQ_SAVED_LAYOUT = 11,    /* saved bytes that break their layout, or a next candidate that no template has */
+    TULFASHEQ_SAVED_KIND = 11,      /* a saved record of the wrong kind, or a component's with the wrong number; place: the first such
+                                       record, from 0 */
     TULFASHEQ_OTHER_SET = 12,       /* saved over other sequences: the number of them or of their letters differs */
     TULFASHEQ_NOT_A_CANDIDATE = 13, /* a place that the search does not pass through */
     TULFASHEQ_MOTIF_NUMBER = 14,    /* a number that is no motif's of this template */
@@ -73,9 +76,14 @@ enum tulfasheq_answer {
     TULFASHEQ_JOIN_LIST = 16,       /* a list that does not rise strictly, or leaves 1 to TULFASHEQ_LETTERS */
     TULFASHEQ_ROOM = 17,            /* an array that is too short for what is to be written */
     TULFASHEQ_TEXT_BEFORE = 19,     /* a line of a FASTA file that is not empty and stands before the first record */
-    TULFASHEQ_NO_ROOM = 20          /* a record of a FASTA file whose letter lines have more bytes, whatever they are, than the
+    TULFASHEQ_NO_ROOM = 20,         /* a record of a FASTA file whose letter lines have more bytes, whatever they are, than the
                                        letters array has room for behind those used, or than a number of the lengths holds; or no
                                        row left for it in the lengths */
+    TULFASHEQ_SAVED_BLANK = 21,     /* a byte of a saved record that must be 0 and is not; place: the first such record, from 0 */
+    TULFASHEQ_SAVED_SUM = 22,       /* a saved number of letters of a motif that is not the sum of the components' lengths; place: 0,
+                                       the record that holds it */
+    TULFASHEQ_PLACE_RULE = 23       /* a next candidate with more letters than a motif has, or a number that its letters do not spell;
+                                       place: the number that the place record has, or would have in a save, components + 1 */
 };
 
 /* Why a leg stopped; 0 in a refusal. */
@@ -100,7 +108,7 @@ uint64_t tulfasheq_begin(
  * at most `budget` steps, each of which examines one candidate, and lists at most as many motifs as the shortest of the three
  * tables has room for: row i, from 0 on, is a motif's number, its support and its weighted support. *stop says why it stopped,
  * *steps and *rows count; the rest of each table stays. Legs run one after another until one has ended list every frequent motif,
- * once, in letter order. Refuses, in this order: 1 to 4, 10, 5, 11, 6, 7, 8, 12, 9, 13. */
+ * once, in letter order. Refuses, in this order: 1 to 4, 10, 5, 11, 21 to 23, 6, 7, 8, 12, 9, 13. */
 uint64_t tulfasheq_leg(
     const uint8_t *letters, size_t letters_len,
     const uint32_t *lengths, size_t lengths_len,
@@ -113,7 +121,7 @@ uint64_t tulfasheq_leg(
 
 /* Tells what a saved search is: its template, quorum, number of sequences and letters in all, and the letters and number of its next
  * candidate, which are 0 and 0 where it has ended. `shape` gets as many of the TULFASHEQ_SHAPE numbers as it has room for.
- * Refuses, in this order: 1 to 4, 10, 5, 11, 6, 7, 8, 12, 9, 13. */
+ * Refuses, in this order: 1 to 4, 10, 5, 11, 21 to 23, 6, 7, 8, 12, 9, 13. */
 uint64_t tulfasheq_restore(
     const uint8_t *letters, size_t letters_len,
     const uint32_t *lengths, size_t lengths_len,
@@ -124,7 +132,7 @@ uint64_t tulfasheq_restore(
     uint8_t *next_letters, uint64_t *next_number);
 
 /* Saves a search given by what tulfasheq_restore tells to the front of `out`. *size is the save's length. Refuses, in this order:
- * 1 to 4, 5, 11, 6, 7, 8, 12, 9, 13, 17. */
+ * 1 to 4, 5, 23, 6, 7, 8, 12, 9, 13, 17. */
 uint64_t tulfasheq_save(
     const uint8_t *letters, size_t letters_len,
     const uint32_t *lengths, size_t lengths_len,
