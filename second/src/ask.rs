@@ -1,6 +1,6 @@
 //! Questions beside the paper's calls, for comparisons. Each takes a prefix
-//! of 1 to K letters, and refuses 1 to 8 as a recovery does, then 11 for
-//! anything else.
+//! of 1 to K letters, and refuses 1 to 8 as a recovery does, then 23 for
+//! anything else, with place 0: there is no record that it could tell.
 
 use crate::leg::examine;
 use crate::occurrence::{count, Counts};
@@ -20,7 +20,7 @@ fn counts(
     let set = SequenceSet::lent(letters, lengths)?;
     template.check()?;
     if prefix.letters == 0 || !prefix.keeps_its_rule(template.letters_in_all()) {
-        return Err(Refusal::plain(Refusal::RECORD));
+        return Err(Refusal::plain(Refusal::PLACE_RULE));
     }
     Ok(count(&set, template, prefix))
 }

@@ -31,7 +31,7 @@ fn answer(number: u64, place: u64, told: &[u64]) -> Result<(), Refusal> {
         assert_eq!(place, 0, "the place told without a refusal");
         return Ok(());
     }
-    assert!(matches!(number, 1..=17 | 19 | 20), "refusal {number}");
+    assert!(matches!(number, 1..=17 | 19..=23), "refusal {number}");
     assert!(
         told.iter().all(|n| *n == 0),
         "told in refusal {number}: {told:?}"

@@ -3,9 +3,10 @@
 /// "A refused new search or restore gives no search, only number and place."
 #[derive(Clone, Copy, Debug, PartialEq, Eq)]
 pub struct Refusal {
-    /// The number in the paper's table, 1 to 18, or in a request, 19 and 20.
+    /// The number in the paper's table, 1 to 18, or in a request, 19 to 23.
     pub number: u8,
-    /// The place told: an offset, a component's number, a line number, or 0.
+    /// The place told: an offset, a component's number, a line number, a
+    /// record's number, or 0.
     pub place: u64,
 }
 
@@ -31,8 +32,8 @@ impl Refusal {
     /// "saved bytes fewer than 16, record count below 2, or length not 16
     /// times the count"
     pub const SAVED_LENGTH: u8 = 10;
-    /// "a record breaks its layout, K is not the sum of lengths, or the place
-    /// breaks its rule"
+    /// "11 stays for a wrong kind or component number, and now tells the
+    /// record's number from 0."
     pub const RECORD: u8 = 11;
     /// "sequence or letter count differs from the lent ones"
     pub const COUNTS_DIFFER: u8 = 12;
@@ -53,6 +54,12 @@ impl Refusal {
     pub const TEXT_BEFORE: u8 = 19;
     /// "no room for the next record"
     pub const NO_ROOM: u8 = 20;
+    /// "a byte that must be 0 is not"
+    pub const UNNAMED_BYTE: u8 = 21;
+    /// "K is not the sum"
+    pub const NOT_THE_SUM: u8 = 22;
+    /// "the place breaks its rule"
+    pub const PLACE_RULE: u8 = 23;
 
     /// "A refusal for which no place is named tells 0."
     pub fn plain(number: u8) -> Refusal {

@@ -112,7 +112,8 @@ pub fn save(
     }
 }
 
-/// "Restore: 1 to 4, 10, 5, 11, 6, 7, 8, 12, 9, 13."
+/// "Restore: 1 to 4, 10, 5, 11, 6, 7, 8, 12, 9, 13", and "21 to 23 come after
+/// 11 in that order".
 pub fn restore(letters: &[u8], lengths: &[u32], bytes: &[u8]) -> Result<Search, Refusal> {
     let set = SequenceSet::lent(letters, lengths)?;
     let records = cut_into_records(bytes)?;
@@ -140,12 +141,9 @@ fn cut_into_records(bytes: &[u8]) -> Result<Vec<Record>, Refusal> {
     Ok(records)
 }
 
-/// Reads what the records say, then refuses 5 ("number of components", the
-/// record count less 2) before 11: "a record breaks its layout, K is not the
-/// sum of lengths". A record keeps its layout if what was read from it,
-/// written again, gives the same bytes: kind, number and "unnamed bytes are
-/// 0" as well. The size record holds K, so that this compares K with the sum
-/// of lengths too. The place's rule is checked with the search value.
+/// Reads what the records say. Refuses 5 ("number of components", the record
+/// count less 2), then 11, 21 and 22. The place's rule, 23, is the first that
+/// is checked with the search value after these.
 fn read_records(records: &[Record]) -> Result<Search, Refusal> {
     let (size, components, place) = match records {
         [size, components @ .., place] => (size, components, place),
@@ -164,17 +162,13 @@ fn read_records(records: &[Record]) -> Result<Search, Refusal> {
         },
     };
     search.template.check_number_of_components()?;
-
-    let mut keep_layout = size.0 == size_record(&search).0;
-    for ((number, record), component) in (1..).zip(components).zip(&search.template.components) {
-        keep_layout &= record.0 == component_record(number, component).0;
+    check_layout(records)?;
+    if size.number(6, 7) != search.template.letters_in_all() {
+        // "K is not the sum", "with its record": K stands in the size record,
+        // which is the first.
+        return Err(Refusal::at(Refusal::NOT_THE_SUM, 0));
     }
-    keep_layout &= place.0 == place_record(&search.place).0;
-    if keep_layout {
-        Ok(search)
-    } else {
-        Err(Refusal::plain(Refusal::RECORD))
-    }
+    Ok(search)
 }
 
 /// "2: length; 4-5 l; 6-7 u"
@@ -183,5 +177,69 @@ fn read_component(record: &Record) -> Component {
         length: record.number(2, 2) as u8,
         low: record.number(4, 5) as u16,
         high: record.number(6, 7) as u16,
+    }
+}
+
+/// What the paper's table asks of one byte of a record.
+enum Asked {
+    /// The record's kind or a component's number, which is this one.
+    Exactly(usize),
+    /// A byte of a number that the table names, which may be any.
+    Any,
+    /// "Unnamed bytes are 0."
+    Zero,
+}
+
+/// What the table asks of a byte in the record of this number, counted from 0,
+/// of so many records.
+fn asked(records: usize, record: usize, byte: usize) -> Asked {
+    if record == 0 {
+        // "size | 0: 1; 1: number of records; 2-3 quorum; 4-5 number of
+        // sequences; 6-7 K; 8-11 letters in all"
+        match byte {
+            0 => Asked::Exactly(1),
+            1..=11 => Asked::Any,
+            _ => Asked::Zero,
+        }
+    } else if record < records - 1 {
+        // "component, one each | 0: 2; 1: its number from 1; 2: length;
+        // 4-5 l; 6-7 u": the first component's record comes after the size
+        // record, so that the two countings say the same.
+        match byte {
+            0 => Asked::Exactly(2),
+            1 => Asked::Exactly(record),
+            2 | 4..=7 => Asked::Any,
+            _ => Asked::Zero,
+        }
+    } else {
+        // "place | 0: 3; 1: letters of the next candidate; 8-15 its number"
+        match byte {
+            0 => Asked::Exactly(3),
+            1 | 8..=15 => Asked::Any,
+            _ => Asked::Zero,
+        }
+    }
+}
+
+/// "11 stays for a wrong kind or component number, and now tells the record's
+/// number from 0"; "21 a byte that must be 0 is not"; "21 to 23 come after 11
+/// in that order, each with its record". Every byte of every record is judged
+/// by itself; of all that is wrong the lowest number is given, and of several
+/// records with it the first.
+fn check_layout(records: &[Record]) -> Result<(), Refusal> {
+    let mut wrong = Vec::new();
+    for (number, record) in records.iter().enumerate() {
+        for (at, byte) in record.0.iter().enumerate() {
+            let refusal = match asked(records.len(), number, at) {
+                Asked::Exactly(right) if usize::from(*byte) != right => Refusal::RECORD,
+                Asked::Zero if *byte != 0 => Refusal::UNNAMED_BYTE,
+                _ => continue,
+            };
+            wrong.push(Refusal::at(refusal, number as u64));
+        }
+    }
+    match wrong.iter().min_by_key(|told| (told.number, told.place)) {
+        Some(first) => Err(*first),
+        None => Ok(()),
     }
 }

@@ -51,7 +51,8 @@ pub fn begin(
 
 impl Search {
     /// "A leg or a save checks the search value it is given by restore's
-    /// order without 10": after 1 to 4 these are 5, 11, 6, 7, 8, 12, 9, 13.
+    /// order without 10", and "a leg or save sees only the place rule" of the
+    /// records: after 1 to 4 these are 5, 23, 6, 7, 8, 12, 9, 13.
     pub(crate) fn check(&self, set: &SequenceSet) -> Result<(), Refusal> {
         self.template.check_number_of_components()?;
         self.check_place_rule()?;
@@ -63,13 +64,15 @@ impl Search {
         self.check_candidate(set)
     }
 
-    /// Refusal 11: "the place breaks its rule". A search value has no records
-    /// and no K of its own, so this is all of 11 that it can break.
+    /// Refusal 23: "the place breaks its rule", with "its record": counted
+    /// from 0, the place record comes after the size record and one record
+    /// for each component.
     fn check_place_rule(&self) -> Result<(), Refusal> {
         if self.place.keeps_its_rule(self.template.letters_in_all()) {
             Ok(())
         } else {
-            Err(Refusal::plain(Refusal::RECORD))
+            let place_record = self.template.components.len() + 1;
+            Err(Refusal::at(Refusal::PLACE_RULE, place_record as u64))
         }
     }
 

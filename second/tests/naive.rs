@@ -116,6 +116,6 @@ fn a_question_about_no_prefix_is_refused() {
         place(2, 16),
     ] {
         let asked = support(&lent.letters, &lent.lengths, &e_template(), &wrong);
-        assert_eq!(asked, Err(refusal(11, 0)));
+        assert_eq!(asked, Err(refusal(23, 0)));
     }
 }

@@ -33,6 +33,9 @@ impl Faults {
             4 => 5,
             6 => 2,
             8 => 3,
+            11 => 2,
+            21 => 1,
+            23 => 4,
             _ => 0,
         };
         Some(refusal(number, place))
@@ -90,7 +93,7 @@ impl Faults {
             quorum: self.quorum(),
             sequences: lent.lengths.len() as u32,
             letters: lent.letters.len() as u32 + u32::from(self.has(12)),
-            place: if self.has(11) {
+            place: if self.has(23) {
                 place(2, 16)
             } else if self.has(13) {
                 place(3, number("TTA"))
@@ -119,6 +122,19 @@ impl Faults {
         }
         bytes.extend([3, search.place.letters, 0, 0, 0, 0, 0, 0]);
         bytes.extend(search.place.number.to_le_bytes());
+        // Each of the next two is wrong in two records, and the first is to be
+        // told; 21 is wrong in an earlier record than 11.
+        if self.has(11) {
+            bytes[32 + 1] = 3;
+            bytes[48] = 1;
+        }
+        if self.has(21) {
+            bytes[16 + 15] = 1;
+            bytes[48 + 3] = 255;
+        }
+        if self.has(22) {
+            bytes[6] += 1;
+        }
         if self.has(10) {
             bytes.push(0);
         }
@@ -143,7 +159,7 @@ fn new_search() {
 
 #[test]
 fn restored_search() {
-    const ORDER: &[u8] = &[1, 2, 3, 4, 10, 5, 11, 6, 7, 8, 12, 9, 13];
+    const ORDER: &[u8] = &[1, 2, 3, 4, 10, 5, 11, 21, 22, 23, 6, 7, 8, 12, 9, 13];
     for faults in Faults::all(ORDER) {
         let lent = faults.lent();
         let answer = restore(&lent.letters, &lent.lengths, &faults.bytes(&lent));
@@ -156,7 +172,7 @@ fn restored_search() {
 
 #[test]
 fn a_leg() {
-    const ORDER: &[u8] = &[1, 2, 3, 4, 5, 11, 6, 7, 8, 12, 9, 13];
+    const ORDER: &[u8] = &[1, 2, 3, 4, 5, 23, 6, 7, 8, 12, 9, 13];
     for faults in Faults::all(ORDER) {
         let lent = faults.lent();
         let search = faults.search(&lent);
@@ -174,7 +190,7 @@ fn a_leg() {
 
 #[test]
 fn a_save() {
-    const ORDER: &[u8] = &[1, 2, 3, 4, 5, 11, 6, 7, 8, 12, 9, 13, 17];
+    const ORDER: &[u8] = &[1, 2, 3, 4, 5, 23, 6, 7, 8, 12, 9, 13, 17];
     for faults in Faults::all(ORDER) {
         let lent = faults.lent();
         let search = faults.search(&lent);

@@ -94,11 +94,11 @@ fn the_place_rule_of_a_search_value() {
         place(0, 1),
     ] {
         search.place = wrong;
-        assert_eq!(refused(&lent, &search), Some((11, 0)));
+        assert_eq!(refused(&lent, &search), Some((23, 3)));
     }
     for wrong in [place(0, u64::MAX), place(2, u64::MAX)] {
         search.place = wrong;
-        assert_eq!(refused(&lent, &search), Some((11, 0)));
+        assert_eq!(refused(&lent, &search), Some((23, 3)));
     }
     for right in [place(0, 0), place(1, 0), place(1, 3), place(2, 11)] {
         search.place = right;
@@ -115,24 +115,41 @@ fn the_place_rule_comes_before_bad_lengths() {
     assert_eq!(refused(&lent, &search), Some((6, 1)));
     search.template = template(&[(12, 0, 0), (12, 0, 0), (12, 0, 0)]);
     for (letters, number, told) in [
-        (36, u64::MAX, 7),
-        (37, 0, 11),
-        (33, u64::MAX, 7),
-        (32, u64::MAX, 7),
-        (31, 1 << 62, 11),
-        (31, (1 << 62) - 1, 7),
+        (36, u64::MAX, (7, 0)),
+        (37, 0, (23, 4)),
+        (33, u64::MAX, (7, 0)),
+        (32, u64::MAX, (7, 0)),
+        (31, 1 << 62, (23, 4)),
+        (31, (1 << 62) - 1, (7, 0)),
     ] {
         search.place = place(letters, number);
-        assert_eq!(refused(&lent, &search), Some((told, 0)));
+        assert_eq!(refused(&lent, &search), Some(told));
     }
     search.template = template(&[(0, 0, 0)]);
     search.place = place(1, 0);
-    assert_eq!(refused(&lent, &search), Some((11, 0)));
+    assert_eq!(refused(&lent, &search), Some((23, 2)));
     search.place = place(0, 0);
     assert_eq!(refused(&lent, &search), Some((6, 1)));
     search.template = template(&vec![(255, 9, 0); 300]);
     search.place = place(255, u64::MAX);
     assert_eq!(refused(&lent, &search), Some((5, 0)));
+}
+
+#[test]
+fn the_place_record_comes_after_one_for_each_component() {
+    let lent = e();
+    let mut search = lent.begin(&e_template(), 2).unwrap();
+    for components in 0..=8 {
+        search.template = template(&vec![(1, 0, 0); components]);
+        let told = match components {
+            1..=6 => (23, components as u64 + 1),
+            _ => (5, 0),
+        };
+        for wrong in [place(0, 1), place(1, 4), place(components as u8 + 1, 0)] {
+            search.place = wrong;
+            assert_eq!(refused(&lent, &search), Some(told));
+        }
+    }
 }
 
 #[test]
@@ -168,115 +185,4 @@ fn places_that_are_no_candidates() {
             assert_eq!(refused(&lent, &search), told);
         }
     }
-}
-
-/// The save of E after 4 steps with one byte changed.
-fn changed_save(at: usize, value: u8) -> Option<(u8, u64)> {
-    let lent = e();
-    let search = lent.begin(&e_template(), 2).unwrap();
-    let mut bytes = save_of(&lent, &leg_of(&lent, &search, 4, 5).0.search);
-    bytes[at] = value;
-    restore_of(&lent, &bytes)
-        .err()
-        .map(|told| (told.number, told.place))
-}
-
-#[test]
-fn records_that_break_their_layout() {
-    let unnamed = (12..16)
-        .chain([19])
-        .chain(24..32)
-        .chain([35])
-        .chain(40..48)
-        .chain(50..56);
-    for at in unnamed {
-        for value in [1, 128, 255] {
-            assert_eq!(changed_save(at, value), Some((11, 0)), "byte {at}");
-        }
-    }
-    for (kind, right) in [(0, 1), (16, 2), (32, 2), (48, 3)] {
-        for value in 0..=255 {
-            let expected = if value == right { None } else { Some((11, 0)) };
-            assert_eq!(changed_save(kind, value), expected);
-        }
-    }
-    for (at, value) in [(17, 0), (17, 2), (33, 1), (33, 3), (33, 255)] {
-        assert_eq!(
-            changed_save(at, value),
-            Some((11, 0)),
-            "component number at {at}"
-        );
-    }
-    for (at, value) in [(6, 1), (6, 3), (7, 1), (18, 2), (34, 0), (34, 13)] {
-        assert_eq!(
-            changed_save(at, value),
-            Some((11, 0)),
-            "K and lengths at {at}"
-        );
-    }
-    for (at, value) in [(49, 3), (49, 0), (56, 16), (57, 1), (63, 128)] {
-        assert_eq!(changed_save(at, value), Some((11, 0)), "place rule at {at}");
-    }
-}
-
-#[test]
-fn what_else_a_changed_save_tells() {
-    for (at, value, told) in [
-        (1, 3, (10, 0)),
-        (1, 5, (10, 0)),
-        (1, 0, (10, 0)),
-        (2, 0, (9, 0)),
-        (2, 4, (9, 0)),
-        (3, 1, (9, 0)),
-        (4, 2, (12, 0)),
-        (5, 1, (12, 0)),
-        (8, 13, (12, 0)),
-        (11, 1, (12, 0)),
-        (20, 1, (8, 1)),
-        (22, 1, (8, 1)),
-        (36, 2, (8, 2)),
-        (39, 1, (8, 2)),
-    ] {
-        assert_eq!(changed_save(at, value), Some(told), "byte {at}");
-    }
-}
-
-#[test]
-fn record_counts() {
-    let lent = e();
-    for count in 0..=255u8 {
-        for records in [0, 1, 2, count as usize] {
-            let mut bytes = vec![0; 16 * records];
-            if let Some(byte) = bytes.get_mut(1) {
-                *byte = count;
-            }
-            let told = if records < 1 || count < 2 || records != count as usize {
-                10
-            } else if (3..=8).contains(&count) {
-                11
-            } else {
-                5
-            };
-            assert_eq!(restore_of(&lent, &bytes), Err(refusal(told, 0)));
-        }
-    }
-}
-
-#[test]
-fn wrong_lengths_and_k_in_a_save() {
-    let lent = e();
-    // Lengths 13 and 1 with K 14; then 12, 12, 12 with K 36.
-    let mut bytes = save_of(&lent, &lent.begin(&e_template(), 2).unwrap());
-    (bytes[18], bytes[6]) = (13, 14);
-    assert_eq!(restore_of(&lent, &bytes), Err(refusal(6, 1)));
-    let three = template(&[(12, 0, 0), (12, 0, 0), (8, 0, 0)]);
-    let mut bytes = save_of(&lent, &lent.begin(&three, 2).unwrap());
-    (bytes[50], bytes[6]) = (12, 36);
-    assert_eq!(restore_of(&lent, &bytes), Err(refusal(7, 0)));
-    // A place beyond 32 letters keeps its rule there.
-    bytes[65] = 36;
-    bytes[72..80].fill(255);
-    assert_eq!(restore_of(&lent, &bytes), Err(refusal(7, 0)));
-    bytes[65] = 37;
-    assert_eq!(restore_of(&lent, &bytes), Err(refusal(11, 0)));
 }
