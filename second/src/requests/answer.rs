@@ -142,6 +142,10 @@ impl Answer {
         self.told[1]
     }
 
+    pub fn place_told(&self) -> u64 {
+        self.told[2]
+    }
+
     pub fn count(&self) -> u64 {
         self.told[3]
     }
@@ -264,7 +268,7 @@ pub fn value_of(search: &Search) -> Value {
 }
 
 /// A length as the second program holds it, in a byte. A longer one is told
-/// as 255. Both are refused by 6; and the place rule (11), which a leg and a
+/// as 255. Both are refused by 6; and the place rule (23), which a leg and a
 /// save check before, finds K at least 255 either way, which no place, itself
 /// a byte, exceeds. So the two programs have to say the same.
 fn byte(length: u16) -> u8 {

@@ -1,8 +1,6 @@
-//! Legs laid end to end, with a save and a restore between them, and legs and
-//! saves of search values that no call gave.
+//! Legs laid end to end, with a save and a restore between them.
 
 use super::answer::{Answer, DONE, REFUSED};
-use super::begins::{faulty_set, faulty_value};
 use super::random::Random;
 use super::request::{Kind, Request, Set, Slot, Value};
 use std::rc::Rc;
@@ -11,7 +9,13 @@ use std::rc::Rc;
 const ROOM: u64 = 4_096;
 
 /// A leg with three tables of these lengths.
-fn leg(set: &Rc<Set>, value: Value, budget: u64, rooms: [u64; 3], random: &mut Random) -> Request {
+pub fn leg(
+    set: &Rc<Set>,
+    value: Value,
+    budget: u64,
+    rooms: [u64; 3],
+    random: &mut Random,
+) -> Request {
     Request {
         budget,
         motifs: random.wide(rooms[0] as usize),
@@ -96,7 +100,7 @@ fn relay(set: Set, value: Value, most: usize, grants: Grants, random: &mut Rando
 }
 
 /// Sequences that all hold one stretch of letters, each somewhere else.
-fn shared(stretch: &[u8], sequences: u64, random: &mut Random) -> Set {
+pub fn shared(stretch: &[u8], sequences: u64, random: &mut Random) -> Set {
     let sequences: Vec<Vec<u8>> = (0..sequences)
         .map(|_| {
             let (before, after) = (random.below(8), random.below(8));
@@ -205,78 +209,4 @@ pub fn underway(set: &Rc<Set>, value: Value, random: &mut Random) -> Option<Valu
     let budget = random.pick(&[0, 1, 5, 20, 90, 100_000]);
     let gone = Answer::expected(&leg(set, begun.search(), budget, [ROOM; 3], random));
     Some(gone.search())
-}
-
-/// A search value with up to three faults.
-fn forged(mut value: Value, random: &mut Random) -> Value {
-    let letters = value
-        .slots
-        .iter()
-        .map(|slot| u32::from(slot.length))
-        .sum::<u32>() as u8;
-    for _ in 0..random.below(4) {
-        let at = random.below(6) as usize;
-        match random.below(12) {
-            0 => value.count = random.pick(&[0, 1, 2, 6, 7, 65_535]),
-            1 => value.slots[at].length = random.pick(&[0, 1, 12, 13, 255, 256, 65_535]),
-            2 => value.slots[at].low = random.pick(&[0, 1, 255, 256]),
-            3 => value.slots[at].high = random.pick(&[0, 1, 255, 256]),
-            4 => value.quorum = random.edge(),
-            5 => {
-                value.sequences = value
-                    .sequences
-                    .wrapping_add(random.pick(&[1, u32::MAX, 65_536]))
-            }
-            6 => {
-                value.letters = value
-                    .letters
-                    .wrapping_add(random.pick(&[1, u32::MAX, 65_536]))
-            }
-            7 => value.place = random.pick(&[0, 1, letters, letters.wrapping_add(1), 32, 33, 255]),
-            8 => value.number = random.edge(),
-            // The place rule's edge: the last number below 4 to the power of
-            // the place, and the first that is not.
-            9 => {
-                value.number = 4u64
-                    .checked_pow(value.place.into())
-                    .unwrap_or(0)
-                    .wrapping_sub(1)
-            }
-            10 => value.number = 4u64.checked_pow(value.place.into()).unwrap_or(u64::MAX),
-            _ => value.number = random.below(4u64.saturating_pow(value.place.into())),
-        }
-    }
-    value
-}
-
-/// Legs and saves of forged values, over sets that keep the rules or break
-/// one.
-pub fn forgeries(random: &mut Random) -> Vec<Request> {
-    let mut requests = Vec::new();
-    while requests.len() < 12_000 {
-        let set = Rc::new(match random.below(12) {
-            0 => faulty_set(random),
-            1 => shared(&[b'T'; 40], 3, random),
-            _ => random.set(4, 25, 3),
-        });
-        let value = match random.below(8) {
-            0 => faulty_value(random, &set),
-            1 => deepest(1),
-            _ => random.template(5, 4),
-        };
-        let value = value.with_quorum(random.within(1, set.lengths.len().max(1) as u64));
-        let start = underway(&set, value, random).unwrap_or(value);
-        for _ in 0..4 {
-            let forged = forged(start, random);
-            let budget = random.pick(&[0, 1, 3, 50]);
-            let rooms = [(); 3].map(|()| random.below(5));
-            requests.push(leg(&set, forged, budget, rooms, random));
-            let room = random.pick(&[0, 16, 47, 48, 63, 64, 127, 128, 140]);
-            requests.push(Request {
-                saved: random.bytes(room),
-                ..Request::new(Kind::Save, &set, forged)
-            });
-        }
-    }
-    requests
 }

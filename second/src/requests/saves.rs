@@ -1,15 +1,13 @@
 //! Saves into buffers of any length, and restores: of saves that are whole,
-//! cut, changed in a byte or two, or made over other sequences, and of random
-//! bytes.
+//! changed in a few bytes, or made over other sequences, and of random bytes.
 
-use super::answer::Answer;
 use super::begins::faulty_set;
-use super::legs::{deepest, save_and_restore, underway};
+use super::legs::{save_and_restore, underway};
 use super::random::Random;
 use super::request::{Kind, Request, Set, Slot, Value};
 use std::rc::Rc;
 
-fn restore(set: &Rc<Set>, saved: Vec<u8>) -> Request {
+pub fn restore(set: &Rc<Set>, saved: Vec<u8>) -> Request {
     Request {
         saved,
         ..Request::new(Kind::Restore, set, Value::default())
@@ -17,7 +15,7 @@ fn restore(set: &Rc<Set>, saved: Vec<u8>) -> Request {
 }
 
 /// The bytes of a search's save.
-fn saved(set: &Rc<Set>, value: Value, random: &mut Random) -> Vec<u8> {
+pub fn saved(set: &Rc<Set>, value: Value, random: &mut Random) -> Vec<u8> {
     let [_, restore] = save_and_restore(set, value, random);
     restore.saved
 }
@@ -42,63 +40,6 @@ pub fn saves(random: &mut Random) -> Vec<Request> {
             });
         }
         requests.extend(save_and_restore(&set, value, random));
-    }
-    requests
-}
-
-/// The search at its first place and after so many steps; the ended one is
-/// reached by very many.
-fn after(set: &Rc<Set>, value: Value, steps: u64) -> Value {
-    let begun = Answer::expected(&Request::new(Kind::Begin, set, value)).search();
-    let leg = Request {
-        budget: steps,
-        motifs: vec![0; 4_096],
-        supports: vec![0; 4_096],
-        weights: vec![0; 4_096],
-        ..Request::new(Kind::Leg, set, begun)
-    };
-    Answer::expected(&leg).search()
-}
-
-/// Every truncation and every change of a single byte of saves at several
-/// places, over E and over a larger set, down to a place of 32 letters.
-pub fn damaged(random: &mut Random) -> Vec<Request> {
-    let e = Rc::new(Set::e());
-    let stretch = random.letters(44, 4);
-    let sequences: Vec<Vec<u8>> = (0..8)
-        .map(|_| [random.letters(9, 4), stretch.clone(), random.letters(7, 4)].concat())
-        .collect();
-    let larger = Rc::new(Set::of(&sequences));
-    let pair = Value::pair().with_quorum(2);
-    let deep = deepest(2).with_quorum(8);
-    let mut saves = Vec::new();
-    for steps in [0, 4, 11, u64::MAX] {
-        saves.push((Rc::clone(&e), after(&e, pair, steps)));
-    }
-    for steps in [0, 50, u64::MAX] {
-        saves.push((Rc::clone(&larger), after(&larger, deep, steps)));
-    }
-    // A place of 32 letters: the walk over the shared stretch comes by one
-    // when it has gone down all the way.
-    let depth_32 = (1..400)
-        .map(|steps| after(&larger, deep, steps))
-        .find(|value| value.place == 32)
-        .expect("a place of 32 letters");
-    saves.push((larger, depth_32));
-
-    let mut requests = Vec::new();
-    for (set, value) in saves {
-        let bytes = saved(&set, value, random);
-        for length in 0..=bytes.len() {
-            requests.push(restore(&set, bytes[..length].to_vec()));
-        }
-        for at in 0..bytes.len() {
-            for change in 1..=u8::MAX {
-                let mut changed = bytes.clone();
-                changed[at] ^= change;
-                requests.push(restore(&set, changed));
-            }
-        }
     }
     requests
 }

@@ -161,7 +161,7 @@ fn faulty_lines() -> Vec<Vec<u8>> {
     texts.push(text("N[3,1]N", "x", &e()));
     texts.push(text(&"N".repeat(300), "2", &e()));
     texts.push(text(&vec!["N"; 300].join("[0,1]"), "2", &e()));
-    texts.push(text(&vec!["N"; 7].join("[0,1]"), "9", &[]));
+    texts.push(text(&["N"; 7].join("[0,1]"), "9", &[]));
     texts
 }
 
