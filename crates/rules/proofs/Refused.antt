@@ -86,8 +86,8 @@ pub record EachRefusal : Type 0 where
   pub seventeen-save : (s : Search) → s .template .count ≤ Template-COMPONENTS → length (bytes s) ≡ Record-BYTES * (s .template .count + Record-EXTRA)
   -- 21: a byte that must be 0 is not, with the first such record
   pub twenty-one : (bs : List ℕ) → RefusesAt (check21 bs) 21 (FirstBad 0 (component-count bs + Record-EXTRA) (NotBlank bs))
-  -- 22: K is not the sum of lengths, with the record that it stands in, 0. By then 5 has been fine, and so there are no more components than a
-  -- template has
+  -- 22: K is not the sum of lengths, with the record that it stands in, 0. By then 5 has been fine, and so there are no more components
+  -- than a template has
   pub twenty-two : (bs : List ℕ) → component-count bs ≤ Template-COMPONENTS → RefusesAt (check22 bs) 22 (λ p. (p ≡ 0) × (saved-size bs ≡ sum (saved-lengths bs) → ⊥))
   -- 23: the place breaks its rule, with the number that the place record has, or would have: it comes after those of the components
   pub twenty-three : (s : Search) → profile-of (s .template) ≡ exactly

@@ -12,9 +12,9 @@ use rules::RecordNumber;
 use rules::Refusal;
 
 // The n bytes of record i from byte k on are 0.
-fn blank(bytes: &[u8], i: u32, k: usize, n: usize) -> bool
+fn blank(bytes: &[u8], i: RecordNumber, k: usize, n: usize) -> bool
     requires { ⌜ (k + n ≤ Record-BYTES) × (n ≤ 8) ⌝ }
-    ensures { λ r. ⌜ r ≡ blank? (record-at (now (bytes .entry)) i) k n ⌝ }
+    ensures { λ r. ⌜ r ≡ blank? (record-at (now (bytes .entry)) (i .0)) k n ⌝ }
 {
     field(bytes, i, k, n) == 0
 }
@@ -23,14 +23,13 @@ fn blank(bytes: &[u8], i: u32, k: usize, n: usize) -> bool
 fn unnamed_blank(bytes: &[u8], n: u32, i: RecordNumber) -> bool
     ensures { λ r. ⌜ r ≡ unnamed-blank? n (i .0) (record-at (now (bytes .entry)) (i .0)) ⌝ }
 {
-    let at = i.0;
-    if at == 0 {
-        return blank(bytes, at, 12, 4);
+    if i.0 == 0 {
+        return blank(bytes, i, 12, 4);
     }
-    if at <= n {
-        return blank(bytes, at, 3, 1) & blank(bytes, at, 8, 8);
+    if i.0 <= n {
+        return blank(bytes, i, 3, 1) & blank(bytes, i, 8, 8);
     }
-    blank(bytes, at, 2, 6)
+    blank(bytes, i, 2, 6)
 }
 
 // 21: the first record with a byte that must be 0 and is not.

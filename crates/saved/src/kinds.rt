@@ -14,9 +14,9 @@ use rules::RecordNumber;
 use rules::Refusal;
 
 // Byte k of record i is this one: its kind, or a component's number.
-fn byte_is(bytes: &[u8], i: u32, k: usize, b: u32) -> bool
+fn byte_is(bytes: &[u8], i: RecordNumber, k: usize, b: u32) -> bool
     requires { ⌜ k < Record-BYTES ⌝ }
-    ensures { λ r. ⌜ r ≡ eqb (field (record-at (now (bytes .entry)) i) k 1) b ⌝ }
+    ensures { λ r. ⌜ r ≡ eqb (field (record-at (now (bytes .entry)) (i .0)) k 1) b ⌝ }
 {
     let x = field(bytes, i, k, 1);
     let y = b as u64;
@@ -27,14 +27,13 @@ fn byte_is(bytes: &[u8], i: u32, k: usize, b: u32) -> bool
 fn has_kind(bytes: &[u8], n: u32, i: RecordNumber) -> bool
     ensures { λ r. ⌜ r ≡ kind? n (i .0) (record-at (now (bytes .entry)) (i .0)) ⌝ }
 {
-    let at = i.0;
-    if at == 0 {
-        return byte_is(bytes, at, 0, Record::SIZE as u32);
+    if i.0 == 0 {
+        return byte_is(bytes, i, 0, Record::SIZE as u32);
     }
-    if at <= n {
-        return byte_is(bytes, at, 0, Record::COMPONENT as u32) & byte_is(bytes, at, 1, at);
+    if i.0 <= n {
+        return byte_is(bytes, i, 0, Record::COMPONENT as u32) & byte_is(bytes, i, 1, i.0);
     }
-    byte_is(bytes, at, 0, Record::PLACE as u32)
+    byte_is(bytes, i, 0, Record::PLACE as u32)
 }
 
 // 11: the first record that has not its kind, or, a component's, not its number.

@@ -7,6 +7,7 @@ ghost use Rattle.rules.specs.Saved.{field, record-at, record-count, component-c
 use rules::Component;
 use rules::Place;
 use rules::Record;
+use rules::RecordNumber;
 use rules::Search;
 use rules::SequenceSet;
 use rules::Template;
@@ -19,12 +20,12 @@ fn at(bytes: &[u8], j: usize) -> u8
 }
 
 // The number in n bytes of record i, from byte k on, the low byte first.
-pub(crate) fn field(bytes: &[u8], i: u32, k: usize, n: usize) -> u64
+pub(crate) fn field(bytes: &[u8], i: RecordNumber, k: usize, n: usize) -> u64
     requires { ⌜ (k + n ≤ Record-BYTES) × (n ≤ 8) ⌝ }
-    ensures { λ r. ⌜ r ≡ field (record-at (now (bytes .entry)) i) k n ⌝ }
+    ensures { λ r. ⌜ r ≡ field (record-at (now (bytes .entry)) (i .0)) k n ⌝ }
     ensures { λ r. ⌜ r < 256 ^ n ⌝ }
 {
-    let from = Record::BYTES * (i as usize) + k;
+    let from = Record::BYTES * (i.0 as usize) + k;
     let mut x: u64 = 0;
     let mut j = n;
     while 0 < j {
@@ -55,8 +56,8 @@ pub(crate) fn component_count(bytes: &[u8]) -> u8
 }
 
 // The component that record i holds.
-fn read_component(bytes: &[u8], i: u32) -> Component
-    ensures { λ r. ⌜ r ≡ read-component (record-at (now (bytes .entry)) i) ⌝ }
+fn read_component(bytes: &[u8], i: RecordNumber) -> Component
+    ensures { λ r. ⌜ r ≡ read-component (record-at (now (bytes .entry)) (i .0)) ⌝ }
 {
     let length = field(bytes, i, 2, 1) as u16;
     let low = field(bytes, i, 4, 2) as u16;
@@ -69,12 +70,12 @@ fn read_template(bytes: &[u8]) -> Template
     ensures { λ r. ⌜ r ≡ read-template (now (bytes .entry)) ⌝ }
 {
     let count = component_count(bytes) as u16;
-    let c1 = read_component(bytes, 1);
-    let c2 = read_component(bytes, 2);
-    let c3 = read_component(bytes, 3);
-    let c4 = read_component(bytes, 4);
-    let c5 = read_component(bytes, 5);
-    let c6 = read_component(bytes, 6);
+    let c1 = read_component(bytes, RecordNumber(1));
+    let c2 = read_component(bytes, RecordNumber(2));
+    let c3 = read_component(bytes, RecordNumber(3));
+    let c4 = read_component(bytes, RecordNumber(4));
+    let c5 = read_component(bytes, RecordNumber(5));
+    let c6 = read_component(bytes, RecordNumber(6));
     let t = Template {
         count,
         c1,
@@ -88,8 +89,8 @@ fn read_template(bytes: &[u8]) -> Template
 }
 
 // The place that record i holds.
-fn read_place(bytes: &[u8], i: u32) -> Place
-    ensures { λ r. ⌜ r ≡ read-place (record-at (now (bytes .entry)) i) ⌝ }
+fn read_place(bytes: &[u8], i: RecordNumber) -> Place
+    ensures { λ r. ⌜ r ≡ read-place (record-at (now (bytes .entry)) (i .0)) ⌝ }
 {
     let letters = field(bytes, i, 1, 1) as u8;
     let number = field(bytes, i, 8, 8);
@@ -101,12 +102,12 @@ pub(crate) fn read_search(bytes: &[u8]) -> Search
     ensures { λ r. ⌜ r ≡ read-search (now (bytes .entry)) ⌝ }
 {
     let template = read_template(bytes);
-    let quorum = field(bytes, 0, 2, 2);
-    let sequences = field(bytes, 0, 4, 2) as u32;
-    let letters = field(bytes, 0, 8, 4) as u32;
+    let quorum = field(bytes, RecordNumber(0), 2, 2);
+    let sequences = field(bytes, RecordNumber(0), 4, 2) as u32;
+    let letters = field(bytes, RecordNumber(0), 8, 4) as u32;
     let set = SequenceSet { sequences, letters };
     let last = component_count(bytes) as u32 + 1;
-    let place = read_place(bytes, last);
+    let place = read_place(bytes, RecordNumber(last));
     Search {
         template,
         quorum,

@@ -7,6 +7,7 @@ use crate::read::field;
 use crate::read::record_count;
 use rules::Checked;
 use rules::Record;
+use rules::RecordNumber;
 use rules::Refusal;
 use rules::Search;
 
@@ -32,7 +33,7 @@ fn adds_up(bytes: &[u8], s: Search) -> bool
     requires { ⌜ s ≡ read-search (now bytes) ⌝ }
     ensures { λ r. ⌜ r ≡ sums? (now (bytes .entry)) ⌝ }
 {
-    let k = field(bytes, 0, 6, 2);
+    let k = field(bytes, RecordNumber(0), 6, 2);
     let sum = s.template.letters() as u64;
     k == sum
 }

@@ -20,14 +20,14 @@ blank-requires-3 c κs = search needs
 
 returns-2 : tie.Need-returns-2
 unfolding unnamed-blank? component-blank?
-returns-2 c = rw (c .blank3 .ensures, c .before .blank2 .ensures, ne-eqb _ 0 (c .before .before .before .if1 .left), le-leb _ _ (c .before .before .if2 .taken))
+returns-2 c = rw (c .blank3 .ensures, c .before .blank2 .ensures, ne-eqb _ 0 (c .before .before .before .before .if1 .left), le-leb _ _ (c .before .before .if2 .taken))
 
 blank-requires-4 : tie.Need-blank-requires-4
 blank-requires-4 c κs = search needs
 
 returns-3 : tie.Need-returns-3
 unfolding unnamed-blank? place-blank?
-returns-3 c = rw (c .blank4 .ensures, ne-eqb _ 0 (c .before .before .if1 .left), lt-leb _ _ (c .before .if2 .left))
+returns-3 c = rw (c .blank4 .ensures, ne-eqb _ 0 (c .before .before .before .if1 .left), lt-leb _ _ (c .before .if2 .left))
 
 pub unnamed-blank-spec : {M : Type 1} → statement M
 unnamed-blank-spec =

@@ -26,7 +26,7 @@ byte-is-requires-3 c κs = search needs
 
 returns-2 : tie.Need-returns-2
 unfolding kind? component-kind?
-returns-2 c = rw (c .byte-is3 .ensures, c .before .byte-is2 .ensures, ne-eqb _ 0 (c .before .before .before .if1 .left), le-leb _ _ (c .before .before .if2 .taken))
+returns-2 c = rw (c .byte-is3 .ensures, c .before .byte-is2 .ensures, ne-eqb _ 0 (c .before .before .before .before .if1 .left), le-leb _ _ (c .before .before .if2 .taken))
 
 cast-byte-is-3 : tie.Need-cast-byte-is-3
 cast-byte-is-3 c = search needs
@@ -36,7 +36,7 @@ byte-is-requires-4 c κs = search needs
 
 returns-3 : tie.Need-returns-3
 unfolding kind? place-kind?
-returns-3 c = rw (c .byte-is4 .ensures, ne-eqb _ 0 (c .before .before .if1 .left), lt-leb _ _ (c .before .if2 .left))
+returns-3 c = rw (c .byte-is4 .ensures, ne-eqb _ 0 (c .before .before .before .if1 .left), lt-leb _ _ (c .before .if2 .left))
 
 pub has-kind-spec : {M : Type 1} → statement M
 has-kind-spec =

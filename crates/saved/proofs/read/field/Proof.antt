@@ -8,10 +8,13 @@ use Rattle.saved.proofs.read.field.Statement.{statement}
 use Rattle.saved.proofs.read.field.Tie as tie
 
 abbrev Inv-loop : tie.InvT-loop
-Inv-loop bytes i k n from x₀ j₀ x j = Read bytes from n j x
+Inv-loop bytes k n from x₀ j₀ x j = Read bytes from n j x
 
 abbrev μ-loop : tie.MeasureT-loop
-μ-loop bytes i k n from x₀ j₀ x j = j
+μ-loop bytes k n from x₀ j₀ x j = j
+
+cast-from : tie.Need-cast-from Inv-loop μ-loop
+cast-from c = search needs
 
 mul-from : tie.Need-mul-from Inv-loop μ-loop
 mul-from c = search needs
@@ -34,12 +37,12 @@ at-requires c κs = search needs
 cast-b : tie.Need-cast-b Inv-loop μ-loop
 cast-b c = search needs
 
-more : (c : tie.After-at Inv-loop μ-loop) → let l = c .before .before .loop in let a = c .before .before .before .before .args in
-    (Read (a .bytes .now) (Record-BYTES * a .i + a .k) (a .n) (l .j - 1) (256 * l .x + c .at .result)) × (256 * l .x + c .at .result < 2 ^ 64)
+more : (c : tie.After-at Inv-loop μ-loop) → let l = c .before .before .loop in let a = c .before .before .before .before .before .args in
+    (Read (a .bytes .now) (Record-BYTES * a .i .0 + a .k) (a .n) (l .j - 1) (256 * l .x + c .at .result)) × (256 * l .x + c .at .result < 2 ^ 64)
 more c =
     let l = c .before .before .loop in
-    let s = c .before .before .before .before in
-    read-next (s .args .bytes .now) (Record-BYTES * s .args .i + s .args .k) (s .args .n) (l .j) (l .x) (c .at .result) (l .inv) (s .pre .1) (c .before .loop-test .taken) (c .at .ensures) (omega arith)
+    let s = c .before .before .before .before .before in
+    read-next (s .args .bytes .now) (Record-BYTES * s .args .i .0 + s .args .k) (s .args .n) (l .j) (l .x) (c .at .result) (l .inv) (s .pre .1) (c .before .loop-test .taken) (c .at .ensures) (omega arith)
 
 mul-x : tie.Need-mul-x Inv-loop μ-loop
 mul-x c = omega (arith, more c .1)
@@ -56,8 +59,8 @@ loop-again c = more c .0
 returns : tie.Need-returns Inv-loop μ-loop
 returns c =
     let l = c .before .loop in
-    let s = c .before .before .before in
-    read-all (s .args .bytes .now) (s .args .i) (s .args .k) (s .args .n) (l .j) (l .x) (l .inv) (s .pre .0) (c .loop-test .left)
+    let s = c .before .before .before .before in
+    read-all (s .args .bytes .now) (s .args .i .0) (s .args .k) (s .args .n) (l .j) (l .x) (l .inv) (s .pre .0) (c .loop-test .left)
 
 pub field-spec : {M : Type 1} → statement M
 field-spec =
@@ -65,6 +68,7 @@ field-spec =
     (tie.spec
     Inv-loop
     μ-loop
+    cast-from
     mul-from
     add-from
     loop-holds
