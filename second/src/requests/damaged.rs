@@ -3,6 +3,7 @@
 //! the refusals shows, and the record that is told.
 
 use super::answer::Answer;
+use super::legs::deepest;
 use super::random::Random;
 use super::request::{Kind, Request, Set, Slot, Value};
 use super::saves::{restore, saved};
@@ -73,6 +74,19 @@ fn damageable(components: usize, random: &mut Random) -> (Rc<Set>, Vec<Vec<u8>>)
     (set, saves.to_vec())
 }
 
+/// The saves at those places of a search of three components over eight
+/// sequences, all of which it asks for: a change of its quorum can make it
+/// another search's save.
+fn damageable_of_eight(random: &mut Random) -> (Rc<Set>, Vec<Vec<u8>>) {
+    let stretch = random.letters(44, 4);
+    let sequences: Vec<Vec<u8>> = (0..8)
+        .map(|_| [random.letters(9, 4), stretch.clone(), random.letters(7, 4)].concat())
+        .collect();
+    let set = Rc::new(Set::of(&sequences));
+    let saves = places(&set, deepest(2).with_quorum(8)).map(|value| saved(&set, value, random));
+    (set, saves.to_vec())
+}
+
 /// The saves of E's search at four places, all of one or two letters but the
 /// ended one.
 fn damageable_e(random: &mut Random) -> (Rc<Set>, Vec<Vec<u8>>) {
@@ -107,6 +121,10 @@ fn cut_and_changed((set, saves): (Rc<Set>, Vec<Vec<u8>>), random: &mut Random) -
 
 pub fn one_byte_of_e(random: &mut Random) -> Vec<Request> {
     cut_and_changed(damageable_e(random), random)
+}
+
+pub fn one_byte_of_eight(random: &mut Random) -> Vec<Request> {
+    cut_and_changed(damageable_of_eight(random), random)
 }
 
 pub fn one_byte(components: usize, random: &mut Random) -> Vec<Request> {

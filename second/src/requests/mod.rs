@@ -24,7 +24,7 @@ use std::ops::RangeInclusive;
 /// A group of requests: its name, its seed, and what makes it.
 pub type Group = (&'static str, u64, fn(&mut Random) -> Vec<Request>);
 
-pub const GROUPS: [Group; 18] = [
+pub const GROUPS: [Group; 19] = [
     ("new searches", 101, begins::requests),
     (
         "legs laid end to end, saved and restored between",
@@ -42,6 +42,11 @@ pub const GROUPS: [Group; 18] = [
         "restores of damaged saves of E",
         105,
         damaged::one_byte_of_e,
+    ),
+    (
+        "restores of damaged saves over eight sequences",
+        120,
+        damaged::one_byte_of_eight,
     ),
     ("restores of damaged saves of 1 component", 121, |random| {
         damaged::one_byte(1, random)
