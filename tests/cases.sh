@@ -20,7 +20,7 @@ random() { # TEMPLATE SEQUENCES LETTERS: an input with quorum 1
 
 # A short one and one that is refused, with what is printed; one with many pages; one with rows for hours.
 printf '%s\n' 'N[0,1]N' 2 ACGTA CAGGT AT >"$work/short"
-printf '%s\n' 'A[0,1]G 2 2' 'C[0,1]G 2 2' 'G[0,1]T 2 3' 'end 20 3' >"$work/short.out"
+printf '%s\n' 'A[0,1]G 2 3' 'C[0,1]G 2 2' 'G[0,1]T 2 3' 'end 20 3' >"$work/short.out"
 printf '%s\n' N +1 A >"$work/bad"
 echo 'refused 18 2' >"$work/bad.out"
 random NNNNNN 20 400 >"$work/long"

@@ -12,8 +12,8 @@ use rules::SequenceNumber;
 use rules::SequenceSet;
 use rules::Template;
 use rules::sign;
-use ways::count;
 use ways::step;
+use ways::sum;
 ghost use mathlib.Core.List.{[], _∷_, _++_, map};
 ghost use mathlib.Core.Path.{_≡_};
 ghost use Prim.Native.Nat.{suc, _+_, _*_, _^_, _≤_, _<_};
@@ -112,8 +112,7 @@ fn list_sequence(
 {
     mark(sequence, template, motif, ways, flags);
     let n = sequence.len();
-    let counted = count(&ways[..n]);
-    let length = counted.occurrences;
+    let length = sum(&ways[..n]);
     let progress = list_starts(template, number, n, flags, ways, done, out);
     Listing { progress, length }
 }

@@ -3,7 +3,7 @@
 use mathlib.Core.Path.{_≡_, refl, ap}
 use mathlib.Core.Logic.{_↔_}
 use mathlib.Core.Bool.{true}
-use mathlib.Core.List.{List, [], _∷_, _++_, List·Memᴰ}
+use mathlib.Core.List.{List, [], _∷_, _++_, map, List·Memᴰ}
 use Prim.Native.Nat.{ℕ, suc, _+_, _*_, _≤_, _<_, _^_}
 use lib.Dec.{leb}
 use lib.ListN.{length, take, getD}
@@ -12,7 +12,7 @@ use Rattle.rules.specs.Fasta.{letters-of, records, reader-checks, stays,
 use Rattle.rules.specs.FastaRead.{ReadToEnd, ReadWhole, Readable}
 use Rattle.rules.specs.Legs.{Stop, ended}
 use Rattle.rules.specs.Limits.{Letter-BASES}
-use Rattle.rules.specs.Lists.{each, joined, keep, put, some?}
+use Rattle.rules.specs.Lists.{each, joined, keep, put, some?, sum}
 use Rattle.rules.specs.Occurrence.{occurrences, nth, Follows, Occurs, Gap, OccursExactly}
 use Rattle.rules.specs.Motif.{spell}
 use Rattle.rules.specs.Order.{InOrder, Rising}
@@ -20,11 +20,11 @@ use Rattle.rules.specs.Profile.{exactly, profile-of, base-of}
 use Rattle.rules.specs.Recovery.{whole-list, page}
 use Rattle.rules.specs.Refusals.{first, new-checks, restore-checks, search-checks, save-checks, recover-checks, join-checks}
 use Rattle.rules.specs.Refused.{FirstOf, Stays, StaysOutside}
-use Rattle.rules.specs.Relay.{frequent-motifs, whole-steps, Complete, Lent, Roomy, Ample, relay, RefusedAsCut, WellFormed, Through}
+use Rattle.rules.specs.Relay.{frequent-motifs, their-weights, whole-steps, Complete, Lent, Roomy, Ample, relay, Recovers, RefusedAsCut, WellFormed, Through}
 use Rattle.rules.specs.Saved.{bytes, read-search}
 use Rattle.rules.specs.Sequences.{sequences}
 use Rattle.rules.specs.Sound.{SoundSet, SoundTemplate}
-use Rattle.rules.specs.Support.{support, counted, valid, parts, parts-in}
+use Rattle.rules.specs.Support.{support, weight, counted, valid, parts, parts-in}
 use Rattle.rules.specs.Template.{none, components, size}
 use Rattle.rules.specs.Told.{gives, refuses, Verdict, fine, refused, Counts, Handing, entry, no-entry}
 use Rattle.rules.specs.Walk.{ended-place, walk-in, walk-over, walk-of, from, start, listed, goods}
@@ -52,7 +52,8 @@ use Rattle.rules.proofs.Searches.{list-rises, list-holds}
 use Rattle.rules.proofs.Saves.{written-gives, restore-saved, ended-restores, save-restored, restored-cut, saved-cut}
 use Rattle.rules.proofs.Stays.{save-stays, recover-stays, join-stays, leg-stays}
 use Rattle.rules.proofs.TextRefused.{TextRefused, text-refused}
-use Rattle.rules.proofs.Ways.{support-counts, support-sequences}
+use Rattle.rules.proofs.Ways.{weight-count, support-counts, support-sequences}
+use Rattle.rules.proofs.Weights.{their-lengths, leg-weights}
 
 -- ---- DEMAND 1: a call refuses exactly what its checks refuse, with the number and place of the first that applies. A refused
 -- leg has counts of 0, hands back the search that it was given and leaves its tables; a refused save, recovery or join leaves
@@ -125,6 +126,8 @@ pub record Demand2 : Type 0 where
   pub gaps : (t : Template) (j m i p q : ℕ) → suc i < length (parts t j m)
       → let c = getD (components t) i none in let d = getD (components t) (suc i) none in
       Follows (nth (parts t j m) (suc i) .near) (nth (parts t j m) (suc i) .far) p q ↔ Gap (c .length) (d .low) (d .high) p q
+  -- the weighted support is the number of the motif's occurrences, added over all sequences
+  pub weights : (t : Template) (j m : ℕ) (ss : List (List ℕ)) → weight (parts t j m) ss ≡ sum (map (λ s. length (occurrences (parts t j m) s)) ss)
   -- every template asks for an exact search, and of an exact search the paper's own words hold. The list holds exactly the motifs
   -- whose support reaches the quorum; each letter of an occurrence is the one that stands there; a prefix is frequent if its
   -- support reaches the quorum, and the steps are 4 times the number of frequent prefixes of 0 to K - 1 letters
@@ -156,6 +159,12 @@ pub record Demand2 : Type 0 where
   pub recovered-in-order : (t : Template) (ss : List (List ℕ)) (m : ℕ) → InOrder (whole-list t ss m)
   pub recovered-length : (letters lengths : List ℕ) (t : Template) (m : ℕ) → SoundSet letters lengths → SoundTemplate t
       → length (whole-list t (sequences letters lengths) m) < 2 ^ 57
+  -- the weighted supports of a search's list are the lengths of its motifs' lists; and the one in a row of any leg, ended or not, is
+  -- below 2^57 and is what a recovery of the row's motif answers as its list's length
+  pub listed-weights : (t : Template) (quorum : ℕ) (ss : List (List ℕ)) → their-weights t quorum ss ≡ map (λ m. length (whole-list t ss m)) (frequent-motifs t quorum ss)
+  pub leg-weights : (letters lengths : List ℕ) (s : Search) (budget : ℕ) (motifs supports weights : List ℕ) (i : ℕ)
+      → let l = leg-rule letters lengths s budget motifs supports weights in i < l .told .rows
+      → (getD (l .weights) i 0 < 2 ^ 57) × Recovers letters lengths (s .template) (getD (l .motifs) i 0) (getD (l .weights) i 0)
   -- what a recovery writes is its page of that list, and it tells the page's rows and the list's length
   pub recovery : (letters lengths : List ℕ) (t : Template) (m f : ℕ) (out : List ℕ) (c : Counts)
       → (recover-rule letters lengths t m f out) .told ≡ gives c
@@ -246,6 +255,7 @@ demand2 =
       motifs = λ t o quorum ss. list-holds t quorum ss o;
       in-letter-order = list-rises;
       supports = λ t j m ss. support-sequences (parts t j m) ss;
+      weights = λ t j m ss. weight-count (parts t j m) ss;
       occurring = λ t o j m h s. support-counts (parts t j m) s (parts-worded t o j m) (parts-some t o j m h);
       gaps = λ t j m i p q. follows-gap (profile-of t .reading) 0 (components t) (spell (base-of t) j m) i p q;
       exact = exact-search;
@@ -258,6 +268,8 @@ demand2 =
       recovered = λ t o ss m row. rows-are (parts t (size t) m) ss (parts-worded t o (size t) m) (parts-some t o (size t) m (size-some t o)) row;
       recovered-in-order = λ t ss m. rows-in-order (parts t (size t) m) ss;
       recovered-length = λ letters lengths t m set o. list-bound t o letters lengths set m;
+      listed-weights = their-lengths;
+      leg-weights = leg-weights;
       recovery = λ letters lengths t m f out c e. let r = written-gives (first (recover-checks letters lengths t m f)) _ c _ out e in (ap (λ c. c .rows) (r .1), ap (λ c. c .length) (r .1), r .2);
       fasta-holds = fasta-written;
       fasta = read-whole;

@@ -66,6 +66,7 @@ pub mod Reading
 pub mod Begins
 pub mod Relayed
 pub mod Completes
+pub mod Weights
 pub mod StepsSoFar
 pub mod OneAnswer
 pub mod Demands

@@ -7,10 +7,10 @@ use mathlib.Core.List.{List, [], _∷_, _++_, map, List·Memᴰ, List·Memᴰ·h
 use Prim.Native.Nat.{ℕ, zero, suc, _+_, _-_, _<_}
 use native.Mathlib.Omega.{arith}
 use lib.ListN.{length}
-use Rattle.rules.specs.Lists.{run, if, keep, each, some?}
+use Rattle.rules.specs.Lists.{run, if, keep, each}
 use Rattle.rules.specs.Occurrence.{found, reach, starts, occurrences}
 use Rattle.rules.specs.Order.{Before, here, there, InOrder, Rising}
-use Rattle.rules.specs.Support.{firsts, rows-from, occurrence-rows}
+use Rattle.rules.specs.Support.{rows-from, occurrence-rows}
 use Rattle.rules.specs.Template.{Part}
 use Rattle.rules.proofs.Members.{each-out, keep-run-out}
 use Rattle.rules.proofs.Occurs.{starts-lead, rows-out}
@@ -97,8 +97,3 @@ rows-from-in-order i cs (s ∷ ss) =
 pub rows-in-order : (cs : List Part) (ss : List (List ℕ)) → InOrder (occurrence-rows cs ss)
 unfolding occurrence-rows
 rows-in-order cs ss = rows-from-in-order 1 cs ss
-
--- the first starts in a sequence rise, so that each counts once
-pub firsts-rising : (cs : List Part) (s : List ℕ) → Rising (firsts cs s)
-unfolding firsts
-firsts-rising cs s = keep-run-rising (λ p. some? (starts cs s p)) 1 (length s)

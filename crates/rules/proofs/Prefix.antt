@@ -15,13 +15,13 @@ use Rattle.rules.specs.Motif.{spell}
 use Rattle.rules.specs.Occurrence.{spare, front-by, stands-by, found, reach, occurrences, ways}
 use Rattle.rules.specs.Profile.{to-come}
 use Rattle.rules.specs.Sound.{SoundComponent, SoundTemplate}
-use Rattle.rules.specs.Support.{support, occurrence-rows}
+use Rattle.rules.specs.Support.{support, weight}
 use Rattle.rules.specs.Template.{Part, Reading, none, part-of, slots, components, size, deal}
 use Rattle.rules.specs.declared.Component.{Component}
 use Rattle.rules.specs.declared.Template.{Template}
 use Rattle.rules.proofs.Lists.{keep-wider}
 use Rattle.rules.proofs.Spelling.{spell-more, length-spell}
-use Rattle.rules.proofs.Ways.{occurrences-count, rows-count, support-sequences}
+use Rattle.rules.proofs.Ways.{occurrences-count, weight-count, support-sequences}
 
 -- ---- sums
 
@@ -164,11 +164,11 @@ module _ (R : Reading) (s : List ℕ) where
 -- ---- in all sequences
 
 -- a prefix one letter shorter comes to no less
-pub rows-antitone : (R : Reading) (base n : ℕ) (cs : List Component) (j m : ℕ) → AllSound cs → 1 ≤ j → (ss : List (List ℕ))
-    → length (occurrence-rows (deal R n cs (spell base (suc j) m)) ss) * to-come cs (spell base (suc j) m)
-    ≤ length (occurrence-rows (deal R n cs (spell base j (m / base))) ss) * to-come cs (spell base j (m / base))
-rows-antitone R base n cs j m l h ss =
-    rw (rows-count, rows-count, spell-more base j m)
+pub weight-antitone : (R : Reading) (base n : ℕ) (cs : List Component) (j m : ℕ) → AllSound cs → 1 ≤ j → (ss : List (List ℕ))
+    → weight (deal R n cs (spell base (suc j) m)) ss * to-come cs (spell base (suc j) m)
+    ≤ weight (deal R n cs (spell base j (m / base))) ss * to-come cs (spell base j (m / base))
+weight-antitone R base n cs j m l h ss =
+    rw (weight-count, weight-count, spell-more base j m)
     (sum-times _ _ _ _ (λ s. fewer-occurrences R s n cs (spell base j (m / base)) (m % base) l (rw length-spell h)) ss)
 
 -- the gaps to come can each be kept

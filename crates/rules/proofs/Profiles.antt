@@ -20,7 +20,7 @@ use Rattle.rules.specs.declared.Component.{Component}
 use Rattle.rules.specs.declared.Template.{Template}
 use Rattle.rules.proofs.Components.{components-sound}
 use Rattle.rules.proofs.Lists.{keep-append}
-use Rattle.rules.proofs.Prefix.{rows-antitone, support-antitone, none-to-come, size-some}
+use Rattle.rules.proofs.Prefix.{weight-antitone, support-antitone, none-to-come, size-some}
 use Rattle.rules.proofs.Spelling.{spell-more, length-spell}
 use Rattle.rules.proofs.Tests.{both}
 
@@ -74,7 +74,7 @@ module _ (P : Profile) (proper : Proper P) where
         go : (a : Basis) → counted-with a (deal (P .reading) 0 (components t) (spell (P .base) (suc j) m)) (to-come (components t) (spell (P .base) (suc j) m)) ss
             ≤ counted-with a (deal (P .reading) 0 (components t) (spell (P .base) j (m / P .base))) (to-come (components t) (spell (P .base) j (m / P .base))) ss
         go by-sequence = support-antitone (P .reading) (P .base) 0 (components t) j m (components-sound o) h ss
-        go by-occurrence = rows-antitone (P .reading) (P .base) 0 (components t) j m (components-sound o) h ss
+        go by-occurrence = weight-antitone (P .reading) (P .base) 0 (components t) j m (components-sound o) h ss
 
     module _ (quorum : ℕ) (ss : List (List ℕ)) where
       good-anti : SoundTemplate t → (j m : ℕ) → reaches (measure P t ss) quorum (suc j) m ≡ true → reaches (measure P t ss) quorum j (m / P .base) ≡ true

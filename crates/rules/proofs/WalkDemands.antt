@@ -1,27 +1,28 @@
 -- DEMANDS 2 AND 3 OF EVERY WALK that is lawful, proved once; and so of every kind of search, by its profile.
-use mathlib.Core.Path.{_≡_}
+use mathlib.Core.Path.{_≡_, refl, subst}
 use mathlib.Core.Logic.{_⊎_, _↔_}
 use mathlib.Core.Bool.{true}
 use mathlib.Core.List.{List, List·Memᴰ}
-use Prim.Native.Nat.{ℕ, zero, suc, _≤_, _<_, _^_}
+use Prim.Native.Nat.{ℕ, zero, suc, _/_, _^_, _≤_, _<_}
 use native.Mathlib.Omega.{arith}
 use lib.ListN.{length}
-use lib.Dec.{ltb}
-use borrow.Author.Tests.{leb-true, le-leb, ltb-true, lt-ltb}
+use lib.Dec.{ltb, eqb}
+use borrow.Author.Tests.{leb-true, le-leb, eqb-true, ltb-true, lt-ltb}
 use Rattle.rules.specs.Legs.{ended, Grant, leg, legs}
 use Rattle.rules.specs.Order.{Rising}
 use Rattle.rules.specs.Profile.{Profile, Proper, exactly, mixed, repeated, substituted}
 use Rattle.rules.specs.Sound.{SoundTemplate}
 use Rattle.rules.specs.Support.{counted, allowed-in, valid-in, parts-in}
 use Rattle.rules.specs.Template.{size}
-use Rattle.rules.specs.Walk.{walk-in, Walk, Lawful, ended-place, from, start, listed, spelled, motifs, tries}
+use Rattle.rules.specs.Walk.{walk-in, Walk, Lawful, ended-place, from, start, motif, listed, spelled, candidate, motifs, tries}
 use Rattle.rules.specs.declared.Component.{Component}
 use Rattle.rules.specs.declared.Place.{Place}
 use Rattle.rules.specs.declared.Template.{Template}
 use Rattle.rules.proofs.Legs.{Ample, Passed, leg-law}
 use Rattle.rules.proofs.Members.{keep-run-in, keep-run-out}
 use Rattle.rules.proofs.OccurrenceOrder.{keep-run-rising}
-use Rattle.rules.proofs.Passing.{Passing, passing-leg, passing-from, from-passing}
+use Rattle.rules.proofs.Candidates.{Candidate}
+use Rattle.rules.proofs.Passing.{Passing, passing-leg, passing-lists, passing-from, from-passing}
 use Rattle.rules.proofs.Prefix.{size-some}
 use Rattle.rules.proofs.Profiles.{lawful-in, spelled-in, good-whole, exactly-proper, mixed-proper, repeated-proper, substituted-proper}
 use Rattle.rules.proofs.Relay.{all-listed, all-tried, legs-enough, leg-enough}
@@ -43,6 +44,8 @@ pub record WalkDemands (W : Walk) : Type 0 where
   -- a place that the search passes through is a candidate or the ended place, and a leg leads from one to another
   pub through : (p : Place) → Passing W p ↔ ((p ≡ ended-place) ⊎ List·Memᴰ p (from W (start W)))
   pub leads : (b r : ℕ) (p : Place) → Passing W p → Passing W ((leg W b r p) .at)
+  -- from such a place every leg, ended or not, lists good motifs alone
+  pub lists-only : (b r : ℕ) (p : Place) → Passing W p → (m : ℕ) → List·Memᴰ m ((leg W b r p) .motifs) → List·Memᴰ m (motifs W)
 
 -- the list of any walk
 motifs-are : (W : Walk) (m : ℕ) → List·Memᴰ m (motifs W) ↔ ((m < W .base ^ W .depth) × (spelled W (W .depth) m ≡ true) × (W .good (W .depth) m ≡ true))
@@ -55,6 +58,23 @@ motifs-are W m = (
 pub motifs-rise : (W : Walk) → Rising (motifs W)
 unfolding motifs
 motifs-rise W = keep-run-rising _ 0 (W .base ^ W .depth)
+
+-- the letters of a candidate may each follow
+candidate-spelled : (W : Walk) (j m : ℕ) → candidate W j m ≡ true → spelled W j m ≡ true
+unfolding candidate spelled
+candidate-spelled W zero m e = refl
+candidate-spelled W (suc j) m e =
+    let r = both (W .may (suc j) m) _ .0 e in
+    both (W .may (suc j) m) _ .1 (r .0, both (spelled W j (m / W .base)) _ .0 (r .1) .0)
+
+-- a candidate that is a motif is in it
+candidate-motif : (W : Walk) (q : Place) → Candidate W q → motif W q ≡ true → List·Memᴰ (q .number) (motifs W)
+unfolding motif
+candidate-motif W q c e =
+    let h = both (eqb (q .letters) (W .depth)) _ .0 e in
+    motifs-are W (q .number) .1
+    (subst (λ j. (q .number < W .base ^ j) × (spelled W j (q .number) ≡ true) × (W .good j (q .number) ≡ true)) (eqb-true (q .letters) (W .depth) (h .0))
+    (c .below, candidate-spelled W (q .letters) (q .number) (c .is), h .1))
 
 pub walk-demands : (W : Walk) → Lawful W → WalkDemands W
 walk-demands W L =
@@ -69,6 +89,7 @@ walk-demands W L =
       between = leg-law W (L .pos);
       through = λ p. (passing-from W L p, from-passing W L p);
       leads = passing-leg W L;
+      lists-only = λ b r p c m i. let q = passing-lists W L b r p c m i in rw (q .3) (candidate-motif W (q .0) (q .1) (q .2));
     }
 
 -- ---- every kind of search

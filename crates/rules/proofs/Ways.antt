@@ -1,19 +1,17 @@
 -- The counts are those of the lists: ways that are added up part by part are the occurrences that are listed part by part,
--- a first start is one under which something is listed, and a mark is true if something is listed at all.
+-- and a mark is true if something is listed at all.
 use mathlib.Core.Path.{_≡_, refl, sym, ap, _∙_}
 use mathlib.Core.Logic.{_↔_}
 use mathlib.Core.Bool.{Bool, true, false, false≢true}
-use mathlib.Core.List.{List, [], _∷_, map, List·Memᴰ, List·Memᴰ·head, List·Memᴰ·not-nil, Memᴰ·cast, head-eq-of-cons-eq}
+use mathlib.Core.List.{List, [], _∷_, map, List·Memᴰ, List·Memᴰ·head, List·Memᴰ·not-nil}
 use Prim.Native.Nat.{ℕ, suc, _≤_}
 use native.Mathlib.Omega.{arith}
 use lib.ListN.{length, length-append, length-map}
 use Rattle.rules.specs.Lists.{run, if, keep, each, some?, sum}
 use Rattle.rules.specs.Occurrence.{found, reach, starts, occurrences, ways, Occurs}
-use Rattle.rules.specs.Support.{marks, support, firsts, rows-from, occurrence-rows}
+use Rattle.rules.specs.Support.{marks, support, rows-from, occurrence-rows, weight}
 use Rattle.rules.specs.Template.{Part}
-use Rattle.rules.proofs.Members.{each-in, each-out, keep-run-in, keep-run-out}
-use Rattle.rules.proofs.Occurs.{Worded, starts-lead, occurrences-are}
-use Rattle.rules.proofs.Stands.{run-in, run-out}
+use Rattle.rules.proofs.Occurs.{Worded, occurrences-are}
 
 -- the lengths of lists laid end to end add up
 each-count : {A B : Type 0} (f : A → ℕ) (g : A → List B) → ((x : A) → f x ≡ length (g x)) → (xs : List A) → sum (map f xs) ≡ length (each g xs)
@@ -52,36 +50,16 @@ unfolding rows-from sum
 rows-from-count i cs [] = refl
 rows-from-count i cs (s ∷ ss) = omega (arith, length-append (map (λ t. i ∷ t) (occurrences cs s)) (rows-from (suc i) cs ss), length-map (occurrences cs s) (λ t. i ∷ t), rows-from-count (suc i) cs ss)
 
--- the rows of the whole list are as many as the occurrences in all sequences
-pub rows-count : (cs : List Part) (ss : List (List ℕ)) → length (occurrence-rows cs ss) ≡ sum (map (λ s. length (occurrences cs s)) ss)
-unfolding occurrence-rows
-rows-count cs ss = rows-from-count 1 cs ss
+-- the weighted support, the length of the whole list, is the number of occurrences in all sequences
+pub weight-count : (cs : List Part) (ss : List (List ℕ)) → weight cs ss ≡ sum (map (λ s. length (occurrences cs s)) ss)
+unfolding weight occurrence-rows
+weight-count cs ss = rows-from-count 1 cs ss
 
 -- a list has something in it exactly if it has a member
 pub some-is : {A : Type 0} (xs : List A) → (some? xs ≡ true) ↔ ((x : A) × List·Memᴰ x xs)
 unfolding some?
 some-is [] = (λ e. absurd (false≢true e), λ m. absurd (List·Memᴰ·not-nil (m .1)))
 some-is (x ∷ xs) = (λ e. (x, List·Memᴰ·head refl), λ m. refl)
-
--- a position is a first start exactly if it is the first of an occurrence that is listed
-pub firsts-are : (cs : List Part) (s : List ℕ) (p : ℕ) → List·Memᴰ p (firsts cs s) ↔ ((ps : List ℕ) × List·Memᴰ (p ∷ ps) (occurrences cs s))
-unfolding firsts occurrences
-firsts-are cs s p = (there, found)
-  where
-    there : List·Memᴰ p (keep (λ p. some? (starts cs s p)) (run 1 (length s))) → (ps : List ℕ) × List·Memᴰ (p ∷ ps) (each (starts cs s) (run 1 (length s)))
-    there m =
-        let k = keep-run-out (λ p. some? (starts cs s p)) 1 (length s) p m in
-        let r = some-is (starts cs s p) .0 (k .2) in
-        let l = starts-lead cs s p (r .0) (r .1) in
-        (l .0, each-in (starts cs s) (run 1 (length s)) (run-in 1 (length s) p (k .0) (k .1)) (Memᴰ·cast (sym (l .1)) (r .1)))
-
-    found : (ps : List ℕ) × List·Memᴰ (p ∷ ps) (each (starts cs s) (run 1 (length s))) → List·Memᴰ p (keep (λ p. some? (starts cs s p)) (run 1 (length s)))
-    found r =
-        let k = each-out (starts cs s) (run 1 (length s)) (r .1) in
-        let l = starts-lead cs s (k .0) (p ∷ r .0) (k .2) in
-        let e : p ≡ k .0 = head-eq-of-cons-eq (l .1) in
-        let h = run-out 1 (length s) (k .0) (k .1) in
-        keep-run-in (λ p. some? (starts cs s p)) 1 (length s) p (omega arith) (omega arith) (some-is (starts cs s p) .1 (p ∷ r .0, rw (← e) at (k .2)))
 
 -- a sequence is marked exactly if the parts occur in it
 pub support-counts : (cs : List Part) (s : List ℕ) → Worded cs → 1 ≤ length cs → (some? (occurrences cs s) ≡ true) ↔ ((ps : List ℕ) × Occurs cs s ps)

@@ -1,4 +1,5 @@
--- The paper's small facts, p1 to p11, and its printout: what the definitions compute beside what the paper says.
+-- The paper's small facts, p1 to p11, its printout, and what request 3 says of weighted supports: what the definitions compute beside
+-- what the papers say.
 use mathlib.Core.List.{List, [], _∷_, map}
 use mathlib.Core.Path.{_≡_, refl}
 use Prim.Native.Nat.{ℕ}
@@ -6,7 +7,7 @@ use lib.ListN.{length, take, drop, replicate}
 use Rattle.rules.specs.Calls.{begin-rule, begun, leg-rule, LegRule, stretch, supports-of, weights-of, save-rule, restore-rule, recover-rule, join-rule}
 use Rattle.rules.specs.Join.{partners, partnered, rising?}
 use Rattle.rules.specs.Legs.{leg}
-use Rattle.rules.specs.Letters.{value, letter?, letter}
+use Rattle.rules.specs.Letters.{A, C, G, T, value, letter?, letter}
 use Rattle.rules.specs.Lists.{run, keep, each, joined, some?, all?, member?, sum, put}
 use Rattle.rules.specs.Motif.{number, spell}
 use Rattle.rules.specs.Occurrence.{front-by, stands-by, reach, starts, occurrences}
@@ -16,8 +17,8 @@ use Rattle.rules.specs.Refusals.{_else_, first, first-bad, check1, check
 use Rattle.rules.specs.Relay.{Lent, relay}
 use Rattle.rules.specs.Saved.{low-first, read-low, size-record, component-record, place-record, component-records, records, bytes, record-at, field, record-count, component-count, read-component, read-place, read-template, read-search, sized?, blank?, size-kind?, component-kind?, place-kind?, size-blank?, component-blank?, place-blank?, saved-records, kind?, unnamed-blank?, sums?, place-rule?}
 use Rattle.rules.specs.Sequences.{split, sequences}
-use Rattle.rules.specs.Support.{marks, support, firsts, weight, rows-from, occurrence-rows, allowed-in, parts-in, measure, reaches}
-use Rattle.rules.specs.Template.{component, none, components, size, trimmed, deal, cut}
+use Rattle.rules.specs.Support.{marks, support, rows-from, occurrence-rows, weight, allowed-in, parts-in, measure, reaches}
+use Rattle.rules.specs.Template.{Part, component, none, components, size, trimmed, deal, cut}
 use Rattle.rules.specs.Text as text
 use Rattle.rules.specs.Told.{Told, gives, refuses, Counts}
 use Rattle.rules.specs.Walk.{place, first-place, ended-place, walk-in, walk-over, children, later, under, onward, from, up, next, start, motif, listed, spelled, candidate}
@@ -62,6 +63,23 @@ AT = 0 ∷ 3 ∷ []
 
 in-E : List ℕ → ℕ
 in-E w = support (cut (components pair) w) (sequences letters lengths)
+
+-- the positions in AAA from which an occurrence of AA begins
+AA-starts : List ℕ
+AA-starts = keep (λ p. some? (starts (cut (components pair) AA) (A ∷ A ∷ A ∷ []) p)) (run 1 3)
+
+-- document 000's Table 1: CCGTACCGAACCTCAAA, CCGTTATAGGAACCATT, TATGGAACCATCTT, TAACGGATCCCTTT; its template NNN[0,3]NN[1,3]NNNN;
+-- and CCG[0,3]TA[1,3]GAAC under it
+table-one : List (List ℕ)
+table-one =
+    (C ∷ C ∷ G ∷ T ∷ A ∷ C ∷ C ∷ G ∷ A ∷ A ∷ C ∷ C ∷ T ∷ C ∷ A ∷ A ∷ A ∷ [])
+    ∷ (C ∷ C ∷ G ∷ T ∷ T ∷ A ∷ T ∷ A ∷ G ∷ G ∷ A ∷ A ∷ C ∷ C ∷ A ∷ T ∷ T ∷ [])
+    ∷ (T ∷ A ∷ T ∷ G ∷ G ∷ A ∷ A ∷ C ∷ C ∷ A ∷ T ∷ C ∷ T ∷ T ∷ [])
+    ∷ (T ∷ A ∷ A ∷ C ∷ G ∷ G ∷ A ∷ T ∷ C ∷ C ∷ C ∷ T ∷ T ∷ T ∷ [])
+    ∷ []
+
+CCG-TA-GAAC : List Part
+CCG-TA-GAAC = cut (component 3 0 0 ∷ component 2 0 3 ∷ component 4 1 3 ∷ []) (C ∷ C ∷ G ∷ T ∷ A ∷ G ∷ A ∷ A ∷ C ∷ [])
 
 -- what a call tells, as numbers: what it gives, or its refusal's number and place
 search-told : Told Search → List ℕ
@@ -108,7 +126,7 @@ input =
 
 printout : List ℕ
 printout =
-    65 ∷ 91 ∷ 48 ∷ 44 ∷ 49 ∷ 93 ∷ 71 ∷ 32 ∷ 50 ∷ 32 ∷ 50 ∷ 10
+    65 ∷ 91 ∷ 48 ∷ 44 ∷ 49 ∷ 93 ∷ 71 ∷ 32 ∷ 50 ∷ 32 ∷ 51 ∷ 10
     ∷ 67 ∷ 91 ∷ 48 ∷ 44 ∷ 49 ∷ 93 ∷ 71 ∷ 32 ∷ 50 ∷ 32 ∷ 50 ∷ 10
     ∷ 71 ∷ 91 ∷ 48 ∷ 44 ∷ 49 ∷ 93 ∷ 84 ∷ 32 ∷ 50 ∷ 32 ∷ 51 ∷ 10
     ∷ 101 ∷ 110 ∷ 100 ∷ 32 ∷ 50 ∷ 48 ∷ 32 ∷ 51 ∷ 10
@@ -129,8 +147,14 @@ facts =
     ∷ is (counts-told ((recover-rule letters lengths pair 2 0 (replicate 11 9)) .told)) (3 ∷ 3 ∷ [])
     ∷ is ((recover-rule letters lengths pair 2 0 (replicate 11 9)) .out) (1 ∷ 1 ∷ 3 ∷ 2 ∷ 2 ∷ 3 ∷ 2 ∷ 2 ∷ 4 ∷ 9 ∷ 9 ∷ [])
     -- p6: AAA: AA has occurrences (1,2), (1,3), (2,3) and 2 starts
-    ∷ is (joined (occurrences (cut (components pair) AA) (0 ∷ 0 ∷ 0 ∷ []))) (1 ∷ 2 ∷ 1 ∷ 3 ∷ 2 ∷ 3 ∷ [])
-    ∷ is (weight (cut (components pair) AA) ((0 ∷ 0 ∷ 0 ∷ []) ∷ []) ∷ []) (2 ∷ [])
+    ∷ is (joined (occurrences (cut (components pair) AA) (A ∷ A ∷ A ∷ []))) (1 ∷ 2 ∷ 1 ∷ 3 ∷ 2 ∷ 3 ∷ [])
+    ∷ is (length AA-starts ∷ []) (2 ∷ [])
+    -- request 3: its weighted support is 3; in E those of AG, CG and GT are 3, 2 and 3
+    ∷ is (weight (cut (components pair) AA) ((A ∷ A ∷ A ∷ []) ∷ []) ∷ []) (3 ∷ [])
+    ∷ is (let l = run-leg 99 (at 2 first-place) in take (l .told .rows) (l .weights)) (3 ∷ 2 ∷ 3 ∷ [])
+    -- document 000: CCG[0,3]TA[1,3]GAAC has support 2 and weighted support 3, since two occurrences share a start
+    ∷ is (support CCG-TA-GAAC table-one ∷ weight CCG-TA-GAAC table-one ∷ []) (2 ∷ 3 ∷ [])
+    ∷ is (joined (occurrence-rows CCG-TA-GAAC table-one)) (1 ∷ 1 ∷ 4 ∷ 8 ∷ 2 ∷ 1 ∷ 5 ∷ 10 ∷ 2 ∷ 1 ∷ 7 ∷ 10 ∷ [])
     -- p7: the join of 1 4 with 3 5, head 1: range 0,1 gives 1 4; range 0,0 gives 4
     ∷ is ((join-rule (1 ∷ 4 ∷ []) (3 ∷ 5 ∷ []) 1 0 1 (9 ∷ 9 ∷ [])) .out) (1 ∷ 4 ∷ [])
     ∷ is ((join-rule (1 ∷ 4 ∷ []) (3 ∷ 5 ∷ []) 1 0 0 (9 ∷ 9 ∷ [])) .out) (4 ∷ 9 ∷ [])
@@ -155,5 +179,5 @@ facts =
     ∷ []
 
 the-facts : map (λ f. f .computed) facts ≡ map (λ f. f .paper) facts
-unfolding facts letters lengths pair AA AG CG GT AT in-E search-told counts-told number-told at run-leg whole saved moved-to-CA in-legs input printout run keep each joined some? all? member? sum put value letter? letter split sequences components size trimmed deal number spell front-by stands-by reach starts occurrences marks support firsts weight rows-from occurrence-rows allowed to-come exactly profile-of allowed-in parts-in measure reaches walk-in children later under onward from up next start motif listed spelled candidate leg low-first read-low size-record component-record place-record component-records records bytes record-at field record-count component-count read-component read-place read-template read-search sized? blank? size-kind? component-kind? place-kind? size-blank? component-blank? place-blank? saved-records kind? unnamed-blank? sums? place-rule? partners partnered rising? whole-list page _else_ first first-bad check1 check2 check3 check4 check5 check6 check7 check8 check9 check10 check11 check12 passes? check13 check14 check15 check6-head check8-range check16 check17 check21 check22 check23 new-checks restore-checks search-checks save-checks recover-checks join-checks begun begin-rule stretch supports-of weights-of leg-rule save-rule restore-rule recover-rule join-rule relay text.pieces text.number? text.digits text.parse-number text.run? text.parse-component text.parse-first text.parse-rest text.parse-components text.template-of text.but-last text.last text.lines text.unended text.text-checks text.parse-template text.parse-quorum text.parse-letters text.parse-lengths text.digits-of text.decimal text.shape-rest text.shape text.print-motif text.print-row text.print-end text.print-refused text.print-search text.print-rule
+unfolding facts letters lengths pair AA AG CG GT AT in-E AA-starts table-one CCG-TA-GAAC search-told counts-told number-told at run-leg whole saved moved-to-CA in-legs input printout run keep each joined some? all? member? sum put value letter? letter split sequences components size trimmed deal number spell front-by stands-by reach starts occurrences marks support rows-from occurrence-rows weight allowed to-come exactly profile-of allowed-in parts-in measure reaches walk-in children later under onward from up next start motif listed spelled candidate leg low-first read-low size-record component-record place-record component-records records bytes record-at field record-count component-count read-component read-place read-template read-search sized? blank? size-kind? component-kind? place-kind? size-blank? component-blank? place-blank? saved-records kind? unnamed-blank? sums? place-rule? partners partnered rising? whole-list page _else_ first first-bad check1 check2 check3 check4 check5 check6 check7 check8 check9 check10 check11 check12 passes? check13 check14 check15 check6-head check8-range check16 check17 check21 check22 check23 new-checks restore-checks search-checks save-checks recover-checks join-checks begun begin-rule stretch supports-of weights-of leg-rule save-rule restore-rule recover-rule join-rule relay text.pieces text.number? text.digits text.parse-number text.run? text.parse-component text.parse-first text.parse-rest text.parse-components text.template-of text.but-last text.last text.lines text.unended text.text-checks text.parse-template text.parse-quorum text.parse-letters text.parse-lengths text.digits-of text.decimal text.shape-rest text.shape text.print-motif text.print-row text.print-end text.print-refused text.print-search text.print-rule
 the-facts = refl

@@ -10,7 +10,7 @@ use Rattle.rules.specs.Motif.{spell}
 use Rattle.rules.specs.Occurrence.{front-by, stands-by, reach, starts, occurrences}
 use Rattle.rules.specs.Profile.{allowed, to-come, repeated, substituted, bases, stands-for, several, within, mixed}
 use Rattle.rules.specs.Sequences.{split, sequences}
-use Rattle.rules.specs.Support.{marks, support, rows-from, occurrence-rows, allowed-in, valid-in, parts-in, measure, reaches}
+use Rattle.rules.specs.Support.{marks, support, rows-from, occurrence-rows, weight, allowed-in, valid-in, parts-in, measure, reaches}
 use Rattle.rules.specs.Template.{component, none, components, size, deal}
 use Rattle.rules.specs.Walk.{Walk, walk-in, children, later, under, onward, from, up, next, start, motif, listed}
 use Rattle.rules.specs.declared.Component.{Component}
@@ -79,5 +79,5 @@ kinds =
     ∷ []
 
 the-kinds : map (λ f. f .computed) kinds ≡ map (λ f. f .paper) kinds
-unfolding kinds meanings E AAA two double triple second-one each-one letters lengths pair whole run keep each some? all? member? sum spell value split sequences front-by stands-by reach starts occurrences allowed to-come reaches allowed-in parts-in measure walk-in repeated substituted bases stands-for several within mixed marks support rows-from occurrence-rows components size deal children later under onward from up next start motif listed
+unfolding kinds meanings E AAA two double triple second-one each-one letters lengths pair whole run keep each some? all? member? sum spell value split sequences front-by stands-by reach starts occurrences allowed to-come reaches allowed-in parts-in measure walk-in repeated substituted bases stands-for several within mixed marks support rows-from occurrence-rows weight components size deal children later under onward from up next start motif listed
 the-kinds = refl

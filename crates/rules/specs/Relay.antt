@@ -1,5 +1,6 @@
 -- A search run in legs, each with a budget and tables of its own, saved and restored over the same sequences between legs;
--- and what the user asks that it comes to. Then how bytes that were cut short are refused, and which are restored.
+-- and what the user asks that it comes to. Then what a recovery answers of a row's motif, how bytes that were cut short are refused,
+-- and which are restored.
 use mathlib.Core.Bool.{true}
 use mathlib.Core.List.{List, [], _∷_, _++_, map, List·Memᴰ}
 use mathlib.Core.Logic.{_⊎_}
@@ -7,7 +8,7 @@ use mathlib.Core.Path.{_≡_}
 use Prim.Native.Nat.{ℕ, _+_, _*_, _≤_}
 use lib.Dec.{eqb}
 use lib.ListN.{length, take}
-use Rattle.rules.specs.Calls.{on-refusal, LegRule, leg-rule, save-rule, restore-rule}
+use Rattle.rules.specs.Calls.{on-refusal, LegRule, leg-rule, save-rule, restore-rule, recover-rule}
 use Rattle.rules.specs.Legs.{Stop, ended, spent, full}
 use Rattle.rules.specs.Limits.{Record-BYTES, Record-EXTRA}
 use Rattle.rules.specs.Lists.{if}
@@ -16,7 +17,7 @@ use Rattle.rules.specs.Saved.{sized?, laid-out?, read-search}
 use Rattle.rules.specs.Sound.{SoundSet, SoundTemplate}
 use Rattle.rules.specs.Support.{support, weight, parts}
 use Rattle.rules.specs.Template.{size}
-use Rattle.rules.specs.Told.{Told, gives, refuses}
+use Rattle.rules.specs.Told.{Told, gives, refuses, Counts}
 use Rattle.rules.specs.Walk as walk
 use Rattle.rules.specs.Walk.{ended-place, walk-over, walk-of, from, start}
 use Rattle.rules.specs.declared.Search.{Search}
@@ -126,6 +127,10 @@ module _ (letters lengths : List ℕ) where
       let w = save-rule letters lengths (l .told .search) (g .buffer) in
       let more = go-on (restored letters lengths (w .told) (w .out)) (relay gs) in
       after (l .told .answer) (alone l) more
+
+-- WHAT A RECOVERY ANSWERS of the motif m, from any first row up to w on: that its list has w rows
+abbrev pub Recovers : List ℕ → List ℕ → Template → ℕ → ℕ → Type 0
+Recovers letters lengths t m w = (f : ℕ) (out : List ℕ) → f ≤ w → (c : Counts) × ((recover-rule letters lengths t m f out) .told ≡ gives c) × (c .length ≡ w)
 
 -- HOW BYTES THAT WERE CUT SHORT ARE REFUSED, whatever sequences are lent: as 1 to 4 refuse these, and with 10 where they pass
 abbrev pub RefusedAsCut : List ℕ → Type 0

@@ -1,12 +1,12 @@
--- What a set of sequences says of a motif: its support, its weighted support, and the whole list of its occurrences.
+-- What a set of sequences says of a motif: its support, the whole list of its occurrences, and its weighted support.
 use mathlib.Core.Bool.{Bool, true, _&&_}
 use mathlib.Core.List.{List, [], _∷_, _++_, map}
 use Prim.Native.Nat.{ℕ, zero, suc, _*_, _^_}
 use lib.Dec.{leb, ltb}
 use lib.ListN.{length}
-use Rattle.rules.specs.Lists.{run, keep, some?, sum}
+use Rattle.rules.specs.Lists.{keep, some?}
 use Rattle.rules.specs.Motif.{spell}
-use Rattle.rules.specs.Occurrence.{starts, occurrences}
+use Rattle.rules.specs.Occurrence.{occurrences}
 use Rattle.rules.specs.Profile.{Basis, by-sequence, by-occurrence, Profile, profile-of, allowed, to-come}
 use Rattle.rules.specs.Template.{Part, components, deal}
 use Rattle.rules.specs.declared.Template.{Template}
@@ -19,14 +19,6 @@ marks cs ss = map (λ s. some? (occurrences cs s)) ss
 unfoldable pub support : List Part → List (List ℕ) → ℕ
 support cs ss = length (keep (λ b. b) (marks cs ss))
 
--- the positions of the first part from which an occurrence begins
-unfoldable pub firsts : List Part → List ℕ → List ℕ
-firsts cs s = keep (λ p. some? (starts cs s p)) (run 1 (length s))
-
--- the weighted support: the number of those, added over all sequences
-unfoldable pub weight : List Part → List (List ℕ) → ℕ
-weight cs ss = sum (map (λ s. length (firsts cs s)) ss)
-
 -- the rows of the sequences from number i on: the sequence's number, then the starts
 unfoldable pub rows-from : ℕ → List Part → List (List ℕ) → List (List ℕ)
 rows-from i cs [] = []
@@ -36,10 +28,14 @@ rows-from i cs (s ∷ ss) = map (λ t. i ∷ t) (occurrences cs s) ++ rows-from 
 unfoldable pub occurrence-rows : List Part → List (List ℕ) → List (List ℕ)
 occurrence-rows cs ss = rows-from 1 cs ss
 
+-- the weighted support: the length of that list, so that every occurrence in every sequence counts one
+unfoldable pub weight : List Part → List (List ℕ) → ℕ
+weight cs ss = length (occurrence-rows cs ss)
+
 -- what is counted of a motif: the sequences in which it occurs, or its occurrences
 abbrev pub counted : Basis → List Part → List (List ℕ) → ℕ
 counted by-sequence cs ss = support cs ss
-counted by-occurrence cs ss = length (occurrence-rows cs ss)
+counted by-occurrence cs ss = weight cs ss
 
 -- what a prefix may come to if the gaps still to come can be kept in n ways: a sequence is one still, an occurrence goes on in n
 abbrev pub counted-with : Basis → List Part → ℕ → List (List ℕ) → ℕ

@@ -75,10 +75,10 @@ fn write(
     ensures { λ _. ⌜ now (weights .exit) ≡ set (now (weights .entry)) row (weight (parts template (templates.size template) motif) (sequences (now (letters .entry)) (now (lengths .entry)))) ⌝ }
     ensures { λ _. ⌜ length (now (ways .exit)) ≡ length (now (ways .entry)) ⌝ }
 {
-    let tallied = ways::tally(letters, lengths, template, motif, ways);
+    let weight = ways::weight(letters, lengths, template, motif, ways);
     motifs[row] = motif;
     supports[row] = found;
-    weights[row] = tallied.firsts;
+    weights[row] = weight;
 }
 
 // Writes the row of a candidate that is a listed motif, and answers how many rows there are then.

@@ -9,10 +9,9 @@ use Rattle.rules.specs.Letters.{letter, value}
 use Rattle.rules.specs.Limits.{Letter-BASES}
 use Rattle.rules.specs.Lists.{each, sum}
 use Rattle.rules.specs.Motif.{spell}
-use Rattle.rules.specs.Recovery.{whole-list}
 use Rattle.rules.specs.Sequences.{sequences}
 use Rattle.rules.specs.Sound.{SoundSet, SoundTemplate}
-use Rattle.rules.specs.Support.{weight, occurrence-rows, parts}
+use Rattle.rules.specs.Support.{weight, parts}
 use Rattle.rules.specs.Template.{deal, none, components, size, cut-after, cut}
 use Rattle.rules.specs.declared.Component.{Component}
 use Rattle.rules.specs.declared.Template.{Template}
@@ -22,11 +21,12 @@ use Rattle.rules.proofs.Components.{cut-some, components-some}
 use Rattle.rules.proofs.Exact.{exact-search, exact-parts}
 use Rattle.rules.proofs.Spelling.{length-spell, spell-below, spell-drop}
 use Rattle.rules.proofs.Tables.{map-drop}
-use Rattle.ways.specs.Counts.{counts, all-counts, positives, Tally, letters-of, aligned}
+use Rattle.rules.proofs.Weights.{weight-list}
+use Rattle.ways.specs.Counts.{counts, all-counts, letters-of, aligned}
 use Rattle.ways.proofs.Aligned.{letters-within}
 use Rattle.ways.proofs.Bytes.{counts-bytes, all-bytes}
 use Rattle.ways.proofs.Counting.{counts-after}
-use Rattle.ways.proofs.Totals.{weight-counts, rows-counts}
+use Rattle.ways.proofs.Totals.{weight-counts}
 
 -- the parts from the component c on are those of the later components and letters alone, after the k letters of the one before
 drop-cut : (n : ℕ) (cs : List Component) → ((i : ℕ) → i < length cs → 1 ≤ (getD cs i none) .length) → (c m : ℕ)
@@ -73,14 +73,10 @@ module _ {t : Template} (sound : SoundTemplate t) (m n : ℕ) (fits : size t ≤
     unfolding sequences all-counts
     all-motif = all-bytes (counts (aligned (components t) w)) (counts (parts t (size t) m)) (λ s. counts-motif 0 s spelled refl) lengths letters
 
-    -- add up to a number of 64 bits
-    pub all-small : SoundSet letters lengths → sum (all-counts (aligned (components t) w) lengths letters) < 2 ^ 64
-    unfolding whole-list
-    all-small set = rw (all-motif, ← (rows-counts (parts t (size t) m) (sequences letters lengths))) (omega (arith, list-bound t sound letters lengths set m))
+    -- add up to its weighted support
+    pub all-weight : sum (all-counts (aligned (components t) w) lengths letters) ≡ weight (parts t (size t) m) (sequences letters lengths)
+    all-weight = ap sum all-motif ∙ sym (weight-counts (parts t (size t) m) (sequences letters lengths))
 
-    -- and come to its first starts and its occurrences
-    pub all-found : {a b : ℕ} → Tally (all-counts (aligned (components t) w) lengths letters) a b
-        → (a ≡ weight (parts t (size t) m) (sequences letters lengths)) × (b ≡ length (occurrence-rows (parts t (size t) m) (sequences letters lengths)))
-    all-found r =
-        let ss = sequences letters lengths in
-        (r .starts ∙ ap positives all-motif ∙ sym (weight-counts (parts t (size t) m) ss), r .all ∙ ap sum all-motif ∙ sym (rows-counts (parts t (size t) m) ss))
+    -- which is a number of 64 bits
+    pub all-small : SoundSet letters lengths → sum (all-counts (aligned (components t) w) lengths letters) < 2 ^ 64
+    all-small set = rw (all-weight, weight-list t (sequences letters lengths) m) (omega (arith, list-bound t sound letters lengths set m))

@@ -1,11 +1,9 @@
 -- What the passes over one sequence compute: for each position, in how many ways the parts from one on can stand from there.
 use mathlib.Core.List.{List, map}
-use mathlib.Core.Path.{_≡_}
 use Prim.Native.Nat.{ℕ, zero, suc, _+_, _-_, _^_}
-use lib.Dec.{ltb}
 use lib.ListN.{length, drop, getD}
 use Rattle.rules.specs.Limits.{Template-COMPONENTS, Template-GAP}
-use Rattle.rules.specs.Lists.{run, if, keep, each, sum}
+use Rattle.rules.specs.Lists.{run, if, each, sum}
 use Rattle.rules.specs.Occurrence.{stands, reach, ways}
 use Rattle.rules.specs.Sequences.{split}
 use Rattle.rules.specs.Template.{Part, cut, distance}
@@ -23,15 +21,6 @@ all-counts cs lengths buffer = each (counts cs) (split lengths buffer)
 -- from one start, at most so many: each later part starts at one of at most GAP + 1 distances
 abbrev pub most-ways : ℕ
 most-ways = (Template-GAP + 1) ^ (Template-COMPONENTS - 1)
-
--- how many numbers of a list are above 0
-unfoldable pub positives : List ℕ → ℕ
-positives l = length (keep (ltb 0) l)
-
--- what some counts come to: how many are above 0, and their sum
-pub record Tally (l : List ℕ) (firsts occurrences : ℕ) : Type 0 where
-  pub starts : firsts ≡ positives l
-  pub all : occurrences ≡ sum l
 
 -- A PASS. What a list of counts has for a position; 0 where it has none
 unfoldable pub entry : List ℕ → ℕ → ℕ

@@ -1,9 +1,8 @@
-// How many occurrences a motif has, and at how many first starts one begins. An inner crate: its functions require what the
-// checks show of the sequences and the template.
+// How many occurrences a motif has, from each position and in all. An inner crate: its functions require what the checks show of
+// the sequences and the template.
 use rules::Component;
 use rules::Letter;
 use rules::Template;
-use rules::sign;
 ghost use mathlib.Core.Path.{_≡_};
 ghost use mathlib.Core.List.{map};
 ghost use Prim.Native.Nat.{ℕ, suc, _+_, _^_, _≤_, _<_};
@@ -13,9 +12,9 @@ ghost use Rattle.rules.specs.Lists.{run, sum};
 ghost use Rattle.rules.specs.Occurrence.{stands};
 ghost use Rattle.rules.specs.Sequences.{sequences};
 ghost use Rattle.rules.specs.Sound.{SoundSet, SoundComponent, SoundTemplate};
-ghost use Rattle.rules.specs.Support.{weight, occurrence-rows, parts};
+ghost use Rattle.rules.specs.Support.{weight, parts};
 ghost use Rattle.rules.specs.Template.{size, components};
-ghost use Rattle.ways.specs.Counts.{counts, all-counts, most-ways, Tally, entry, cell, ending, leading, letters-of, aligned};
+ghost use Rattle.ways.specs.Counts.{counts, all-counts, most-ways, entry, cell, ending, leading, letters-of, aligned};
 
 // Whether the letters of `word` stand in `s` at the offset `o`.
 fn stands(word: &[u8], s: &[u8], o: usize) -> bool
@@ -144,99 +143,82 @@ fn passes(sequence: &[u8], template: Template, word: &[u8], ways: &mut [u64])
     requires { ⌜ (size template ≤ length (now word)) × (length (now ways) ≡ length (now sequence)) ⌝ }
     ensures { λ _. ⌜ now (ways .exit) ≡ counts (aligned (components template) (now (word .entry))) (now (sequence .entry)) ⌝ }
 {
-    let mut c = template.count as usize;
+    let count = template.count as usize;
+    let mut c = count;
     while 0 < c {
         c -= 1;
         step(sequence, template, word, c, ways);
     }
 }
 
-// What is found of a motif: at how many first starts an occurrence begins, and how many occurrences there are.
-pub struct Tallied {
-    pub firsts: u64,
-    pub occurrences: u64,
-}
-
-// How many of the ways are above 0, and their sum.
-pub fn count(ways: &[u64]) -> Tallied
+// The sum of some ways: of those of the first component, how many occurrences there are.
+pub fn sum(ways: &[u64]) -> u64
     requires { ⌜ sum (now ways) < 2 ^ 64 ⌝ }
-    ensures { λ r. ⌜ Tally (now (ways .entry)) (r .firsts) (r .occurrences) ⌝ }
+    ensures { λ r. ⌜ r ≡ sum (now (ways .entry)) ⌝ }
 {
-    let mut firsts: u64 = 0;
-    let mut occurrences: u64 = 0;
+    let mut total: u64 = 0;
     let mut i = 0;
     while i < ways.len() {
-        let x = ways[i];
-        let first = sign(x) as u64;
-        firsts += first;
-        occurrences += x;
+        let here = ways[i];
+        total += here;
         i += 1;
     }
-    Tallied {
-        firsts,
-        occurrences,
-    }
+    total
 }
 
-// What is found in one sequence.
-fn examine(sequence: &[u8], template: Template, word: &[u8], ways: &mut [u64]) -> Tallied
+// How many occurrences one sequence has.
+fn count(sequence: &[u8], template: Template, word: &[u8], ways: &mut [u64]) -> u64
     requires { ⌜ SoundTemplate template ⌝ }
     requires { ⌜ (size template ≤ length (now word)) × (length (now ways) ≡ length (now sequence)) ⌝ }
     requires { ⌜ sum (counts (aligned (components template) (now word)) (now sequence)) < 2 ^ 64 ⌝ }
-    ensures { λ r. ⌜ Tally (counts (aligned (components template) (now (word .entry))) (now (sequence .entry))) (r .firsts) (r .occurrences) ⌝ }
+    ensures { λ r. ⌜ r ≡ sum (counts (aligned (components template) (now (word .entry))) (now (sequence .entry))) ⌝ }
 {
     passes(sequence, template, word, ways);
-    count(ways)
+    sum(ways)
 }
 
-// What is found in all sequences, each by its own part of the buffer.
-fn examine_all(
+// How many all sequences have, each by its own part of the buffer.
+fn count_all(
     letters: &[u8],
     lengths: &[u32],
     template: Template,
     word: &[u8],
     ways: &mut [u64],
-) -> Tallied
+) -> u64
     requires { ⌜ SoundTemplate template ⌝ }
     requires { ⌜ (size template ≤ length (now word)) × (sum (now lengths) ≡ length (now letters)) × (length (now letters) ≤ length (now ways)) ⌝ }
     requires { ⌜ sum (all-counts (aligned (components template) (now word)) (now lengths) (now letters)) < 2 ^ 64 ⌝ }
-    ensures { λ r. ⌜ Tally (all-counts (aligned (components template) (now (word .entry))) (now (lengths .entry)) (now (letters .entry))) (r .firsts) (r .occurrences) ⌝ }
+    ensures { λ r. ⌜ r ≡ sum (all-counts (aligned (components template) (now (word .entry))) (now (lengths .entry)) (now (letters .entry))) ⌝ }
 {
-    let mut firsts: u64 = 0;
-    let mut occurrences: u64 = 0;
+    let mut total: u64 = 0;
     let mut begin: usize = 0;
     let mut i = 0;
     while i < lengths.len() {
         let n = lengths[i] as usize;
         let end = begin + n;
-        let found = examine(&letters[begin..end], template, word, &mut ways[..n]);
-        firsts += found.firsts;
-        occurrences += found.occurrences;
+        let found = count(&letters[begin..end], template, word, &mut ways[..n]);
+        total += found;
         begin = end;
         i += 1;
     }
-    Tallied {
-        firsts,
-        occurrences,
-    }
+    total
 }
 
-// At how many first starts an occurrence of a motif begins, and how many occurrences there are, in all sequences.
-pub fn tally(
+// The weighted support of a motif: how many occurrences it has in all sequences.
+pub fn weight(
     letters: &[u8],
     lengths: &[u32],
     template: Template,
     motif: u64,
     ways: &mut [u64],
-) -> Tallied
+) -> u64
     requires { ⌜ SoundSet (now letters) (now lengths) ⌝ }
     requires { ⌜ SoundTemplate template ⌝ }
     requires { ⌜ length (now letters) ≤ length (now ways) ⌝ }
-    ensures { λ r. ⌜ r .firsts ≡ weight (parts template (size template) motif) (sequences (now (letters .entry)) (now (lengths .entry))) ⌝ }
-    ensures { λ r. ⌜ r .occurrences ≡ length (occurrence-rows (parts template (size template) motif) (sequences (now (letters .entry)) (now (lengths .entry)))) ⌝ }
+    ensures { λ r. ⌜ r ≡ weight (parts template (size template) motif) (sequences (now (letters .entry)) (now (lengths .entry))) ⌝ }
     ensures { λ _. ⌜ length (now (ways .exit)) ≡ length (now (ways .entry)) ⌝ }
 {
     let mut word = [0u8; Template::LETTERS as usize];
     Letter::spell(motif, &mut word);
-    examine_all(letters, lengths, template, &word, ways)
+    count_all(letters, lengths, template, &word, ways)
 }

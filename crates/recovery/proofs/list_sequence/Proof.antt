@@ -17,14 +17,14 @@ use Rattle.recovery.proofs.list_sequence.Tie as tie
 mark-requires : tie.Need-mark-requires
 mark-requires c κs = search needs
 
-slice-reshare-prefix-count : tie.Need-slice-reshare-prefix-count
-slice-reshare-prefix-count c = search needs
+slice-reshare-prefix-sum : tie.Need-slice-reshare-prefix-sum
+slice-reshare-prefix-sum c = search needs
 
-slice-aggregate-count : tie.Need-slice-aggregate-count
-slice-aggregate-count c = simp length-take (omega arith)
+slice-aggregate-sum : tie.Need-slice-aggregate-sum
+slice-aggregate-sum c = simp length-take (omega arith)
 
-count-requires : tie.Need-count-requires
-count-requires c κs =
+sum-requires : tie.Need-sum-requires
+sum-requires c κs =
     let b = c .before .before .before .before .before .before .before .before .before .before .before .before in
     let a = b .args in
     rw (counts-sum (parts (a .template) (size (a .template)) (a .motif)) (map value (a .sequence .now)) (c .before .before .before .before .before .mark .ensures .1)) (b .pre .1 .1 .1)
@@ -52,16 +52,16 @@ returns c =
     let a = b .args in
     let m = c .before .before .before .before .before .before .before .before .before .before .before .before .mark .ensures in
     let r = c .before .before .list-starts .ensures in
-    (r .0, (listed-are (b .pre .0) (a .motif) (map value (a .sequence .now)) _ (m .0) (a .number .0) (length (a .sequence .now)) (length-map (a .sequence .now) value) (buffer (a .done) (a .out .now)) (r .1), c .before .before .before .before .before .before .count .ensures .all ∙ counts-sum (parts (a .template) (size (a .template)) (a .motif)) (map value (a .sequence .now)) (m .1)))
+    (r .0, (listed-are (b .pre .0) (a .motif) (map value (a .sequence .now)) _ (m .0) (a .number .0) (length (a .sequence .now)) (length-map (a .sequence .now) value) (buffer (a .done) (a .out .now)) (r .1), c .before .before .before .before .before .before .sum .ensures ∙ counts-sum (parts (a .template) (size (a .template)) (a .motif)) (map value (a .sequence .now)) (m .1)))
 
 pub list-sequence-spec : {M : Type 1} → statement M
 list-sequence-spec =
     tie.close
     (tie.spec
     mark-requires
-    slice-reshare-prefix-count
-    slice-aggregate-count
-    count-requires
+    slice-reshare-prefix-sum
+    slice-aggregate-sum
+    sum-requires
     list-starts-requires
     same-length
     same-length-2

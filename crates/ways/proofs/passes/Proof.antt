@@ -10,14 +10,14 @@ use Rattle.ways.proofs.passes.Statement.{statement}
 use Rattle.ways.proofs.passes.Tie as tie
 
 abbrev Inv-loop : tie.InvT-loop
-Inv-loop sequence template word ways₀ c₀ ways c =
+Inv-loop sequence template word ways₀ count c₀ ways c =
     (c ≤ template .count) × (length ways ≡ length sequence) × (c < template .count → ways ≡ counts (aligned (drop c (components template)) word) sequence)
 
 abbrev μ-loop : tie.MeasureT-loop
-μ-loop sequence template word ways₀ c₀ ways c = c
+μ-loop sequence template word ways₀ count c₀ ways c = c
 
-cast-c : tie.Need-cast-c Inv-loop μ-loop
-cast-c c = search needs
+cast-count : tie.Need-cast-count Inv-loop μ-loop
+cast-count c = search needs
 
 loop-holds : tie.Need-loop-holds Inv-loop μ-loop
 loop-holds c = (omega arith, omega arith, λ h. absurd (omega arith))
@@ -53,7 +53,7 @@ passes-spec =
     (tie.spec
     Inv-loop
     μ-loop
-    cast-c
+    cast-count
     loop-holds
     sub-c
     step-requires

@@ -1,11 +1,11 @@
--- A row is three stores, of which the last has the weighted support that was tallied.
+-- A row is three stores, of which the last has the weighted support that was counted.
 use mathlib.Core.Path.{refl}
 use borrow.Author.Needs.{needs}
 use Rattle.search.proofs.run.write.Statement.{statement}
 use Rattle.search.proofs.run.write.Tie as tie
 
-tally-requires : tie.Need-tally-requires
-tally-requires c κs = search needs
+weight-requires : tie.Need-weight-requires
+weight-requires c κs = search needs
 
 mul-motifs : tie.Need-mul-motifs
 mul-motifs c = search needs
@@ -38,13 +38,13 @@ same-length-4 : tie.Need-same-length-4
 same-length-4 c = search needs
 
 returns : tie.Need-returns
-returns c = let t = c .before .before .tally in (refl, (refl, (rw (t .ensures .0), t .ensures .1 .1)))
+returns c = let w = c .before .before .weight in (refl, (refl, (rw (w .ensures .0), w .ensures .1)))
 
 pub write-spec : {M : Type 1} → statement M
 write-spec =
     tie.close
     (tie.spec
-    tally-requires
+    weight-requires
     mul-motifs
     slice-write-motifs
     mul-supports

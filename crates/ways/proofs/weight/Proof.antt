@@ -1,10 +1,11 @@
--- `tally` meets its contract: the counts of all sequences come to what is asked, and their sum fits, as an occurrence list is short enough.
+-- `weight` meets its contract: the counts of all sequences add up to it, and their sum fits, as an occurrence list is short enough.
 use borrow.Author.Needs.{needs}
+use mathlib.Core.Path.{_∙_}
 use native.Mathlib.Omega.{arith}
 use Rattle.rules.specs.Limits.{Template-LETTERS}
-use Rattle.ways.proofs.Motifs.{all-small, all-found}
-use Rattle.ways.proofs.tally.Statement.{statement}
-use Rattle.ways.proofs.tally.Tie as tie
+use Rattle.ways.proofs.Motifs.{all-weight, all-small}
+use Rattle.ways.proofs.weight.Statement.{statement}
+use Rattle.ways.proofs.weight.Tie as tie
 
 slice-aggregate-spell : tie.Need-slice-aggregate-spell
 slice-aggregate-spell c = search needs
@@ -12,11 +13,11 @@ slice-aggregate-spell c = search needs
 spell-requires : tie.Need-spell-requires
 spell-requires c κs = search needs
 
-slice-aggregate-examine-all : tie.Need-slice-aggregate-examine-all
-slice-aggregate-examine-all c = search needs
+slice-aggregate-count-all : tie.Need-slice-aggregate-count-all
+slice-aggregate-count-all c = search needs
 
-examine-all-requires : tie.Need-examine-all-requires
-examine-all-requires c κs =
+count-all-requires : tie.Need-count-all-requires
+count-all-requires c κs =
     let b = c .before .before .before .before .before .before .before .before in
     let s = c .before .before .before .spell in (
       b .pre .1 .0,
@@ -32,16 +33,16 @@ same-length c = search needs
 returns : tie.Need-returns
 returns c =
     let b = c .before .before .before .before .before .before .before .before .before .before .before in
-    let r = all-found (b .pre .1 .0) (b .args .motif) Template-LETTERS (b .pre .1 .0 .deep) (b .args .letters .now) (b .args .lengths .now) (c .before .before .before .before .before .before .spell .ensures) (c .before .before .examine-all .ensures) in
-    (r .0, (r .1, search needs))
+    let e = all-weight (b .pre .1 .0) (b .args .motif) Template-LETTERS (b .pre .1 .0 .deep) (b .args .letters .now) (b .args .lengths .now) (c .before .before .before .before .before .before .spell .ensures) in
+    (c .before .before .count-all .ensures ∙ e, search needs)
 
-pub tally-spec : {M : Type 1} → statement M
-tally-spec =
+pub weight-spec : {M : Type 1} → statement M
+weight-spec =
     tie.close
     (tie.spec
     slice-aggregate-spell
     spell-requires
-    slice-aggregate-examine-all
-    examine-all-requires
+    slice-aggregate-count-all
+    count-all-requires
     same-length
     returns)
