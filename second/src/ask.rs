@@ -36,8 +36,8 @@ pub fn support(
     counts(letters, lengths, template, prefix).map(|counts| counts.support)
 }
 
-/// "The number of start positions of the first component from which an
-/// occurrence begins, added over all sequences."
+/// "The row's weighted support becomes the length of the recovery list, summed
+/// over sequences": the number of the prefix's occurrences.
 pub fn weighted_support(
     letters: &[u8],
     lengths: &[u32],
@@ -45,16 +45,6 @@ pub fn weighted_support(
     prefix: &Place,
 ) -> Result<u64, Refusal> {
     counts(letters, lengths, template, prefix).map(|counts| counts.weighted_support)
-}
-
-/// The number of occurrences of the prefix, added over all sequences.
-pub fn occurrences(
-    letters: &[u8],
-    lengths: &[u32],
-    template: &Template,
-    prefix: &Place,
-) -> Result<u64, Refusal> {
-    counts(letters, lengths, template, prefix).map(|counts| counts.occurrences)
 }
 
 /// A candidate as the search found it.

@@ -33,7 +33,7 @@ pub mod requests;
 #[allow(unsafe_code)]
 pub mod library;
 
-pub use ask::{candidates, occurrences, support, weighted_support, Candidate, Candidates};
+pub use ask::{candidates, support, weighted_support, Candidate, Candidates};
 pub use fasta::{lines_text, next_record, records, Handed, Record};
 pub use join::join;
 pub use leg::{leg, Answer, Leg};

@@ -65,11 +65,6 @@ impl Ways {
         self.0.iter().sum()
     }
 
-    /// How many starts have at least one way.
-    pub fn starts(&self) -> u64 {
-        self.0.iter().filter(|ways| **ways > 0).count() as u64
-    }
-
     /// The last position of the sequence.
     pub fn last_position(&self) -> Position {
         Position(self.0.len() as u32)
@@ -113,30 +108,26 @@ pub(crate) fn ways(sequence: &Sequence, pieces: &[Piece]) -> Vec<Ways> {
 pub(crate) struct Counts {
     pub support: u32,
     pub weighted_support: u64,
-    pub occurrences: u64,
 }
 
 /// "Presence is kept as one mark for each sequence, and the support is the
-/// number of marks." "The weighted support in a list row is the number of
-/// start positions of the first component from which an occurrence begins,
-/// added over all sequences."
+/// number of marks." "The row's weighted support becomes the length of the
+/// recovery list, summed over sequences": all occurrences count, also those
+/// that share a start.
 pub(crate) fn count(set: &SequenceSet, template: &Template, prefix: &Place) -> Counts {
     let pieces = pieces(template, prefix);
     let mut marks = Vec::new();
     let mut weighted_support = 0;
-    let mut occurrences = 0;
     for sequence in set.sequences() {
         let ways = ways(sequence, &pieces);
-        let starts = ways.first().map_or(0, Ways::starts);
-        marks.push(starts > 0);
-        weighted_support += starts;
-        occurrences += ways.first().map_or(0, Ways::in_all);
+        let occurrences = ways.first().map_or(0, Ways::in_all);
+        marks.push(occurrences > 0);
+        weighted_support += occurrences;
     }
     let support = marks.iter().filter(|mark| **mark).count() as u32;
     Counts {
         support,
         weighted_support,
-        occurrences,
     }
 }
 

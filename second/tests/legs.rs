@@ -46,7 +46,7 @@ fn spent_comes_before_full_and_full_before_the_step() {
     assert_eq!(answer.search, search);
     let (answer, rows) = leg_of(&lent, &search, 1, 1);
     assert_eq!((answer.answer, answer.steps), (Answer::Spent, 1));
-    assert_eq!(rows, [(2, 2, 2)]);
+    assert_eq!(rows, [(2, 2, 3)]);
     assert_eq!(answer.search.place, place(2, number("AT")));
 }
 
@@ -86,7 +86,7 @@ fn the_room_is_the_shortest_table() {
         );
         assert_eq!((answer.answer, answer.rows), (Answer::Full, 1));
         assert_eq!(answer.search.place, place(2, number("CG")));
-        assert_eq!((motifs[0], supports[0], weights[0]), (2, 2, 2));
+        assert_eq!((motifs[0], supports[0], weights[0]), (2, 2, 3));
         assert!(motifs[1..].iter().all(|number| *number == 0));
         assert!(supports[1..].iter().all(|number| *number == 0));
         assert!(weights[1..].iter().all(|number| *number == 0));

@@ -53,7 +53,7 @@ fn p3_a_search_of_e() {
     assert_eq!(told, Leg { stop, steps, rows });
     assert_eq!(motifs, [2, 6, 11, 9, 9]);
     assert_eq!(supports, [2, 2, 2, 9, 9]);
-    assert_eq!(weights, [2, 2, 3, 9, 9]);
+    assert_eq!(weights, [3, 2, 3, 9, 9]);
     assert_eq!(restore(LETTERS, LENGTHS, &saved, &mut []), Ok(at(2, 0, 0)));
 }
 
@@ -105,6 +105,15 @@ fn p6_the_occurrences_of_aa() {
     let told = recover(b"AAA", &[3], PAIR, 0, 0, &mut out).unwrap();
     assert_eq!(told, Recovered { rows: 3, length: 3 });
     assert_eq!(out, [1, 1, 2, 1, 1, 3, 1, 2, 3]);
+
+    let mut saved = [0; 64];
+    assert_eq!(begin(b"AAA", &[3], PAIR, 1, &mut saved), Ok(64));
+    let (mut motifs, mut supports, mut weights) = ([9; 1], [9; 1], [9; 1]);
+    let (m, s, w) = (&mut motifs[..], &mut supports[..], &mut weights[..]);
+    let told = leg(b"AAA", &[3], &mut saved, 99, m, s, w).unwrap();
+    let (stop, steps, rows) = (Stop::Ended, 8, 1);
+    assert_eq!(told, Leg { stop, steps, rows });
+    assert_eq!((motifs, supports, weights), ([0], [1], [3]));
 }
 
 #[test]

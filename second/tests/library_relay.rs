@@ -1,12 +1,13 @@
 //! The linked library over many calls: the bytes of a search passed on from
 //! leg to leg, and a motif's list recovered page by page, each beside the
-//! second program.
+//! second program; and the rows of a leg beside the lists of their motifs,
+//! both the library's.
 
-use second::library::{self, Stop, Template};
+use second::library::{self, Recovered, Stop, Template};
 use second::requests::answer::search;
 use second::requests::random::Random;
 use second::requests::request::{Set, Slot, Value};
-use second::Answer;
+use second::{Answer, Refusal};
 
 /// A random set, a template within the rules, and a quorum.
 fn search_over(random: &mut Random) -> (Set, Value) {
@@ -158,15 +159,56 @@ fn pages(random: &mut Random) {
     }
 }
 
-/// Runs it from one seed after another, and names the one at which it fails.
-fn from_seeds(seeds: std::ops::Range<u64>, what: fn(&mut Random)) {
-    for seed in seeds {
-        let run = std::panic::catch_unwind(|| what(&mut Random::new(seed)));
-        if let Err(cause) = run {
-            println!("seed {seed}");
-            std::panic::resume_unwind(cause);
-        }
+/// A leg, and for each row that it writes the motif's list: as long as the
+/// row's weight, without a row from there on, and refused past it. How many
+/// rows there were.
+fn rows_beside_lists(set: &Set, value: &Value, random: &mut Random) -> usize {
+    let (letters, lengths) = (&set.letters[..], &set.lengths[..]);
+    let shape = shape(value);
+    let template = template(value, &shape);
+    let mut saved = [0; 128];
+    let size = library::begin(letters, lengths, template, value.quorum, &mut saved)
+        .expect("a search within the rules");
+    let (mut motifs, mut supports, mut weights) = ([0; 60], [0; 60], [0; 60]);
+    let (m, s, w) = (&mut motifs[..], &mut supports[..], &mut weights[..]);
+    let leg = library::leg(letters, lengths, &mut saved[..size], 2_000, m, s, w)
+        .expect("the bytes of a search");
+
+    let row = usize::from(value.count) + 1;
+    for (motif, length) in motifs.into_iter().zip(weights).take(leg.rows) {
+        let recover = |first, out: &mut [u32]| {
+            library::recover(letters, lengths, template, motif, first, out)
+        };
+        let room = random.below(5);
+        let mut page = random.narrow(room as usize * row);
+        let rows = length.min(room) as usize;
+        assert_eq!(recover(0, &mut page), Ok(Recovered { rows, length }));
+
+        let left = page.clone();
+        let rows = 0;
+        assert_eq!(recover(length, &mut page), Ok(Recovered { rows, length }));
+        let refusal = Refusal::plain(Refusal::FIRST_ROW);
+        assert_eq!(recover(length + 1, &mut page), Err(refusal));
+        assert_eq!(page, left);
     }
+    leg.rows
+}
+
+fn weights(random: &mut Random) -> usize {
+    let (set, value) = search_over(random);
+    rows_beside_lists(&set, &value, random)
+}
+
+/// Runs it from one seed after another, and names the one at which it fails.
+/// What each run answers.
+fn from_seeds<T>(seeds: std::ops::Range<u64>, what: fn(&mut Random) -> T) -> Vec<T> {
+    let run = |seed| {
+        std::panic::catch_unwind(|| what(&mut Random::new(seed))).unwrap_or_else(|cause| {
+            println!("seed {seed}");
+            std::panic::resume_unwind(cause)
+        })
+    };
+    seeds.map(run).collect()
 }
 
 #[test]
@@ -177,4 +219,19 @@ fn legs_pass_on_their_bytes() {
 #[test]
 fn pages_laid_end_to_end_are_the_list() {
     from_seeds(4_000..8_000, pages);
+}
+
+#[test]
+fn weights_are_the_lengths_of_lists() {
+    let rows: usize = from_seeds(8_000..10_000, weights).iter().sum();
+    assert!(rows > 10_000, "{rows} rows");
+}
+
+#[test]
+fn the_largest_weight_is_the_length_of_its_list() {
+    let mut slots = [Slot::new(1, 0, 255); 6];
+    slots[0].high = 0;
+    let (set, value) = (Set::of(&[vec![b'A'; 65_536]]), Value::of(&slots));
+    let random = &mut Random::new(10_000);
+    assert_eq!(rows_beside_lists(&set, &value.with_quorum(1), random), 1);
 }

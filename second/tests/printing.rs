@@ -198,6 +198,17 @@ fn a_long_list_is_printed_whole() {
 }
 
 #[test]
+fn a_long_weight_is_printed_whole() {
+    let template = ["N"; 6].join("[0,255]");
+    let input = format!("{template}\n1\n{}\n", "A".repeat(59_955));
+    assert_eq!(input.len(), 60_000);
+    // 2^39 times twice the letters less 1,285 (tests/weights.rs).
+    let motif = ["A"; 6].join("[0,255]");
+    let expected = format!("{motif} 1 65214783422464000\nend 24 1\n");
+    assert_eq!(printed(&input), expected);
+}
+
+#[test]
 fn random_text_is_printed_or_refused() {
     let mut random = Random::new(62);
     for _ in 0..3_000 {

@@ -6,7 +6,7 @@ use common::*;
 use second::{join, leg, printout, recover, support, Answer, Recovered};
 
 const E_INPUT: &[u8] = b"N[0,1]N\n2\nACGTA\nCAGGT\nAT\n";
-const E_PRINTOUT: &[u8] = b"A[0,1]G 2 2\nC[0,1]G 2 2\nG[0,1]T 2 3\nend 20 3\n";
+const E_PRINTOUT: &[u8] = b"A[0,1]G 2 3\nC[0,1]G 2 2\nG[0,1]T 2 3\nend 20 3\n";
 
 #[test]
 fn e_is_printed_to_the_byte() {
@@ -37,7 +37,7 @@ fn p2_supports_in_e() {
 
 #[test]
 fn p3_e_with_quorum_2() {
-    let rows = vec![(2, 2, 2), (6, 2, 2), (11, 2, 3)];
+    let rows = vec![(2, 2, 3), (6, 2, 2), (11, 2, 3)];
     assert_eq!(whole(&e(), &e_template(), 2), (20, rows));
 }
 
@@ -62,8 +62,13 @@ fn p6_aa_in_aaa() {
     let answer = recover(&lent.letters, &lent.lengths, &e_template(), 0, 0, &mut out);
     assert_eq!(answer, Ok(Recovered { rows: 3, length: 3 }));
     assert_eq!(out, [1, 1, 2, 1, 1, 3, 1, 2, 3]);
+    // Three occurrences from two starts: the weighted support counts the
+    // former.
+    let mut starts: Vec<u32> = out.chunks(3).map(|row| row[1]).collect();
+    starts.dedup();
+    assert_eq!(starts, [1, 2]);
     let (_, rows) = whole(&lent, &e_template(), 1);
-    assert_eq!(rows, [(0, 1, 2)]);
+    assert_eq!(rows, [(0, 1, 3)]);
 }
 
 #[test]
@@ -96,7 +101,7 @@ fn p9_the_save_after_4_steps() {
     let search = lent.begin(&e_template(), 2).unwrap();
     let (answer, rows) = leg_of(&lent, &search, 4, 5);
     assert_eq!((answer.answer, answer.steps), (Answer::Spent, 4));
-    assert_eq!(rows, [(2, 2, 2)]);
+    assert_eq!(rows, [(2, 2, 3)]);
     let bytes = save_of(&lent, &answer.search);
     assert_eq!(bytes.len(), 64);
     assert_eq!(

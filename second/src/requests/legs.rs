@@ -122,6 +122,37 @@ pub fn deepest(high: u16) -> Value {
     ])
 }
 
+/// Six components of one letter, with the widest gaps between them.
+fn widest() -> Value {
+    let mut slots = [Slot::new(1, 0, 255); 6];
+    slots[0].high = 0;
+    Value::of(&slots)
+}
+
+/// Searches by whose weights a wrong count shows.
+fn weights(random: &mut Random) -> Vec<Request> {
+    let mut requests = Vec::new();
+    // ACG twice in each of three sequences: from one first start, to one last
+    // start, and both. Before, between and behind them it is in none.
+    let shares = Set::of(&["", "ACGG", "", "TGCA", "AACG", "", "ACCG", "GCA"]);
+    let triple = Value::of(&[Slot::new(1, 0, 0), Slot::new(1, 0, 3), Slot::new(1, 0, 3)]);
+    for quorum in [1, 3] {
+        let value = triple.with_quorum(quorum);
+        requests.extend(relay(shares.clone(), value, 60, Grants::Few, random));
+    }
+    // As many occurrences as there can be, almost 2 to the 56th: in one
+    // sequence, and in two that others stand between.
+    let run = |length: usize| vec![b'A'; length];
+    for sequences in [
+        vec![run(65_536)],
+        vec![run(30_000), Vec::new(), vec![b'C'; 536], run(35_000)],
+    ] {
+        let value = widest().with_quorum(1);
+        requests.extend(relay(Set::of(&sequences), value, 2, Grants::Few, random));
+    }
+    requests
+}
+
 pub fn relays(random: &mut Random) -> Vec<Request> {
     let three = [Slot::new(3, 0, 0), Slot::new(2, 0, 3), Slot::new(4, 1, 3)];
     let mut requests = Vec::new();
@@ -196,6 +227,7 @@ pub fn relays(random: &mut Random) -> Vec<Request> {
         };
         requests.extend(relay(set, value, 25, grants, random));
     }
+    requests.extend(weights(random));
     requests
 }
 

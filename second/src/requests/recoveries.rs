@@ -105,7 +105,8 @@ fn motifs(set: &Set, value: &Value, random: &mut Random) -> Vec<u64> {
 }
 
 /// A long run of one letter, so that the list has more rows than are ever
-/// written; with six components at the widest gaps, about 10 to the 15th.
+/// written; with six components at the widest gaps, up to 7 times 10 to the
+/// 16th.
 fn long_lists(random: &mut Random) -> Vec<Request> {
     let mut requests = Vec::new();
     for (letters, components, widest) in [
@@ -113,6 +114,7 @@ fn long_lists(random: &mut Random) -> Vec<Request> {
         (2_000, 3, 255),
         (2_000, 6, 255),
         (60_000, 2, 255),
+        (65_496, 6, 255),
     ] {
         let set = Rc::new(Set::of(&[vec![b'A'; letters], vec![b'A'; 40]]));
         let mut slots = vec![Slot::new(1, 0, widest); components];

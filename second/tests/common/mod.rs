@@ -175,13 +175,12 @@ pub fn naive_occurrences(lent: &Lent, template: &Template, prefix: &str) -> Vec<
     rows
 }
 
-/// Support and weighted support of a prefix from all its occurrences.
+/// Support and weighted support of a prefix from all its occurrences: their
+/// sequences, and their own number.
 pub fn naive_supports(occurrences: &[Vec<u32>]) -> (u32, u64) {
     let mut sequences: Vec<u32> = occurrences.iter().map(|row| row[0]).collect();
     sequences.dedup();
-    let mut starts: Vec<(u32, u32)> = occurrences.iter().map(|row| (row[0], row[1])).collect();
-    starts.dedup();
-    (sequences.len() as u32, starts.len() as u64)
+    (sequences.len() as u32, occurrences.len() as u64)
 }
 
 /// The whole search by trying every prefix of every length: 4 times the

@@ -24,7 +24,8 @@ impl<'a> Leg<'a> {
 
 /// A leg of the library, of passes and of positions. Each makes what it works
 /// in afresh: the library 640 KiB on the stack, all of it cleared; passes four
-/// tables as long as the longest sequence; positions its text and lists.
+/// tables as long as the longest sequence; positions its text, its lists and
+/// the counts beside them.
 pub fn legs<'a>(search: &'a Search, place: Place, budget: u64, room: usize) -> Vec<Leg<'a>> {
     let saved = linked::saved_at(search, place);
     let runs: Vec<Run> = vec![

@@ -202,7 +202,7 @@ impl Examine for Passes<'_> {
                 later,
                 |number, ways| {
                     if number == 0 {
-                        weight += ways.iter().filter(|ways| **ways > 0).count() as u64;
+                        weight += ways.iter().sum::<u64>();
                     }
                 },
             );

@@ -20,6 +20,9 @@ pub struct Positions<'a> {
     /// The lists of the prefixes of 1, 2, .. letters of `word`.
     path: Vec<Vec<u32>>,
     word: Vec<u8>,
+    /// Counts beside a component's list and the next one's.
+    ways: Vec<u64>,
+    later: Vec<u64>,
 }
 
 impl<'a> Positions<'a> {
@@ -32,6 +35,8 @@ impl<'a> Positions<'a> {
             of_letter: Default::default(),
             path: vec![Vec::new(); search.depth()],
             word: Vec::new(),
+            ways: Vec::new(),
+            later: Vec::new(),
         };
         for (number, sequence) in search.set.sequences().enumerate() {
             let begin = made.text.len();
@@ -113,25 +118,34 @@ fn join(ends: &[u32], starts: &[u32], next: &Component, begin: &[u32], to: &mut 
     }
 }
 
-/// The ends that have a start after them within the gap range, and in the same
-/// sequence.
-pub fn join_back(ends: &[u32], starts: &[u32], next: &Component, begin: &[u32]) -> Vec<u32> {
-    let (low, high) = (u32::from(next.low), u32::from(next.high));
-    let mut kept = Vec::new();
-    let mut first = 0;
-    for end in ends {
-        while first < starts.len() && starts[first] < end + 1 + low {
+/// In how many ways the rest can follow each end of a component: the ways of
+/// the next component's ends within reach, and in the same sequence, added.
+/// Both lists rise, and so do the first and the last end within reach.
+fn ways_before(
+    ends: &[u32],
+    (next_ends, later): (&[u32], &[u64]),
+    next: &Component,
+    begin: &[u32],
+    ways: &mut Vec<u64>,
+) {
+    let length = u32::from(next.length);
+    let (least, most) = (length + u32::from(next.low), length + u32::from(next.high));
+    let (mut first, mut past, mut sum) = (0, 0, 0);
+    ways.clear();
+    ways.extend(ends.iter().map(|end| {
+        while let Some(at) = next_ends.get(past) {
+            if *at > end + most || begin[*at as usize] > *end {
+                break;
+            }
+            sum += later[past];
+            past += 1;
+        }
+        while first < past && next_ends[first] < end + least {
+            sum -= later[first];
             first += 1;
         }
-        match starts.get(first) {
-            None => break,
-            Some(start) if *start <= end + 1 + high && begin[*start as usize] <= *end => {
-                kept.push(*end)
-            }
-            Some(_) => {}
-        }
-    }
-    kept
+        sum
+    }));
 }
 
 impl Examine for Positions<'_> {
@@ -152,19 +166,19 @@ impl Examine for Positions<'_> {
         self.sequences(&self.path[place.letters - 1])
     }
 
-    /// From the last component back: the ends of each that some end of the
-    /// next can follow. What is left of the first is counted.
+    /// From the last component, each end of which has one way, back to the
+    /// first, whose ways are added.
     fn weight(&mut self, _motif: u64) -> u64 {
         let mut letters = self.search.depth();
-        let mut alive = self.path[letters - 1].clone();
-        for pair in self.search.components.windows(2).rev() {
-            let length = usize::from(pair[1].length);
-            letters -= length;
-            for end in &mut alive {
-                *end -= length as u32 - 1;
-            }
-            alive = join_back(&self.path[letters - 1], &alive, &pair[1], &self.begin);
+        self.ways.clear();
+        self.ways.resize(self.path[letters - 1].len(), 1);
+        for next in self.search.components[1..].iter().rev() {
+            std::mem::swap(&mut self.ways, &mut self.later);
+            let later = (&self.path[letters - 1][..], &self.later[..]);
+            letters -= usize::from(next.length);
+            let ends = &self.path[letters - 1];
+            ways_before(ends, later, next, &self.begin, &mut self.ways);
         }
-        alive.len() as u64
+        self.ways.iter().sum()
     }
 }

@@ -2,7 +2,6 @@
 //! many rows as there is room for, and how many there are.
 
 use crate::passes::all_ways;
-use crate::positions::join_back;
 use crate::walk::{Place, Search};
 use second::Component;
 
@@ -145,17 +144,25 @@ fn lists(components: &[Component], word: &[u8], sequence: &[u8]) -> Vec<Vec<u32>
         );
         rest = after;
     }
-    let begin = vec![0; sequence.len()];
-    for here in (0..components.len().saturating_sub(1)).rev() {
-        let length = u32::from(components[here].length);
-        let ends: Vec<u32> = lists[here].iter().map(|start| start + length - 1).collect();
-        let mut kept = join_back(&ends, &lists[here + 1], &components[here + 1], &begin);
-        for end in &mut kept {
-            *end -= length - 1;
-        }
-        lists[here] = kept;
+    for (here, pair) in components.windows(2).enumerate().rev() {
+        let (before, after) = lists.split_at_mut(here + 1);
+        keep_followed(pair, &mut before[here], &after[0]);
     }
     lists
+}
+
+/// Keeps the starts of a component that some start of the next can follow.
+/// Both lists rise.
+fn keep_followed(pair: &[Component], starts: &mut Vec<u32>, later: &[u32]) {
+    let (length, next) = (u32::from(pair[0].length), &pair[1]);
+    let (least, most) = (length + u32::from(next.low), length + u32::from(next.high));
+    let mut first = 0;
+    starts.retain(|start| {
+        while first < later.len() && later[first] < start + least {
+            first += 1;
+        }
+        later.get(first).is_some_and(|at| *at <= start + most)
+    });
 }
 
 /// How many occurrences the lists have: the ways of each start, from the last

@@ -94,6 +94,27 @@ fn long_searches(random: &mut Random) -> Vec<Vec<u8>> {
         .to_vec()
 }
 
+/// Searches by whose weights a wrong count shows: occurrences that share some
+/// of their starts, with other sequences between; and very many, whose weight
+/// has 17 digits.
+fn weights() -> Vec<Vec<u8>> {
+    let shares = ["", "ACGG", "", "TGCA", "AACG", "", "ACCG", "GCA"];
+    let shares: Vec<Vec<u8>> = shares.map(|s| s.as_bytes().to_vec()).to_vec();
+    let widest = ["N"; 6].join("[0,255]");
+    let run = |length: usize| vec![b'A'; length];
+    let most = MOST_BYTES - text(&widest, "1", &[Vec::new()]).len();
+    vec![
+        text("N[0,3]N[0,3]N", "1", &shares),
+        text("N[0,3]N[0,3]N", "3", &shares),
+        text(&widest, "1", &[run(most)]),
+        text(
+            &widest,
+            "2",
+            &[run(25_000), Vec::new(), b"CAC".to_vec(), run(30_000)],
+        ),
+    ]
+}
+
 /// Malformed, and well formed but beyond a limit, in each of the first lines.
 fn faulty_lines() -> Vec<Vec<u8>> {
     let templates = [
@@ -295,6 +316,7 @@ fn texts() -> Vec<Vec<u8>> {
     let random = &mut Random::new(SEED);
     let mut texts = long_lists();
     texts.extend(long_searches(random));
+    texts.extend(weights());
     texts.extend(faulty_lines());
     texts.extend(faulty_ends());
     texts.extend(long_texts(random));
