@@ -25,7 +25,7 @@ use Rattle.rules.specs.Saved.{bytes, read-search}
 use Rattle.rules.specs.Sequences.{sequences}
 use Rattle.rules.specs.Sound.{SoundSet, SoundTemplate}
 use Rattle.rules.specs.Support.{support, weight, counted, valid, parts, parts-in}
-use Rattle.rules.specs.Template.{none, components, size}
+use Rattle.rules.specs.Template.{none, components, size, trimmed}
 use Rattle.rules.specs.Told.{gives, refuses, Verdict, fine, refused, Counts, Handing, entry, no-entry}
 use Rattle.rules.specs.Walk.{ended-place, walk-in, walk-over, walk-of, from, start, listed, goods}
 use Rattle.rules.specs.declared.Place.{Place}
@@ -159,12 +159,13 @@ pub record Demand2 : Type 0 where
   pub recovered-in-order : (t : Template) (ss : List (List ℕ)) (m : ℕ) → InOrder (whole-list t ss m)
   pub recovered-length : (letters lengths : List ℕ) (t : Template) (m : ℕ) → SoundSet letters lengths → SoundTemplate t
       → length (whole-list t (sequences letters lengths) m) < 2 ^ 57
-  -- the weighted supports of a search's list are the lengths of its motifs' lists; and the one in a row of any leg, ended or not, is
-  -- below 2^57 and is what a recovery of the row's motif answers as its list's length
+  -- the weighted supports of a search's list are the lengths of its motifs' lists
   pub listed-weights : (t : Template) (quorum : ℕ) (ss : List (List ℕ)) → their-weights t quorum ss ≡ map (λ m. length (whole-list t ss m)) (frequent-motifs t quorum ss)
-  pub leg-weights : (letters lengths : List ℕ) (s : Search) (budget : ℕ) (motifs supports weights : List ℕ) (i : ℕ)
+  -- the weighted support in a row of any leg, ended or not, is below 2^57, and is what a recovery of the row's motif answers as its
+  -- list's length, under the search's template, whatever that holds past its components
+  pub leg-weights : (letters lengths : List ℕ) (s : Search) (budget : ℕ) (motifs supports weights : List ℕ) (t : Template) (i : ℕ) → trimmed t ≡ trimmed (s .template)
       → let l = leg-rule letters lengths s budget motifs supports weights in i < l .told .rows
-      → (getD (l .weights) i 0 < 2 ^ 57) × Recovers letters lengths (s .template) (getD (l .motifs) i 0) (getD (l .weights) i 0)
+      → (getD (l .weights) i 0 < 2 ^ 57) × Recovers letters lengths t (getD (l .motifs) i 0) (getD (l .weights) i 0)
   -- what a recovery writes is its page of that list, and it tells the page's rows and the list's length
   pub recovery : (letters lengths : List ℕ) (t : Template) (m f : ℕ) (out : List ℕ) (c : Counts)
       → (recover-rule letters lengths t m f out) .told ≡ gives c

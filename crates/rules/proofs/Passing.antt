@@ -3,7 +3,7 @@ use mathlib.Core.Path.{_≡_, refl, ap}
 use mathlib.Core.Logic.{_⊎_, inl, inr}
 use mathlib.Core.Bool.{Bool, true, false, _&&_}
 use mathlib.Core.List.{List, [], _∷_, List·Memᴰ, List·Memᴰ·not-nil, List·Memᴰ·cases-cons}
-use Prim.Native.Nat.{ℕ, zero, suc, _/_}
+use Prim.Native.Nat.{ℕ, zero, suc, _/_, _≤_}
 use native.Mathlib.Omega.{arith}
 use lib.Dec.{ltb, eqb}
 use borrow.Author.Tests.{eqb-false}
@@ -41,10 +41,13 @@ module _ (W : Walk) where
       go true e = choose-ended u (p .letters) (children W (p .letters) (p .number)) (up-ended (p .letters) (p .number)) e
       go false e = up-ended (p .letters) (p .number) e
 
-  -- a place passed through that has letters is a candidate
-  candidate-here : (p : Place) → eqb (p .letters) 0 ≡ false → Passing W p → Candidate W p
-  candidate-here p e (inl q) = absurd (eqb-false (p .letters) 0 e (ap (λ (p : Place). p .letters) q))
-  candidate-here p e (inr d) = d
+  -- a place with letters that a search passes through is a candidate
+  pub candidate-here : (p : Place) → Passing W p → 1 ≤ p .letters → Candidate W p
+  candidate-here p (inl e) h = absurd (omega (arith, ap (λ (p : Place). p .letters) e))
+  candidate-here p (inr c) h = c
+
+  lettered : {n : ℕ} → eqb n 0 ≡ false → 1 ≤ n
+  lettered {n} e = omega (arith, eqb-false n 0 e)
 
   module _ (L : Lawful W) where
     -- a step leads to a place that the search passes through
@@ -64,8 +67,8 @@ module _ (W : Walk) where
         go : (a m : Bool) (r : ℕ) → eqb (p .letters) 0 ≡ a → motif W p ≡ m → Passing W p → ((k : ℕ) → Passing W (next W p) → Passing W ((leg W b k (next W p)) .at)) → Passing W ((leg W (suc b) r p) .at)
         go true m r e f c ih = rw e c
         go false true zero e f c ih = rw (e, f) c
-        go false true (suc r) e f c ih = rw (e, f) (ih r (passing-next p (candidate-here p e c)))
-        go false false r e f c ih = rw (e, f) (ih r (passing-next p (candidate-here p e c)))
+        go false true (suc r) e f c ih = rw (e, f) (ih r (passing-next p (candidate-here p c (lettered e))))
+        go false false r e f c ih = rw (e, f) (ih r (passing-next p (candidate-here p c (lettered e))))
 
     -- what it lists on the way are the numbers of candidates that are motifs
     pub passing-lists : (b r : ℕ) (p : Place) → Passing W p → (m : ℕ) → List·Memᴰ m ((leg W b r p) .motifs) → (q : Place) × Candidate W q × (motif W q ≡ true) × (m ≡ q .number)
@@ -81,9 +84,9 @@ module _ (W : Walk) where
         go false true (suc r) e f ih i = first-or (List·Memᴰ·cases-cons (rw (e, f) at i))
           where
             first-or : (m ≡ p .number) ⊎ List·Memᴰ m ((leg W b r (next W p)) .motifs) → (q : Place) × Candidate W q × (motif W q ≡ true) × (m ≡ q .number)
-            first-or (inl z) = (p, candidate-here p e c, f, z)
-            first-or (inr z) = ih r (passing-next p (candidate-here p e c)) z
-        go false false r e f ih i = ih r (passing-next p (candidate-here p e c)) (rw (e, f) at i)
+            first-or (inl z) = (p, candidate-here p c (lettered e), f, z)
+            first-or (inr z) = ih r (passing-next p (candidate-here p c (lettered e))) z
+        go false false r e f ih i = ih r (passing-next p (candidate-here p c (lettered e))) (rw (e, f) at i)
 
     -- the places passed through are those of the walk from its start, and the ended place
     pub passing-from : (p : Place) → Passing W p → (p ≡ ended-place) ⊎ List·Memᴰ p (from W (start W))

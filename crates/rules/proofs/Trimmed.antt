@@ -7,10 +7,12 @@ use native.Mathlib.Omega.{arith}
 use lib.Dec.{leb}
 use lib.ListN.{length, take, getD}
 use borrow.Author.Tests.{le-leb}
-use Rattle.rules.specs.Calls.{trimmed-search}
+use Rattle.rules.specs.Calls.{trimmed-search, recover-rule}
 use Rattle.rules.specs.Lists.{if}
 use Rattle.rules.specs.Sound.{SoundTemplate}
 use Rattle.rules.specs.Profile.{Profile, profile-of}
+use Rattle.rules.specs.Recovery.{whole-list, page}
+use Rattle.rules.specs.Refusals.{check5, check6, check7, check8, check14, check15, recover-checks}
 use Rattle.rules.specs.Saved.{place-rule?}
 use Rattle.rules.specs.Support.{allowed-in, parts, parts-in, measure}
 use Rattle.rules.specs.Template.{none, slots, components, size, kept, trimmed}
@@ -106,3 +108,12 @@ trimmed-sound t o =
       low = ap (λ (c : Component). c .low) (kept-counted (t .count) 1 (t .c1) (o .some)) ∙ o .low;
       high = ap (λ (c : Component). c .high) (kept-counted (t .count) 1 (t .c1) (o .some)) ∙ o .high;
     }
+
+trimmed-count : (t : Template) → trimmed t .count ≡ t .count
+unfolding trimmed
+trimmed-count t = refl
+
+-- so a recovery answers the same
+pub recover-trimmed : (letters lengths : List ℕ) (t : Template) (m f : ℕ) (out : List ℕ) → recover-rule letters lengths (trimmed t) m f out ≡ recover-rule letters lengths t m f out
+unfolding recover-rule recover-checks check5 check6 check7 check8 check14 check15 page whole-list
+recover-trimmed letters lengths t m f out = rw (trimmed-parts t (size (trimmed t)) m, trimmed-components t, trimmed-size t, trimmed-profile t, trimmed-allowed (profile-of t) t, trimmed-count t)

@@ -18,10 +18,10 @@ use Rattle.rules.specs.Walk.{walk-in, Walk, Lawful, ended-place, from, s
 use Rattle.rules.specs.declared.Component.{Component}
 use Rattle.rules.specs.declared.Place.{Place}
 use Rattle.rules.specs.declared.Template.{Template}
+use Rattle.rules.proofs.Candidates.{Candidate}
 use Rattle.rules.proofs.Legs.{Ample, Passed, leg-law}
 use Rattle.rules.proofs.Members.{keep-run-in, keep-run-out}
 use Rattle.rules.proofs.OccurrenceOrder.{keep-run-rising}
-use Rattle.rules.proofs.Candidates.{Candidate}
 use Rattle.rules.proofs.Passing.{Passing, passing-leg, passing-lists, passing-from, from-passing}
 use Rattle.rules.proofs.Prefix.{size-some}
 use Rattle.rules.proofs.Profiles.{lawful-in, spelled-in, good-whole, exactly-proper, mixed-proper, repeated-proper, substituted-proper}
@@ -59,7 +59,7 @@ pub motifs-rise : (W : Walk) → Rising (motifs W)
 unfolding motifs
 motifs-rise W = keep-run-rising _ 0 (W .base ^ W .depth)
 
--- the letters of a candidate may each follow
+-- each letter of a candidate is one that may stand there
 candidate-spelled : (W : Walk) (j m : ℕ) → candidate W j m ≡ true → spelled W j m ≡ true
 unfolding candidate spelled
 candidate-spelled W zero m e = refl
@@ -67,7 +67,7 @@ candidate-spelled W (suc j) m e =
     let r = both (W .may (suc j) m) _ .0 e in
     both (W .may (suc j) m) _ .1 (r .0, both (spelled W j (m / W .base)) _ .0 (r .1) .0)
 
--- a candidate that is a motif is in it
+-- a candidate that is a motif is in the walk's list
 candidate-motif : (W : Walk) (q : Place) → Candidate W q → motif W q ≡ true → List·Memᴰ (q .number) (motifs W)
 unfolding motif
 candidate-motif W q c e =

@@ -1,5 +1,5 @@
 -- The weighted support of a row is the length of the motif's occurrence list, so a recovery of that motif answers the same number. A
--- leg lists motifs of its search alone, so no such recovery is refused but for a first row above it.
+-- leg lists motifs of its search alone, so no such recovery is refused but for a first row above that number.
 use mathlib.Core.Path.{_≡_, refl, sym, ap, _∙_, subst₂}
 use mathlib.Core.Bool.{true}
 use mathlib.Core.List.{List, [], _∷_, map}
@@ -16,7 +16,7 @@ use Rattle.rules.specs.Relay.{frequent-motifs, their-weights, Recovers}
 use Rattle.rules.specs.Sequences.{sequences}
 use Rattle.rules.specs.Sound.{SoundSet, SoundTemplate}
 use Rattle.rules.specs.Support.{weight, valid, parts}
-use Rattle.rules.specs.Template.{size}
+use Rattle.rules.specs.Template.{size, trimmed}
 use Rattle.rules.specs.Told.{Verdict, fine, refused}
 use Rattle.rules.specs.Walk.{walk-of}
 use Rattle.rules.specs.declared.Search.{Search}
@@ -27,6 +27,7 @@ use Rattle.rules.proofs.Places.{sound-passing}
 use Rattle.rules.proofs.Searches.{walk-lawful, list-holds}
 use Rattle.rules.proofs.Sound.{SoundSearch, search-sound, recover-fine}
 use Rattle.rules.proofs.Tables.{put-front}
+use Rattle.rules.proofs.Trimmed.{recover-trimmed}
 use Rattle.rules.proofs.WalkDemands.{walk-demands}
 
 -- a motif's weighted support is the length of its list
@@ -61,6 +62,12 @@ module _ (letters lengths : List ℕ) where
         λ f out h. rw (recover-fine letters lengths t m f (record { set = set; template = sound; motif = v; row = h })) (_, refl, refl),
       )
 
+  -- what a template does not count makes no difference
+  recovers-same : (t u : Template) (m w : ℕ) → trimmed u ≡ trimmed t → Recovers letters lengths t m w → Recovers letters lengths u m w
+  recovers-same t u m w e r f out h =
+      let same = sym (recover-trimmed letters lengths u m f out) ∙ ap (λ v. recover-rule letters lengths v m f out) e ∙ recover-trimmed letters lengths t m f out in
+      rw same (r f out h)
+
   -- the same of the row i of a leg
   abbrev RowWeighs : Template → ℕ → LegRule → Type 0
   RowWeighs t i l = i < l .told .rows → Weighs t (getD (l .motifs) i 0) (getD (l .weights) i 0)
@@ -70,12 +77,9 @@ module _ (letters lengths : List ℕ) where
   either-weighs t i fine f l h k = k refl
   either-weighs t i (refused n p) f l h k = h n p
 
-  -- the weighted support in a row of a leg
-  pub leg-weights : (s : Search) (budget : ℕ) (motifs supports weights : List ℕ) (i : ℕ)
-      → let l = leg-rule letters lengths s budget motifs supports weights in i < l .told .rows
-      → (getD (l .weights) i 0 < 2 ^ 57) × Recovers letters lengths (s .template) (getD (l .motifs) i 0) (getD (l .weights) i 0)
+  row-weighs : (s : Search) (budget : ℕ) (motifs supports weights : List ℕ) (i : ℕ) → RowWeighs (s .template) i (leg-rule letters lengths s budget motifs supports weights)
   unfolding leg-rule stretch weights-of frequent-motifs
-  leg-weights s budget motifs supports weights i = either-weighs (s .template) i (first (search-checks letters lengths s)) _ _ (λ n p h. absurd (omega arith)) (λ e. accepted (search-sound letters lengths s e))
+  row-weighs s budget motifs supports weights i = either-weighs (s .template) i (first (search-checks letters lengths s)) _ _ (λ n p h. absurd (omega arith)) (λ e. accepted (search-sound letters lengths s e))
     where
       room : ℕ
       room = min (length motifs) (min (length supports) (length weights))
@@ -93,3 +97,11 @@ module _ (letters lengths : List ℕ) where
           let v = list-holds (s .template) (s .quorum) (sequences letters lengths) (o .template) (getD listed i 0) .0 m in
           subst₂ (Weighs (s .template)) (sym (put-row listed motifs i h)) (sym (put-row (map found listed) weights i (rw length-map h) ∙ map-row found listed i h))
           (weighs (s .template) (getD listed i 0) (o .set) (o .template) (v .0))
+
+  -- the weighted support in a row of a leg
+  pub leg-weights : (s : Search) (budget : ℕ) (motifs supports weights : List ℕ) (t : Template) (i : ℕ) → trimmed t ≡ trimmed (s .template)
+      → let l = leg-rule letters lengths s budget motifs supports weights in i < l .told .rows
+      → (getD (l .weights) i 0 < 2 ^ 57) × Recovers letters lengths t (getD (l .motifs) i 0) (getD (l .weights) i 0)
+  leg-weights s budget motifs supports weights t i e h =
+      let r = row-weighs s budget motifs supports weights i h in
+      (r .0, recovers-same (s .template) t _ _ e (r .1))

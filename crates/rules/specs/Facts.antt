@@ -45,7 +45,7 @@ lengths = 5 ∷ 5 ∷ 2 ∷ []
 unfoldable pub pair : Template
 pair = record { count = 2; c1 = component 1 0 0; c2 = component 1 0 1; c3 = none; c4 = none; c5 = none; c6 = none }
 
--- the motifs AA, AG and AT under it, in E or in AAA
+-- the motifs AA, AG, CG, GT and AT under it, in E or in AAA
 AA : List ℕ
 AA = 0 ∷ 0 ∷ []
 

@@ -128,7 +128,7 @@ module _ (letters lengths : List ℕ) where
       let more = go-on (restored letters lengths (w .told) (w .out)) (relay gs) in
       after (l .told .answer) (alone l) more
 
--- WHAT A RECOVERY ANSWERS of the motif m, from any first row up to w on: that its list has w rows
+-- WHAT A RECOVERY OF THE MOTIF m ANSWERS, whichever first row up to w it is asked for: that the list has w rows
 abbrev pub Recovers : List ℕ → List ℕ → Template → ℕ → ℕ → Type 0
 Recovers letters lengths t m w = (f : ℕ) (out : List ℕ) → f ≤ w → (c : Counts) × ((recover-rule letters lengths t m f out) .told ≡ gives c) × (c .length ≡ w)
 

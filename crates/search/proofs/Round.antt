@@ -16,14 +16,14 @@ use Rattle.rules.specs.Sequences.{sequences}
 use Rattle.rules.specs.Support.{support, weight, frequent, parts}
 use Rattle.rules.specs.Template.{size}
 use Rattle.rules.specs.Told.{gives, toldAnswer, toldLeg}
-use Rattle.rules.specs.Walk.{walk-in, Walk, place, next, motif, walk-of}
+use Rattle.rules.specs.Walk.{walk-in, place, next, motif, walk-of}
 use Rattle.rules.specs.declared.Leg.{Leg}
 use Rattle.rules.specs.declared.LegAnswer.{LegAnswer}
 use Rattle.rules.specs.declared.Place.{Place}
 use Rattle.rules.specs.declared.Search.{Search}
 use Rattle.rules.proofs.Candidates.{Candidate}
 use Rattle.rules.proofs.Exact.{exact-search, exact-base, exact-allowed, exact-frequent}
-use Rattle.rules.proofs.Passing.{Passing, passing-next}
+use Rattle.rules.proofs.Passing.{Passing, candidate-here, passing-next}
 use Rattle.rules.proofs.Places.{sound-passing}
 use Rattle.rules.proofs.Searches.{walk-lawful}
 use Rattle.rules.proofs.Sound.{SoundSearch}
@@ -35,11 +35,6 @@ use Rattle.search.specs.Told.{room-of, told-of}
 put-length : (xs table : List ℕ) → length xs ≤ length table → length (put xs table) ≡ length table
 unfolding put
 put-length xs table h = omega (arith, length-append xs (drop (length xs) table), length-drop (length xs) table)
-
--- a place with letters that a search passes through is a candidate
-pub candidate-here : (W : Walk) (p : Place) → Passing W p → 1 ≤ p .letters → Candidate W p
-candidate-here W p (inl e) h = absurd (omega (arith, ap (λ (p : Place). p .letters) e))
-candidate-here W p (inr c) h = c
 
 module _ (letters lengths : List ℕ) (s : Search) (o : SoundSearch letters lengths s) (budget room : ℕ) (motifs₀ supports₀ weights₀ : List ℕ) where
   -- what holds whenever the loop's test is reached

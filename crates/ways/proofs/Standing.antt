@@ -73,3 +73,12 @@ cell-true w s p v e = simp (← e)
 pub cell-false : (w s : List ℕ) (p v : ℕ) → false ≡ stands w s p → 0 ≡ cell w s p v
 unfolding cell
 cell-false w s p v e = simp (← e)
+
+-- and where there is nothing to have
+pub cell-none : (w s : List ℕ) (p v : ℕ) → v ≡ 0 → 0 ≡ cell w s p v
+unfolding cell
+cell-none w s p v e = rw e (go (stands w s p))
+  where
+    go : (b : Bool) → _≡_ {A = ℕ} 0 (if b 0 0)
+    go true = refl
+    go false = refl

@@ -34,11 +34,14 @@ fn stands(word: &[u8], s: &[u8], o: usize) -> bool
     true
 }
 
-// `v` where the letters stand, and else 0.
+// `v` where the letters stand, and else 0. Where `v` is 0, as where nothing can follow, the letters are not looked at.
 fn cell(word: &[u8], s: &[u8], o: usize, v: u64) -> u64
     requires { ⌜ o ≤ length (now s) ⌝ }
     ensures { λ r. ⌜ r ≡ cell (now (word .entry)) (now (s .entry)) (suc o) v ⌝ }
 {
+    if v == 0 {
+        return 0;
+    }
     if stands(word, s, o) { v } else { 0 }
 }
 
@@ -151,7 +154,7 @@ fn passes(sequence: &[u8], template: Template, word: &[u8], ways: &mut [u64])
     }
 }
 
-// The sum of some ways: of those of the first component, how many occurrences there are.
+// The sum of some counts. Of a sequence's ways from its first component on, it is the number of occurrences.
 pub fn sum(ways: &[u64]) -> u64
     requires { ⌜ sum (now ways) < 2 ^ 64 ⌝ }
     ensures { λ r. ⌜ r ≡ sum (now (ways .entry)) ⌝ }
@@ -177,7 +180,7 @@ fn count(sequence: &[u8], template: Template, word: &[u8], ways: &mut [u64]) -> 
     sum(ways)
 }
 
-// How many all sequences have, each by its own part of the buffer.
+// How many occurrences all sequences have together, each read from its own part of the buffer.
 fn count_all(
     letters: &[u8],
     lengths: &[u32],

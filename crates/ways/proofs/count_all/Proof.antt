@@ -46,7 +46,7 @@ module _ (l : tie.In-loop Inv-loop μ-loop) where
   whole : l .before .loop .begin + size - l .before .loop .begin ≡ size
   whole = omega arith
 
--- after it: what is found in the sequence, and what all have is still that with what is left
+-- after the call: what is counted in this sequence; and the total, with that and with what the later ones have, is still what all have
 found : (c : tie.After-count Inv-loop μ-loop) → c .count .result ≡ sum (counts (motif (c .before .before .before .before .before .before .before .before .before .before)) (sequence (c .before .before .before .before)))
 found c = rw (whole (c .before .before .before .before)) at (c .count .ensures)
 

@@ -1,7 +1,7 @@
 -- `sum` meets its contract. The loop's invariant: what is added up so far, with the sum of the numbers from `i` on, is the sum of all.
 use borrow.Author.Needs.{needs}
 use mathlib.Core.Path.{_≡_}
-use Prim.Native.Nat.{_+_, _-_, _≤_, _<_}
+use Prim.Native.Nat.{_+_, _-_, _≤_}
 use native.Mathlib.Omega.{arith}
 use lib.ListN.{length, drop}
 use Rattle.rules.specs.Lists.{sum}

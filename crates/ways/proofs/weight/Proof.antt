@@ -1,6 +1,5 @@
 -- `weight` meets its contract: the counts of all sequences add up to it, and their sum fits, as an occurrence list is short enough.
 use borrow.Author.Needs.{needs}
-use mathlib.Core.Path.{_∙_}
 use native.Mathlib.Omega.{arith}
 use Rattle.rules.specs.Limits.{Template-LETTERS}
 use Rattle.ways.proofs.Motifs.{all-weight, all-small}
@@ -34,7 +33,7 @@ returns : tie.Need-returns
 returns c =
     let b = c .before .before .before .before .before .before .before .before .before .before .before in
     let e = all-weight (b .pre .1 .0) (b .args .motif) Template-LETTERS (b .pre .1 .0 .deep) (b .args .letters .now) (b .args .lengths .now) (c .before .before .before .before .before .before .spell .ensures) in
-    (c .before .before .count-all .ensures ∙ e, search needs)
+    (rw (← e) (c .before .before .count-all .ensures), search needs)
 
 pub weight-spec : {M : Type 1} → statement M
 weight-spec =
