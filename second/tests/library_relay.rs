@@ -159,9 +159,10 @@ fn pages(random: &mut Random) {
     }
 }
 
-/// A leg, and for each row that it writes the motif's list: as long as the
-/// row's weight, without a row from there on, and refused past it. How many
-/// rows there were.
+/// Runs a leg and recovers each motif that it lists: the list is as long as
+/// the row's weight, a page from there on is empty, and one past it is
+/// refused. What the template holds past its components makes no difference.
+/// Gives the number of rows.
 fn rows_beside_lists(set: &Set, value: &Value, random: &mut Random) -> usize {
     let (letters, lengths) = (&set.letters[..], &set.lengths[..]);
     let shape = shape(value);
@@ -174,6 +175,11 @@ fn rows_beside_lists(set: &Set, value: &Value, random: &mut Random) -> usize {
     let leg = library::leg(letters, lengths, &mut saved[..size], 2_000, m, s, w)
         .expect("the bytes of a search");
 
+    let mut other = shape.clone();
+    for number in other.iter_mut().skip(3 * usize::from(value.count)) {
+        *number = random.below(300) as u16;
+    }
+    let template = self::template(value, &other);
     let row = usize::from(value.count) + 1;
     for (motif, length) in motifs.into_iter().zip(weights).take(leg.rows) {
         let recover = |first, out: &mut [u32]| {
@@ -200,7 +206,7 @@ fn weights(random: &mut Random) -> usize {
 }
 
 /// Runs it from one seed after another, and names the one at which it fails.
-/// What each run answers.
+/// Gives what each run answers.
 fn from_seeds<T>(seeds: std::ops::Range<u64>, what: fn(&mut Random) -> T) -> Vec<T> {
     let run = |seed| {
         std::panic::catch_unwind(|| what(&mut Random::new(seed))).unwrap_or_else(|cause| {
@@ -229,9 +235,8 @@ fn weights_are_the_lengths_of_lists() {
 
 #[test]
 fn the_largest_weight_is_the_length_of_its_list() {
-    let mut slots = [Slot::new(1, 0, 255); 6];
-    slots[0].high = 0;
-    let (set, value) = (Set::of(&[vec![b'A'; 65_536]]), Value::of(&slots));
+    let set = Set::of(&[vec![b'A'; 65_536]]);
     let random = &mut Random::new(10_000);
-    assert_eq!(rows_beside_lists(&set, &value.with_quorum(1), random), 1);
+    let value = Value::widest().with_quorum(1);
+    assert_eq!(rows_beside_lists(&set, &value, random), 1);
 }

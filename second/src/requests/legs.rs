@@ -122,13 +122,6 @@ pub fn deepest(high: u16) -> Value {
     ])
 }
 
-/// Six components of one letter, with the widest gaps between them.
-fn widest() -> Value {
-    let mut slots = [Slot::new(1, 0, 255); 6];
-    slots[0].high = 0;
-    Value::of(&slots)
-}
-
 /// Searches by whose weights a wrong count shows.
 fn weights(random: &mut Random) -> Vec<Request> {
     let mut requests = Vec::new();
@@ -147,7 +140,7 @@ fn weights(random: &mut Random) -> Vec<Request> {
         vec![run(65_536)],
         vec![run(30_000), Vec::new(), vec![b'C'; 536], run(35_000)],
     ] {
-        let value = widest().with_quorum(1);
+        let value = Value::widest().with_quorum(1);
         requests.extend(relay(Set::of(&sequences), value, 2, Grants::Few, random));
     }
     requests

@@ -79,6 +79,13 @@ impl Value {
         Value::of(&[Slot::new(1, 0, 0), Slot::new(1, 0, 1)])
     }
 
+    /// Six components of one letter, with the widest gaps between them.
+    pub fn widest() -> Value {
+        let mut slots = [Slot::new(1, 0, 255); 6];
+        slots[0].high = 0;
+        Value::of(&slots)
+    }
+
     pub fn with_quorum(self, quorum: u64) -> Value {
         Value { quorum, ..self }
     }

@@ -103,10 +103,20 @@ fn stands(word: &[u8], from_there: &[u8]) -> bool {
     word.len() <= from_there.len() && word.iter().zip(from_there).all(|(a, b)| a == b)
 }
 
+/// `ways` where a word stands, and else none. Where there are none its letters
+/// are not looked at, as in the library.
+fn cell(word: &[u8], from_there: &[u8], ways: u64) -> u64 {
+    if ways > 0 && stands(word, from_there) {
+        ways
+    } else {
+        0
+    }
+}
+
 /// The ways of the last component: one where it stands.
 fn last_ways(word: &[u8], sequence: &[u8], ways: &mut [u64]) {
     for (at, way) in ways.iter_mut().enumerate() {
-        *way = u64::from(stands(word, &sequence[at..]));
+        *way = cell(word, &sequence[at..], 1);
     }
 }
 
@@ -126,19 +136,11 @@ fn ways_before(
     let (emptying, empty) = rest.split_at_mut(goes.len() - comes.len());
     let mut sum: u64 = goes.iter().take(count).sum();
     for (at, (way, (comes, goes))) in sliding.iter_mut().zip(comes.iter().zip(goes)).enumerate() {
-        *way = if stands(word, &sequence[at..]) {
-            sum
-        } else {
-            0
-        };
+        *way = cell(word, &sequence[at..], sum);
         sum = sum + comes - goes;
     }
     for (at, (way, goes)) in (comes.len()..).zip(emptying.iter_mut().zip(&goes[comes.len()..])) {
-        *way = if stands(word, &sequence[at..]) {
-            sum
-        } else {
-            0
-        };
+        *way = cell(word, &sequence[at..], sum);
         sum -= goes;
     }
     empty.fill(0);

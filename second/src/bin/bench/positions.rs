@@ -118,29 +118,27 @@ fn join(ends: &[u32], starts: &[u32], next: &Component, begin: &[u32], to: &mut 
     }
 }
 
-/// In how many ways the rest can follow each end of a component: the ways of
-/// the next component's ends within reach, and in the same sequence, added.
-/// Both lists rise, and so do the first and the last end within reach.
-fn ways_before(
-    ends: &[u32],
-    (next_ends, later): (&[u32], &[u64]),
-    next: &Component,
-    begin: &[u32],
+/// In how many ways the rest can follow each place of a component: the ways of
+/// the next one's places at a distance in the range, and in the same sequence,
+/// added. Both lists rise, and so do the first and the last place in reach.
+pub fn ways_before(
+    places: &[u32],
+    (next, later): (&[u32], &[u64]),
+    (least, most): (u32, u32),
+    begins_by: impl Fn(u32, u32) -> bool,
     ways: &mut Vec<u64>,
 ) {
-    let length = u32::from(next.length);
-    let (least, most) = (length + u32::from(next.low), length + u32::from(next.high));
     let (mut first, mut past, mut sum) = (0, 0, 0);
     ways.clear();
-    ways.extend(ends.iter().map(|end| {
-        while let Some(at) = next_ends.get(past) {
-            if *at > end + most || begin[*at as usize] > *end {
+    ways.extend(places.iter().map(|place| {
+        while let Some(at) = next.get(past) {
+            if *at > place + most || !begins_by(*at, *place) {
                 break;
             }
             sum += later[past];
             past += 1;
         }
-        while first < past && next_ends[first] < end + least {
+        while first < past && next[first] < place + least {
             sum -= later[first];
             first += 1;
         }
@@ -177,7 +175,11 @@ impl Examine for Positions<'_> {
             let later = (&self.path[letters - 1][..], &self.later[..]);
             letters -= usize::from(next.length);
             let ends = &self.path[letters - 1];
-            ways_before(ends, later, next, &self.begin, &mut self.ways);
+            let (low, high) = (u32::from(next.low), u32::from(next.high));
+            let length = u32::from(next.length);
+            let range = (length + low, length + high);
+            let begins_by = |at: u32, end: u32| self.begin[at as usize] <= end;
+            ways_before(ends, later, range, begins_by, &mut self.ways);
         }
         self.ways.iter().sum()
     }

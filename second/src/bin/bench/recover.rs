@@ -2,6 +2,7 @@
 //! many rows as there is room for, and how many there are.
 
 use crate::passes::all_ways;
+use crate::positions::ways_before;
 use crate::walk::{Place, Search};
 use second::Component;
 
@@ -118,8 +119,8 @@ pub fn by_positions(search: &Search, motif: u64, out: &mut [u32]) -> (usize, u64
     let mut table = Table { out, at, rows };
     let mut length = 0;
     for (number, sequence) in (1..).zip(search.set.sequences()) {
-        let lists = lists(&search.components, &word, sequence);
-        length += count(&search.components, &lists);
+        let (lists, occurrences) = lists(&search.components, &word, sequence);
+        length += occurrences;
         let mut row = [number, 0, 0, 0, 0, 0, 0];
         let range = (0, u32::MAX);
         follow(&search.components, &lists, 0, range, &mut row, &mut table);
@@ -128,8 +129,8 @@ pub fn by_positions(search: &Search, motif: u64, out: &mut [u32]) -> (usize, u64
 }
 
 /// The starts of each component in a sequence, from 0, that the rest can
-/// follow.
-fn lists(components: &[Component], word: &[u8], sequence: &[u8]) -> Vec<Vec<u32>> {
+/// follow; and how many occurrences there are.
+fn lists(components: &[Component], word: &[u8], sequence: &[u8]) -> (Vec<Vec<u32>>, u64) {
     let mut rest = word;
     let mut lists: Vec<Vec<u32>> = Vec::new();
     for component in components {
@@ -144,58 +145,36 @@ fn lists(components: &[Component], word: &[u8], sequence: &[u8]) -> Vec<Vec<u32>
         );
         rest = after;
     }
+    let mut ways = vec![1; lists.last().map_or(0, Vec::len)];
+    let mut later = Vec::new();
     for (here, pair) in components.windows(2).enumerate().rev() {
         let (before, after) = lists.split_at_mut(here + 1);
-        keep_followed(pair, &mut before[here], &after[0]);
+        std::mem::swap(&mut ways, &mut later);
+        keep_followed(pair, &mut before[here], (&after[0], &later), &mut ways);
     }
-    lists
+    (lists, ways.iter().sum())
 }
 
-/// Keeps the starts of a component that some start of the next can follow.
-/// Both lists rise.
-fn keep_followed(pair: &[Component], starts: &mut Vec<u32>, later: &[u32]) {
-    let (length, next) = (u32::from(pair[0].length), &pair[1]);
-    let (least, most) = (length + u32::from(next.low), length + u32::from(next.high));
-    let mut first = 0;
-    starts.retain(|start| {
-        while first < later.len() && later[first] < start + least {
-            first += 1;
-        }
-        later.get(first).is_some_and(|at| *at <= start + most)
-    });
-}
-
-/// How many occurrences the lists have: the ways of each start, from the last
-/// component to the first, by sums up to each start.
-fn count(components: &[Component], lists: &[Vec<u32>]) -> u64 {
-    let Some(last) = lists.last() else {
-        return 0;
-    };
-    let mut ways = vec![1u64; last.len()];
-    for here in (0..components.len() - 1).rev() {
-        let mut sums = vec![0];
-        for way in &ways {
-            sums.push(sums[sums.len() - 1] + way);
-        }
-        let (length, next) = (u32::from(components[here].length), &components[here + 1]);
-        let later = &lists[here + 1];
-        let (mut from, mut to) = (0, 0);
-        ways = lists[here]
-            .iter()
-            .map(|start| {
-                let least = start + length + u32::from(next.low);
-                let most = start + length + u32::from(next.high);
-                while from < later.len() && later[from] < least {
-                    from += 1;
-                }
-                while to < later.len() && later[to] <= most {
-                    to += 1;
-                }
-                sums[to.max(from)] - sums[from]
-            })
-            .collect();
-    }
-    ways.iter().sum()
+/// Keeps the starts of a component that some start of the next can follow,
+/// each with its ways.
+fn keep_followed(
+    pair: &[Component],
+    starts: &mut Vec<u32>,
+    later: (&[u32], &[u64]),
+    ways: &mut Vec<u64>,
+) {
+    let (low, high) = (u32::from(pair[1].low), u32::from(pair[1].high));
+    let length = u32::from(pair[0].length);
+    ways_before(
+        starts,
+        later,
+        (length + low, length + high),
+        |_, _| true,
+        ways,
+    );
+    let mut of_each = ways.iter();
+    starts.retain(|_| of_each.next().is_some_and(|ways| *ways > 0));
+    ways.retain(|ways| *ways > 0);
 }
 
 fn follow(
