@@ -107,10 +107,10 @@ uint64_t tulfasheq_begin(
 /* Runs a leg of a saved search, and replaces the save by that of the search at its new place, which has the same length. It takes
  * at most `budget` steps, each of which examines one candidate, and lists at most as many motifs as the shortest of the three
  * tables has room for: row i, from 0 on, is a motif's number, its support (the sequences that hold it) and its weighted support (its
- * occurrences in all sequences, which is the *length that tulfasheq_recover tells of it, and below 2^57; earlier versions counted the
- * starts of the first component). *stop says why it stopped, *steps and *rows count; the rest of each table stays. Legs run one
- * after another until one has ended list every frequent motif, once, in letter order. Refuses, in this order: 1 to 4, 10, 5, 11,
- * 21 to 23, 6, 7, 8, 12, 9, 13. */
+ * occurrences in all sequences). The weighted support is the *length that tulfasheq_recover tells of that motif, and below 2^57.
+ * Earlier versions counted a start of the first component once, however many occurrences begin there. *stop says why it stopped,
+ * *steps and *rows count; the rest of each table stays. Legs run one after another until one has ended list every frequent motif,
+ * once, in letter order. Refuses, in this order: 1 to 4, 10, 5, 11, 21 to 23, 6, 7, 8, 12, 9, 13. */
 uint64_t tulfasheq_leg(
     const uint8_t *letters, size_t letters_len,
     const uint32_t *lengths, size_t lengths_len,
