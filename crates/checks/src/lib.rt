@@ -1,20 +1,14 @@
 // An inner crate: what a call refuses, each check by its number in the paper, and the orders in which the calls check. Every
 // check is total, so that an order may make all of them and keep the first that applies; but what is long is read only where
 // nothing was refused before.
-pub mod letters;
-
-use letters::is_letter;
-use letters::value;
-use letters::values;
-ghost use mathlib.Core.List.{map};
 ghost use mathlib.Core.Path.{_≡_};
 ghost use Prim.Native.Nat.{ℕ, _+_, _^_};
 ghost use lib.Dec.{ltb};
 ghost use lib.ListN.{length};
 ghost use Rattle.checks.specs.Orders.{template-checks, value-checks-before-13};
-ghost use Rattle.rules.specs.Letters.{letter?, value};
+ghost use Rattle.rules.specs.Letters.{letter?};
 ghost use Rattle.rules.specs.Limits.{Letter-BASES, Template-LENGTH};
-ghost use Rattle.rules.specs.Lists.{if, all?, run};
+ghost use Rattle.rules.specs.Lists.{if, all?};
 ghost use Rattle.rules.specs.Refusals.{_else_, first, first-bad, bad-byte, outside, bad-gap, check1, check2, check3, check4, check5, check6, check7, check8, check9, check12, check23, set-checks, new-checks};
 ghost use Rattle.rules.specs.Saved.{place-rule?};
 ghost use Rattle.rules.specs.Told.{fine, refused, toldChecked};
@@ -73,20 +67,19 @@ pub fn all_letters(bytes: &[u8]) -> bool
     let mut all = true;
     let mut i = 0;
     while i < bytes.len() {
-        all = all & is_letter(bytes[i]);
+        all = all & Letter::is_letter(bytes[i]);
         i += 1;
     }
     all
 }
 
-// Where the first byte stands that is no letter, by a table of their values; the end where all are letters.
-pub fn find_mark(values: &[u8], bytes: &[u8]) -> usize
-    requires { ⌜ now values ≡ map value (run 0 256) ⌝ }
+// Where the first byte stands that is no letter; the end where all are letters.
+pub fn find_mark(bytes: &[u8]) -> usize
     ensures { λ r. ⌜ ((o : ℕ) → first-bad 4 bad-byte o (now (bytes .entry)) ≡ if (ltb r (length (now (bytes .entry)))) (refused 4 (o + r)) fine) ⌝ }
 {
     let mut i = 0;
     while i < bytes.len() {
-        if value(values, bytes[i]) == Letter::MARK {
+        if !Letter::is_letter(bytes[i]) {
             return i;
         }
         i += 1;
@@ -101,8 +94,7 @@ pub fn check_bytes(letters: &[u8]) -> Checked
     if all_letters(letters) {
         return Checked::Fine;
     }
-    let table = values();
-    let mark = find_mark(&table, letters);
+    let mark = find_mark(letters);
     Checked::refuse_if(mark < letters.len(), Refusal::NotALetter(Offset(mark)))
 }
 

@@ -4,7 +4,6 @@ use crate::lines::Line;
 use crate::lines::line_at;
 use checks::all_letters;
 use checks::find_mark;
-use checks::letters::values;
 use rules::Fasta;
 use rules::FileOffset;
 use rules::FileRefusal;
@@ -45,8 +44,7 @@ fn earlier(a: usize, b: usize, end: usize) -> usize
     if a < end { a } else { b }
 }
 
-// The first byte of a line that is no letter; the file's end where there is none. The table of values is made only where there
-// is one.
+// The first byte of a line that is no letter; the file's end where there is none.
 fn bad_in(file: &[u8], start: usize, end: usize) -> usize
     requires { ⌜ (start ≤ end) × (end ≤ length (now file)) ⌝ }
     ensures { λ r. ⌜ check-line (line start (part (now (file .entry)) start end)) ≡ if (ltb r (length (now (file .entry)))) (refused 4 r) fine ⌝ }
@@ -55,8 +53,7 @@ fn bad_in(file: &[u8], start: usize, end: usize) -> usize
     if all_letters(text) {
         return file.len();
     }
-    let table = values();
-    let mark = find_mark(&table, text);
+    let mark = find_mark(text);
     if mark < text.len() {
         start + mark
     } else {

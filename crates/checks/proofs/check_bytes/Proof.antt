@@ -14,12 +14,6 @@ returns : tie.Need-returns
 unfolding check4
 returns c = sym (all-letters 0 _ (sym (c .before .all-letters .ensures) ∙ c .if1 .taken))
 
-values-requires : tie.Need-values-requires
-values-requires c κs = search needs
-
-slice-aggregate-find-mark : tie.Need-slice-aggregate-find-mark
-slice-aggregate-find-mark c = search needs
-
 find-mark-requires : tie.Need-find-mark-requires
 find-mark-requires c κs = search needs
 
@@ -36,8 +30,6 @@ check-bytes-spec =
     (tie.spec
     all-letters-requires
     returns
-    values-requires
-    slice-aggregate-find-mark
     find-mark-requires
     refuse-if-requires
     returns-2)

@@ -1,11 +1,11 @@
 -- `find_mark`: the bytes passed are letters, so the first that is none stands among the rest.
-use mathlib.Core.Path.{_≡_, _∙_, sym}
+use mathlib.Core.Bool.{not}
+use mathlib.Core.Path.{_≡_, _∙_, ap, sym}
 use Prim.Native.Nat.{ℕ, _+_, _-_, _≤_}
 use native.Mathlib.Nat.{add-comm, zero-add}
 use native.Mathlib.Omega.{arith}
 use lib.ListN.{length, drop}
-use borrow.Author.Tests.{eq-eqb, ne-eqb, lt-ltb, le-ltb}
-use Rattle.rules.specs.Letters.{letter?}
+use borrow.Author.Tests.{lt-ltb, le-ltb}
 use Rattle.rules.specs.Refusals.{first-bad, bad-byte}
 use Rattle.rules.proofs.Verdicts.{here, later, over}
 use borrow.Author.Needs.{needs}
@@ -13,27 +13,26 @@ use Rattle.checks.proofs.find_mark.Statement.{statement}
 use Rattle.checks.proofs.find_mark.Tie as tie
 
 abbrev Inv-loop : tie.InvT-loop
-Inv-loop values bytes i₀ i = (i ≤ length bytes) × ((o : ℕ) → first-bad 4 bad-byte o bytes ≡ first-bad 4 bad-byte (i + o) (drop i bytes))
+Inv-loop bytes i₀ i = (i ≤ length bytes) × ((o : ℕ) → first-bad 4 bad-byte o bytes ≡ first-bad 4 bad-byte (i + o) (drop i bytes))
 
 abbrev μ-loop : tie.MeasureT-loop
-μ-loop values bytes i₀ i = length bytes - i
+μ-loop bytes i₀ i = length bytes - i
 
 loop-holds : tie.Need-loop-holds Inv-loop μ-loop
 loop-holds c = (omega arith, λ o. rw zero-add)
 
-shared-slice-read-value : tie.Need-shared-slice-read-value Inv-loop μ-loop
-shared-slice-read-value c = search needs
+shared-slice-read-is-letter : tie.Need-shared-slice-read-is-letter Inv-loop μ-loop
+shared-slice-read-is-letter c = search needs
 
-value-requires : tie.Need-value-requires Inv-loop μ-loop
-value-requires c κs = search needs
+is-letter-requires : tie.Need-is-letter-requires Inv-loop μ-loop
+is-letter-requires c κs = search needs
 
 returns : tie.Need-returns Inv-loop μ-loop
-unfolding letter?
 returns c o =
     let l = c .before .before .before .before .loop in
-    let xs = c .before .before .before .before .before .before .before .args .bytes .now in
+    let xs = c .before .before .before .before .before .before .args .bytes .now in
     rw (lt-ltb (l .i) (length xs) (omega arith), add-comm o (l .i))
-    (l .inv .1 o ∙ here 4 bad-byte 0 o xs (l .i) (omega arith) (rw (eq-eqb _ _ (sym (c .before .value .ensures) ∙ c .if1 .taken))))
+    (l .inv .1 o ∙ here 4 bad-byte 0 o xs (l .i) (omega arith) (ap not (sym (c .before .is-letter .ensures)) ∙ c .if1 .taken))
 
 add-i : tie.Need-add-i Inv-loop μ-loop
 add-i c = search needs
@@ -42,16 +41,15 @@ loop-less : tie.Need-loop-less Inv-loop μ-loop
 loop-less c = search needs
 
 loop-again : tie.Need-loop-again Inv-loop μ-loop
-unfolding letter?
 loop-again c =
     let l = c .before .before .before .before .loop in
-    let xs = c .before .before .before .before .before .before .before .args .bytes .now in
-    (omega arith, λ o. l .inv .1 o ∙ later 4 bad-byte 0 o xs (l .i) (omega arith) (rw (ne-eqb _ _ (λ e. c .if1 .left (c .before .value .ensures ∙ e)))))
+    let xs = c .before .before .before .before .before .before .args .bytes .now in
+    (omega arith, λ o. l .inv .1 o ∙ later 4 bad-byte 0 o xs (l .i) (omega arith) (ap not (sym (c .before .is-letter .ensures)) ∙ c .if1 .left))
 
 returns-2 : tie.Need-returns-2 Inv-loop μ-loop
 returns-2 c o =
     let l = c .before .loop in
-    let xs = c .before .before .before .before .args .bytes .now in
+    let xs = c .before .before .before .args .bytes .now in
     rw (le-ltb (l .i) (length xs) (omega arith)) (l .inv .1 o ∙ over 4 bad-byte o xs (l .i) (omega arith))
 
 pub find-mark-spec : {M : Type 1} → statement M
@@ -61,8 +59,8 @@ find-mark-spec =
     Inv-loop
     μ-loop
     loop-holds
-    shared-slice-read-value
-    value-requires
+    shared-slice-read-is-letter
+    is-letter-requires
     returns
     add-i
     loop-less

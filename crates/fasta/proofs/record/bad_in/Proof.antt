@@ -22,12 +22,6 @@ returns c =
     let a = c .before .before .before .before .args in
     bad-nowhere (a .file .now) (a .start) (a .end) (sym (c .before .all-letters .ensures) ∙ c .if1 .taken)
 
-values-requires : tie.Need-values-requires
-values-requires c κs = search needs
-
-slice-aggregate-find-mark : tie.Need-slice-aggregate-find-mark
-slice-aggregate-find-mark c = search needs
-
 find-mark-requires : tie.Need-find-mark-requires
 find-mark-requires c κs = search needs
 
@@ -36,14 +30,14 @@ add-result c = search needs
 
 returns-2 : tie.Need-returns-2
 returns-2 c =
-    let a = c .before .before .before .before .before .before .before .before .args in
-    let p = c .before .before .before .before .before .before .before .before .pre in
+    let a = c .before .before .before .before .before .before .args in
+    let p = c .before .before .before .before .before .before .pre in
     bad-here (a .file .now) (a .start) (a .end) (c .before .find-mark .result) (p .0) (p .1) (c .before .find-mark .ensures) (c .if2 .taken)
 
 returns-3 : tie.Need-returns-3
 returns-3 c =
-    let a = c .before .before .before .before .before .before .before .before .args in
-    let p = c .before .before .before .before .before .before .before .before .pre in
+    let a = c .before .before .before .before .before .before .args in
+    let p = c .before .before .before .before .before .before .pre in
     bad-none (a .file .now) (a .start) (a .end) (c .before .find-mark .result) (p .0) (p .1) (c .before .find-mark .ensures) (c .if2 .left)
 
 pub bad-in-spec : {M : Type 1} → statement M
@@ -55,8 +49,6 @@ bad-in-spec =
     part-text-end
     all-letters-requires
     returns
-    values-requires
-    slice-aggregate-find-mark
     find-mark-requires
     add-result
     returns-2
