@@ -18,9 +18,14 @@ G = 2
 abbrev pub T : ℕ
 T = 3
 
--- the value of a byte: A 0, C 1, G 2, T 3, and every other byte the mark
+-- the value of a byte: A 0, C 1, G 2, T 3, and every other byte the mark (65, 67, 71 and 84 are the bytes of A, C, G and T)
 unfoldable pub value : ℕ → ℕ
-value b = if (eqb b 65) A (if (eqb b 67) C (if (eqb b 71) G (if (eqb b 84) T Letter-MARK)))
+value b =
+    if (eqb b 65) A
+    (if (eqb b 67) C
+    (if (eqb b 71) G
+    (if (eqb b 84) T
+    Letter-MARK)))
 
 unfoldable pub letter? : ℕ → Bool
 letter? b = not (eqb (value b) Letter-MARK)

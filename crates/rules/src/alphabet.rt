@@ -4,31 +4,34 @@ ghost use mathlib.Core.Path.{_≡_};
 ghost use lib.ListN.{length};
 ghost use Rattle.rules.specs.Letters.{letter, letter?, value};
 ghost use Rattle.rules.specs.Limits.{Letter-BASES};
+ghost use Rattle.rules.specs.Lists.{if};
 ghost use Rattle.rules.specs.Motif.{spell};
 use crate::Letter;
+
+// A value where a comparison holds, and otherwise the one so far. No way leads around a comparison, so that a loop can make it on
+// many bytes at a time.
+fn when(holds: bool, this: u8, so_far: u8) -> u8
+    ensures { λ r. ⌜ r ≡ if holds this «so_far» ⌝ }
+{
+    if holds { this } else { so_far }
+}
 
 impl Letter {
     pub const BASES: u64 = 4;
 
     pub const MARK: u8 = 4;
 
-    // The value of a byte: A 0, C 1, G 2, T 3, and every other byte the mark. These are the four comparisons of the definition of
-    // the same name, in specs/Letters, in the same order (docs/ALPHABET.md has both side by side); nothing else in the code knows
-    // which bytes are letters but `byte`, which goes back.
+    // The value of a byte: A 0, C 1, G 2, T 3, and every other byte the mark. The four comparisons are those of the definition
+    // `value` in specs/Letters; docs/ALPHABET.md has both side by side. Nothing else in the code says which bytes are letters, but
+    // for `byte`, which goes back.
     pub fn value(b: u8) -> u8
         ensures { λ r. ⌜ r ≡ value b ⌝ }
     {
-        if b == b'A' {
-            0
-        } else if b == b'C' {
-            1
-        } else if b == b'G' {
-            2
-        } else if b == b'T' {
-            3
-        } else {
-            Letter::MARK
-        }
+        let v = Letter::MARK;
+        let v = when(b == b'A', 0, v);
+        let v = when(b == b'C', 1, v);
+        let v = when(b == b'G', 2, v);
+        when(b == b'T', 3, v)
     }
 
     // Whether a byte is a letter: whether its value is other than the mark.
