@@ -1,26 +1,39 @@
 #!/bin/sh
-# An edit that must fail shows something if a fact fails that is false under it. Where the first error of its log is about a name
-# that is not there, the edit only broke the words of a proof: such edits are named here, and the status is 1. The logs are those
-# of the last `rt ci` or `rt must-fail`.
+# What each must-fail edit shows. An edit holds one wrong program or several, and says of each by a line
+#     # refused at: FILE: FACT
+# which fact of a proof is false under it. Refusing the crate is not enough: here each of those facts has to be among the errors
+# of the edit's log, and not for a name that is not there, which would only mean that the words of a proof were broken. The logs are
+# those of the last `rt ci` or `rt must-fail`. The facts that do not fail are named, and the status is 1.
 set -eu
 cd "$(dirname "$0")/.."
 
 status=0
+complain() {
+    printf '%s: %s\n' "$1" "$2"
+    status=1
+}
+
 for edit in crates/*/must-fail/*.edit; do
     crate=${edit#crates/}
     crate=${crate%%/*}
     log=target/must-fail/$crate/$(basename "$edit" .edit)/.log
-    # A function that has no proof file of its own is refused by a note; what cites a refused one is an error after it.
-    first=$(sed -n -e '/was not admitted/d' -e '/: error/ { p; q; }' -e '/^note: .*: it is not proved / { p; q; }' "$log")
-    case $first in
-    '')
-        printf '%s: its log says of no fact that it is not proved\n' "$edit"
-        status=1
-        ;;
-    *' is not in scope'* | *' has no `Need-'* | *' that can be named from here'*)
-        printf '%s: refused for a name, and for no fact: %s\n' "$edit" "$first"
-        status=1
-        ;;
-    esac
+    facts=$(sed -n 's/^# refused at: //p' "$edit")
+    [ -n "$facts" ] || complain "$edit" 'it names no fact that is false under it'
+    while IFS= read -r fact; do
+        file=${fact%: *}
+        name=${fact##*: }
+        # An error at a law that only cites a refused one says nothing of its own; a function without a proof file has its facts
+        # named in one line.
+        said=$(grep -F -e "/$file:" -e "/$file; " "$log" | grep -v 'was not admitted' |
+            grep -E -e ": error: \`$name\`: " -e "does not close .*\`$name\`" || true)
+        case $said in
+        '') complain "$edit" "$file: \`$name\` is not refused" ;;
+        *' is not in scope'* | *' has no `Need-'* | *' that can be named from here'*)
+            complain "$edit" "$file: \`$name\` is refused for a name, and for no fact"
+            ;;
+        esac
+    done <<END
+$facts
+END
 done
 exit "$status"
