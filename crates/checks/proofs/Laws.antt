@@ -1,15 +1,15 @@
 -- Laws that the checks lean on: checks two by two, a test of every byte, a sum from one index to the next, a power of the base
 -- one letter at a time, and how far the search for a bad component is.
 use mathlib.Core.Bool.{Bool, true, false, _&&_, not, and-assoc}
-use mathlib.Core.List.{List, [], _∷_}
+use mathlib.Core.List.{List, [], _∷_, _++_}
 use mathlib.Core.Path.{_≡_, _∙_, refl, sym, ap}
 use Prim.Native.Nat.{ℕ, zero, suc, _+_, _-_, _/_, _^_, _≤_, _<_, min}
-use native.Mathlib.Nat.{pow-suc}
+use native.Mathlib.Nat.{pow-suc, zero-add}
 use native.Mathlib.Numerals.{sub-one, add-one}
 use native.Mathlib.Omega.{arith}
 use lib.Dec.{ltb, eqb}
-use lib.ListN.{length, getD, take, drop, drop-of-length-le}
-use lib.Seq.{drop-cons}
+use lib.ListN.{length, getD, take, drop, length-drop, take-append-drop, drop-of-length-le}
+use lib.Seq.{drop-cons, drop-drop, length-take-le}
 use borrow.Author.Tests.{ltb-true, ltb-false, lt-ltb, le-ltb, eq-eqb, ne-eqb}
 use Rattle.rules.specs.Letters.{letter?}
 use Rattle.rules.specs.Limits.{Letter-BASES, Template-COMPONENTS}
@@ -43,6 +43,23 @@ pub all-letters : (o : ℕ) (l : List ℕ) → all? letter? l ≡ true → first
 unfolding all? first-bad
 all-letters o [] e = refl
 all-letters o (b ∷ l) e = let h = both (letter? b) (all? letter? l) .0 e in bad-cons 4 bad-byte o b l .1 (ap not (h .0), all-letters (suc o) l (h .1))
+
+-- behind letters, the first bad byte is the first of the rest
+letters-first : (o : ℕ) (l m : List ℕ) → all? letter? l ≡ true → first-bad 4 bad-byte o (l ++ m) ≡ first-bad 4 bad-byte (length l + o) m
+unfolding all? first-bad
+letters-first o [] m e = rw zero-add
+letters-first o (b ∷ l) m e =
+    let h = both (letter? b) (all? letter? l) .0 e in
+    let q : suc (length l) + o ≡ length l + suc o = omega arith in
+    rw (ap not (h .0), q) (letters-first (suc o) l m (h .1))
+
+-- so where the bytes from i up to j are letters, it is the first from j on
+pub letters-past : (o i j : ℕ) (l : List ℕ) → i ≤ j → j ≤ length l → all? letter? (take (j - i) (drop i l)) ≡ true → first-bad 4 bad-byte (i + o) (drop i l) ≡ first-bad 4 bad-byte (j + o) (drop j l)
+letters-past o i j l h k e =
+    let d : length (drop i l) ≡ length l - i = length-drop i l in
+    let n : length (take (j - i) (drop i l)) + (i + o) ≡ j + o = omega (arith, length-take-le (j - i) (drop i l) (omega arith)) in
+    let s : i + (j - i) ≡ j = omega arith in
+    rw (n, take-append-drop, drop-drop, s) at (letters-first (i + o) (take (j - i) (drop i l)) (drop (j - i) (drop i l)) e)
 
 -- what is left of a number once another is taken away says whether they are the same
 pub same-left : (a s l : ℕ) → a + s ≡ l → eqb s l ≡ eqb a 0

@@ -2,9 +2,9 @@
 // check is total, so that an order may make all of them and keep the first that applies; but what is long is read only where
 // nothing was refused before.
 ghost use mathlib.Core.Path.{_≡_};
-ghost use Prim.Native.Nat.{ℕ, _+_, _^_};
+ghost use Prim.Native.Nat.{ℕ, _+_, _^_, _≤_};
 ghost use lib.Dec.{ltb};
-ghost use lib.ListN.{length};
+ghost use lib.ListN.{length, drop};
 ghost use Rattle.checks.specs.Orders.{template-checks, value-checks-before-13};
 ghost use Rattle.rules.specs.Letters.{letter?};
 ghost use Rattle.rules.specs.Limits.{Letter-BASES, Template-LENGTH};
@@ -73,11 +73,28 @@ pub fn all_letters(bytes: &[u8]) -> bool
     all
 }
 
+// How many bytes are looked at together where the first that is no letter is sought.
+const BLOCK: usize = 64;
+
+// Goes on by a block at a time, as long as all of its bytes are letters.
+fn pass_letters(bytes: &[u8]) -> usize
+    ensures { λ r. ⌜ (r ≤ length (now (bytes .entry))) × ((o : ℕ) → first-bad 4 bad-byte o (now (bytes .entry)) ≡ first-bad 4 bad-byte (r + o) (drop r (now (bytes .entry)))) ⌝ }
+{
+    let mut i = 0;
+    while BLOCK <= bytes.len() - i {
+        if !all_letters(&bytes[i..i + BLOCK]) {
+            return i;
+        }
+        i += BLOCK;
+    }
+    i
+}
+
 // Where the first byte stands that is no letter; the end where all are letters.
 pub fn find_mark(bytes: &[u8]) -> usize
     ensures { λ r. ⌜ ((o : ℕ) → first-bad 4 bad-byte o (now (bytes .entry)) ≡ if (ltb r (length (now (bytes .entry)))) (refused 4 (o + r)) fine) ⌝ }
 {
-    let mut i = 0;
+    let mut i = pass_letters(bytes);
     while i < bytes.len() {
         if !Letter::is_letter(bytes[i]) {
             return i;

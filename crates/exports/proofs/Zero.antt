@@ -185,6 +185,6 @@ module _ (file letters lengths : List ℕ) (at used count : ℕ) where
   handed-zero fine (e ∷ es) h = (λ e. refl, λ e. refl)
   handed-zero (refused n p) es h = (λ e. absurd (omega (arith, h, e)), λ e. never n p e)
 
-  pub fasta-zero : ((fasta-outcome file letters lengths at used count) .number ≡ 0) ↔ (first (reader-checks file at letters used lengths count) ≡ fine)
+  pub fasta-zero : ((fasta-outcome file letters lengths at used count) .refusal-number ≡ 0) ↔ (first (reader-checks file at letters used lengths count) ≡ fine)
   unfolding fasta-outcome found-told reader-rule
   fasta-zero = handed-zero _ (entries (lines-from file at)) (all-numbered _ (reader-numbered letters used lengths count file at))

@@ -92,8 +92,8 @@ join-outcome first second head low high out = outcome-of count-told (join-rule f
 -- FASTA: what the call says of the next record, the numbers that it moves on, and both tables. At the file's end and in a refusal
 -- 0 is added to what is used of each table
 pub record FastaOutcome : Type 0 where
-  pub number : ℕ
-  pub place : ℕ
+  pub refusal-number : ℕ
+  pub refusal-place : ℕ
   pub found : ℕ
   pub name-start : ℕ
   pub name-end : ℕ
@@ -105,7 +105,7 @@ pub record FastaOutcome : Type 0 where
 
 abbrev pub fasta-of : ℕ → ℕ → ℕ → ℕ → ℕ → ℕ → ℕ → ℕ → List ℕ → List ℕ → FastaOutcome
 fasta-of number place found name-start name-end at used count letters lengths =
-    record { number = number; place = place; found = found; name-start = name-start; name-end = name-end; at = at; used = used; count = count; letters = letters; lengths = lengths }
+    record { refusal-number = number; refusal-place = place; found = found; name-start = name-start; name-end = name-end; at = at; used = used; count = count; letters = letters; lengths = lengths }
 
 unfoldable pub fasta-outcome : List ℕ → List ℕ → List ℕ → ℕ → ℕ → ℕ → FastaOutcome
 fasta-outcome file letters lengths at used count =

@@ -88,7 +88,7 @@ module _ (bs : List ℕ) where
   unfolding component-record? component-kind? component-blank?
   component-says i =
       Iff·trans (two _ _ (two _ _ (byte-says i 0 Record-COMPONENT) (byte-says i 1 i)) (two _ _ (blank-says bs i 3 1 3 refl) (blank-says bs i 8 8 15 refl)))
-      (λ h. record { kind = h .0 .0; number = h .0 .1; blank = h .1 .0; rest = h .1 .1 }, λ h. ((h .kind, h .number), (h .blank, h .rest)))
+      (λ h. record { kind = h .0 .0; component = h .0 .1; blank = h .1 .0; rest = h .1 .1 }, λ h. ((h .kind, h .component), (h .blank, h .rest)))
 
   -- and record i, the place's
   place-says : (i : ℕ) → (place-record? (record-at bs i) ≡ true) ↔ PlaceLaid bs i

@@ -2,9 +2,12 @@
 -- `limits` of src/lib.rt promises that they agree.
 use Prim.Native.Nat.{ℕ}
 
--- the letters A, C, G, T: how many, and the mark of every other byte
+-- the letters A, C, G, T: how many, the bits of a value (2 to the power of them are the letters), and the mark of every other byte
 abbrev pub Letter-BASES : ℕ
 Letter-BASES = 4
+
+abbrev pub Letter-BITS : ℕ
+Letter-BITS = 2
 
 abbrev pub Letter-MARK : ℕ
 Letter-MARK = 4

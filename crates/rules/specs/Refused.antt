@@ -92,7 +92,7 @@ pub record SizeLaid (bs : List ℕ) : Type 0 where
 
 pub record ComponentLaid (bs : List ℕ) (i : ℕ) : Type 0 where
   pub kind : byte bs i 0 ≡ Record-COMPONENT
-  pub number : byte bs i 1 ≡ i
+  pub component : byte bs i 1 ≡ i
   pub blank : Blank bs i 3 3
   pub rest : Blank bs i 8 15
 

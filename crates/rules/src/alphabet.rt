@@ -19,6 +19,8 @@ fn when(holds: bool, this: u8, so_far: u8) -> u8
 impl Letter {
     pub const BASES: u64 = 4;
 
+    pub const BITS: u64 = 2;
+
     pub const MARK: u8 = 4;
 
     // The value of a byte: A 0, C 1, G 2, T 3, and every other byte the mark. The four comparisons are those of the definition

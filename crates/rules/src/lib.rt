@@ -7,7 +7,7 @@ mod shape;
 
 ghost use mathlib.Core.Path.{_≡_};
 ghost use Prim.Native.Nat.{min};
-ghost use Rattle.rules.specs.Limits.{Letter-BASES, Letter-MARK, Template-COMPONENTS, Template-LENGTH, Template-LETTERS, Template-GAP, SequenceSet-SEQUENCES, SequenceSet-LETTERS, Record-BYTES, Record-SIZE, Record-COMPONENT, Record-PLACE, Record-EXTRA, Text-BYTES, Text-GAP-DIGITS, Text-QUORUM-DIGITS, Fasta-BYTES, Fasta-LENGTH};
+ghost use Rattle.rules.specs.Limits.{Letter-BASES, Letter-BITS, Letter-MARK, Template-COMPONENTS, Template-LENGTH, Template-LETTERS, Template-GAP, SequenceSet-SEQUENCES, SequenceSet-LETTERS, Record-BYTES, Record-SIZE, Record-COMPONENT, Record-PLACE, Record-EXTRA, Text-BYTES, Text-GAP-DIGITS, Text-QUORUM-DIGITS, Fasta-BYTES, Fasta-LENGTH};
 ghost use Rattle.rules.specs.Lists.{sign};
 
 // The three countings, each a type of its own, so that none can be taken for another.
@@ -25,7 +25,7 @@ pub struct FileOffset(pub usize);
 // comes after them.
 pub struct RecordNumber(pub u32);
 
-// The letters A, C, G, T: how many there are, and the mark that every other byte has for a value.
+// The letters A, C, G, T: how many there are, the bits that a value takes, and the mark that every other byte has for a value.
 pub struct Letter {}
 
 // A component of a template: its length, and the gap range before it.
@@ -201,6 +201,7 @@ pub fn sign(x: u64) -> u8
 // Each limit in the code is the definition of the same name.
 pub fn limits()
     ensures { λ r. do ⌜ (← ⟦Letter::BASES⟧ .entry) ≡ Letter-BASES ⌝ }
+    ensures { λ r. do ⌜ (← ⟦Letter::BITS⟧ .entry) ≡ Letter-BITS ⌝ }
     ensures { λ r. do ⌜ (← ⟦Letter::MARK⟧ .entry) ≡ Letter-MARK ⌝ }
     ensures { λ r. do ⌜ (← ⟦Template::COMPONENTS⟧ .entry) ≡ Template-COMPONENTS ⌝ }
     ensures { λ r. do ⌜ (← ⟦Template::LENGTH⟧ .entry) ≡ Template-LENGTH ⌝ }

@@ -48,7 +48,7 @@ fn print_letters(motif: u64, left: u64, n: u64, at: usize, out: &mut [u8]) -> us
     while i < n {
         let after = left - 1 - i;
         next = print_byte(
-            Letter::byte((motif >> (2 * after)) % Letter::BASES),
+            Letter::byte((motif >> (Letter::BITS * after)) % Letter::BASES),
             next,
             out,
         );

@@ -18,8 +18,11 @@ Inv-loop bytes i₀ i = (i ≤ length bytes) × ((o : ℕ) → first-bad 4 bad-b
 abbrev μ-loop : tie.MeasureT-loop
 μ-loop bytes i₀ i = length bytes - i
 
+pass-letters-requires : tie.Need-pass-letters-requires Inv-loop μ-loop
+pass-letters-requires c κs = search needs
+
 loop-holds : tie.Need-loop-holds Inv-loop μ-loop
-loop-holds c = (omega arith, λ o. rw zero-add)
+loop-holds c = c .pass-letters .ensures
 
 shared-slice-read-is-letter : tie.Need-shared-slice-read-is-letter Inv-loop μ-loop
 shared-slice-read-is-letter c = search needs
@@ -30,7 +33,7 @@ is-letter-requires c κs = search needs
 returns : tie.Need-returns Inv-loop μ-loop
 returns c o =
     let l = c .before .before .before .before .loop in
-    let xs = c .before .before .before .before .before .before .args .bytes .now in
+    let xs = c .before .before .before .before .before .before .before .args .bytes .now in
     rw (lt-ltb (l .i) (length xs) (omega arith), add-comm o (l .i))
     (l .inv .1 o ∙ here 4 bad-byte 0 o xs (l .i) (omega arith) (ap not (sym (c .before .is-letter .ensures)) ∙ c .if1 .taken))
 
@@ -43,13 +46,13 @@ loop-less c = search needs
 loop-again : tie.Need-loop-again Inv-loop μ-loop
 loop-again c =
     let l = c .before .before .before .before .loop in
-    let xs = c .before .before .before .before .before .before .args .bytes .now in
+    let xs = c .before .before .before .before .before .before .before .args .bytes .now in
     (omega arith, λ o. l .inv .1 o ∙ later 4 bad-byte 0 o xs (l .i) (omega arith) (ap not (sym (c .before .is-letter .ensures)) ∙ c .if1 .left))
 
 returns-2 : tie.Need-returns-2 Inv-loop μ-loop
 returns-2 c o =
     let l = c .before .loop in
-    let xs = c .before .before .before .args .bytes .now in
+    let xs = c .before .before .before .before .args .bytes .now in
     rw (le-ltb (l .i) (length xs) (omega arith)) (l .inv .1 o ∙ over 4 bad-byte o xs (l .i) (omega arith))
 
 pub find-mark-spec : {M : Type 1} → statement M
@@ -58,6 +61,7 @@ find-mark-spec =
     (tie.spec
     Inv-loop
     μ-loop
+    pass-letters-requires
     loop-holds
     shared-slice-read-is-letter
     is-letter-requires

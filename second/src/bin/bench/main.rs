@@ -4,6 +4,7 @@
 //! to the library's answers before it is timed. `second/bench.sh` runs it; docs/BENCHMARKS.md says what
 //! is measured and how it is meant.
 
+mod checks;
 mod files;
 mod inputs;
 mod legs;
@@ -18,7 +19,8 @@ mod timing;
 mod walk;
 
 /// The measures, by the names that they can be asked for by.
-const MEASURES: [(&str, fn()); 5] = [
+const MEASURES: [(&str, fn()); 6] = [
+    ("checks", checks::of_a_new_search),
     ("candidate", measures::one_candidate),
     ("walk", measures::candidates),
     ("searches", measures::searches),
