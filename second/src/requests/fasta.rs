@@ -1,7 +1,7 @@
 //! Calls of the FASTA reader: files read to their end, each call from where
-//! the one before it stood, into tables of about the room that they want; and
+//! the one before it stood, into tables of about the room that they want;
 //! calls from any cursor, with any number of letters and lengths said to be
-//! used.
+//! used; and every byte among the letters of a record.
 
 use super::answer::{Answer, DONE};
 use super::files;
@@ -93,6 +93,28 @@ pub fn reads(random: &mut Random) -> Vec<Request> {
         let (letters, lengths) = (room(random, letters), room(random, lengths));
         let (letters, lengths) = (random.bytes(letters), random.narrow(lengths));
         read(request(&lent(file), letters, lengths), &mut requests);
+    }
+    requests
+}
+
+/// Every byte in the middle of a line, as its first and as its last one, and
+/// in a line so long that its bytes can be looked at many at a time; read to
+/// the end, into tables of just the room that is wanted.
+pub fn every_byte(random: &mut Random) -> Vec<Request> {
+    let long = b"ACGTA".repeat(9);
+    let lines: [(&[u8], &[u8]); 4] = [
+        (b"AC", b"GT"),
+        (b"", b"ACGT"),
+        (b"ACGT", b""),
+        (&long, &long),
+    ];
+    let mut requests = Vec::new();
+    for (before, after) in lines {
+        for file in files::every_byte(before, after) {
+            let (letters, lengths) = wanted(&file);
+            let (letters, lengths) = (random.bytes(letters), random.narrow(lengths));
+            read(request(&lent(file), letters, lengths), &mut requests);
+        }
     }
     requests
 }

@@ -123,6 +123,13 @@ pub fn any(random: &mut Random) -> Vec<u8> {
     }
 }
 
+/// For each byte, a file with one line of letters and the byte among them.
+pub fn every_byte(before: &[u8], after: &[u8]) -> Vec<Vec<u8>> {
+    (0..=u8::MAX)
+        .map(|byte| [b">x\n", before, &[byte], after, b"\n"].concat())
+        .collect()
+}
+
 /// Every beginning of a file, itself the last.
 pub fn beginnings(file: &[u8]) -> Vec<Vec<u8>> {
     (0..=file.len()).map(|n| file[..n].to_vec()).collect()

@@ -24,7 +24,7 @@ use std::ops::RangeInclusive;
 /// A group of requests: its name, its seed, and what makes it.
 pub type Group = (&'static str, u64, fn(&mut Random) -> Vec<Request>);
 
-pub const GROUPS: [Group; 19] = [
+pub const GROUPS: [Group; 20] = [
     ("new searches", 101, begins::requests),
     (
         "legs laid end to end, saved and restored between",
@@ -80,6 +80,11 @@ pub const GROUPS: [Group; 19] = [
         fasta::reads,
     ),
     ("FASTA files from any cursor", 111, fasta::calls),
+    (
+        "FASTA files with every byte among the letters",
+        128,
+        fasta::every_byte,
+    ),
 ];
 
 /// How each call can come out, and the refusals that it can give. All of them

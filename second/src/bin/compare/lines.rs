@@ -1,5 +1,6 @@
 //! FASTA files for the program `lines`: sound ones, ones with everything that
-//! a reader can trip over, and ones of about the most bytes that it holds.
+//! a reader can trip over, ones of about the most bytes that it holds, and one
+//! for each byte, with that among the letters.
 
 use crate::program;
 use second::requests::files;
@@ -69,6 +70,7 @@ fn all_files() -> Vec<Vec<u8>> {
     all.extend(long(random));
     all.extend(many(random));
     all.extend((0..400).map(|_| files::any(random)));
+    all.extend(files::every_byte(b"AC", b"GT"));
     all
 }
 
