@@ -50,8 +50,10 @@ pub(crate) struct SequenceSet {
 /// The mark in the table of values for a byte that is no letter.
 const NO_VALUE: u8 = 255;
 
-/// "The value of a letter (A 0, C 1, G 2, T 3) comes from a table of 256
-/// entries with a mark for every other byte."
+/// The value of each letter (A 0, C 1, G 2, T 3), and the mark for every other
+/// byte. "Let the value of a letter come from four plain comparisons": since
+/// that request, the fourth, the library compares four times. The paper's
+/// table is kept here so that the two are different programs.
 const VALUES: [u8; 256] = {
     let mut table = [NO_VALUE; 256];
     table[b'A' as usize] = 0;
