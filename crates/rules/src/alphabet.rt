@@ -36,11 +36,11 @@ impl Letter {
         when(b == b'T', 3, v)
     }
 
-    // Whether a byte is a letter: whether its value is other than the mark.
+    // Whether a byte is a letter: whether its value is other than the mark, which lies above those of the letters.
     pub fn is_letter(b: u8) -> bool
         ensures { λ r. ⌜ r ≡ letter? b ⌝ }
     {
-        Letter::value(b) != Letter::MARK
+        Letter::value(b) < Letter::MARK
     }
 
     // The letter that has a value, as a byte.

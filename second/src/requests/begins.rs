@@ -44,6 +44,15 @@ fn sets() -> Vec<Request> {
             requests.push(begin(set, value));
         }
     }
+    // Where many bytes may be looked at together: a byte at every place, and
+    // every byte.
+    let spoilt = |at: usize, byte: u8| {
+        let mut set = one_sequence(200);
+        set.letters[at] = byte;
+        begin(set, value)
+    };
+    requests.extend((0..200).map(|at| spoilt(at, b'N')));
+    requests.extend((0..=u8::MAX).map(|byte| spoilt(131, byte)));
     // The first of several is told.
     let mut set = one_sequence(65_536);
     set.letters[65_535] = b'N';
