@@ -7,6 +7,9 @@
 set -eu
 cd "$(dirname "$0")/.."
 
+errors=$(mktemp)
+trap 'rm -f "$errors"' EXIT
+
 status=0
 complain() {
     printf '%s: %s\n' "$1" "$2"
@@ -16,19 +19,24 @@ complain() {
 for edit in crates/*/must-fail/*.edit; do
     crate=${edit#crates/}
     crate=${crate%%/*}
-    log=target/must-fail/$crate/$(basename "$edit" .edit)/.log
+    # One line for each thing that was said: an error may go on in the next line, set in. What else is set in is advice.
+    awk '/^  / { if (!more++) printf "%s", $0; next } { printf "\n%s", $0; more = 0 } END { print "" }' \
+        "target/must-fail/$crate/$(basename "$edit" .edit)/.log" >"$errors"
     facts=$(sed -n 's/^# refused at: //p' "$edit")
-    [ -n "$facts" ] || complain "$edit" 'it names no fact that is false under it'
+    if [ -z "$facts" ]; then
+        complain "$edit" 'it names no fact that is false under it'
+        continue
+    fi
     while IFS= read -r fact; do
         file=${fact%: *}
         name=${fact##*: }
         # An error at a law that only cites a refused one says nothing of its own; a function without a proof file has its facts
         # named in one line.
-        said=$(grep -F -e "/$file:" -e "/$file; " "$log" | grep -v 'was not admitted' |
+        said=$(grep -F -e "/$file:" -e "/$file; " "$errors" | grep -v 'was not admitted' |
             grep -E -e ": error: \`$name\`: " -e "does not close .*\`$name\`" || true)
         case $said in
         '') complain "$edit" "$file: \`$name\` is not refused" ;;
-        *' is not in scope'* | *' has no `Need-'* | *' that can be named from here'*)
+        *' is not in scope'* | *' has no `Need-'* | *' has no field '* | *' that can be named from here'*)
             complain "$edit" "$file: \`$name\` is refused for a name, and for no fact"
             ;;
         esac
