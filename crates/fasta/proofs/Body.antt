@@ -10,7 +10,7 @@ use lib.ListN.{length, getD, length-append}
 use lib.Seq.{sets, sets-eq, drop-drop}
 use borrow.Author.Tests.{eqb-true, eqb-false, ltb-true, ltb-false, lt-ltb, le-ltb, not-true, not-false}
 use Rattle.rules.proofs.Tests.{both}
-use Rattle.rules.proofs.Verdicts.{fine-else, else-fine}
+use Rattle.rules.proofs.Verdicts.{fine-else, else-fine, else-assoc}
 use Rattle.rules.specs.Fasta.{Line, line, text?, lines-from, header?, up-to-header, entries, texts, check-line, check-lines, cursor-after}
 use Rattle.rules.specs.Letters.{letter?}
 use Rattle.rules.specs.Lists.{if, all?, keep, each, some?, put, put-at}
@@ -19,14 +19,10 @@ use Rattle.rules.specs.Told.{Verdict, fine, refused}
 use Rattle.checks.proofs.Laws.{all-letters}
 use Rattle.text.proofs.Printed.{_then_, wrote-length, room}
 use Rattle.text.specs.Printed.{write, Wrote}
-use Rattle.fasta.specs.Scanned.{part, LineAt, in-body?, body, BodyAt}
+use Rattle.fasta.specs.Scanned.{part, LineAt, in-body?, body, bad-at, BodyAt}
 use Rattle.fasta.proofs.FileLines.{part-length, lines-end, line-some, header-mark, header-not, header-here}
 
 -- ---- the first byte of a line that is no letter
-
--- where it is, or the file's end
-abbrev bad-at : List ℕ → ℕ → Verdict
-bad-at file bad = if (ltb bad (length file)) (refused 4 bad) fine
 
 module _ (file : List ℕ) (start end mark : ℕ) (h : start ≤ end) (k : end ≤ length file)
     (f : (o : ℕ) → first-bad 4 bad-byte o (part file start end) ≡ if (ltb mark (length (part file start end))) (refused 4 (o + mark)) fine) where
@@ -128,25 +124,24 @@ measured-none file from h =
       rest = refl;
     }
 
--- the earlier of two bad bytes
-bad-earlier : (file : List ℕ) (bad found : ℕ) (v : Verdict) → bad-at file bad else (bad-at file found else v) ≡ bad-at file (if (ltb bad (length file)) bad found) else v
+-- where a byte was bad before, what a line has changes nothing
+pub bad-before : (file : List ℕ) (bad : ℕ) (v : Verdict) → bad < length file → bad-at file bad else v ≡ bad-at file bad
 unfolding _else_
-bad-earlier file bad found v = go (ltb bad (length file)) refl
-  where
-    go : (b : Bool) → ltb bad (length file) ≡ b
-        → if b (refused 4 bad) fine else (bad-at file found else v) ≡ bad-at file (if b bad found) else v
-    go true t = rw t
-    go false t = refl
+bad-before file bad v h = rw (lt-ltb bad (length file) h)
+
+-- and where none was, it is the line's
+pub bad-first : (file : List ℕ) (bad : ℕ) (v : Verdict) → length file ≤ bad → bad-at file bad else v ≡ v
+bad-first file bad v h = rw (le-ltb bad (length file) h) (fine-else v)
 
 -- one line more
-pub measured-more : {file : List ℕ} {from at end next size bad first : ℕ} (found : ℕ) → Measured file from at size bad → in-body? file at ≡ true → LineAt file at end next
-    → check-line (line at (part file at end)) ≡ bad-at file found → first ≡ if (ltb bad (length file)) bad found → Measured file from next (size + (end - at)) first
-measured-more {file} {from} {at} {end} {next} {size} {bad} {first} found d i l f e =
+pub measured-more : {file : List ℕ} {from at end next size bad worse : ℕ} → Measured file from at size bad → in-body? file at ≡ true → LineAt file at end next
+    → bad-at file bad else check-line (line at (part file at end)) ≡ bad-at file worse → Measured file from next (size + (end - at)) worse
+measured-more {file} {from} {at} {end} {next} {size} {bad} d i l e =
     record {
       within = l .within;
       short = omega (arith, d .short, l .forward, l .ended);
       sized = omega (arith, d .sized, length-more i l);
-      checked = d .checked ∙ rw (check-more i l, f, e) (bad-earlier file bad found (check-lines (body file next)));
+      checked = d .checked ∙ rw (check-more i l, ← else-assoc, e);
       rest = d .rest ∙ entries-more i l;
     }
 

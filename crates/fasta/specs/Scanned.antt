@@ -7,7 +7,7 @@ use lib.Dec.{eqb, ltb}
 use lib.ListN.{length, take, drop, getD}
 use Rattle.rules.specs.Fasta.{Line, line, text?, lines-from, up-to-header, entries, texts, check-lines, cursor-after}
 use Rattle.rules.specs.Lists.{if, keep}
-use Rattle.rules.specs.Told.{fine, refused}
+use Rattle.rules.specs.Told.{Verdict, fine, refused}
 
 -- a file's bytes from one offset up to another
 abbrev pub part : List ℕ → ℕ → ℕ → List ℕ
@@ -42,12 +42,16 @@ in-body? file at = ltb at (length file) && not (eqb (getD file at 0) 62)
 abbrev pub body : List ℕ → ℕ → List Line
 body file from = up-to-header (lines-from file from)
 
+-- what is found of the first byte that is no letter: it is refused where it stands, if that is within the file
+abbrev pub bad-at : List ℕ → ℕ → Verdict
+bad-at file bad = if (ltb bad (length file)) (refused 4 bad) fine
+
 -- A RECORD'S LINES from `from` on: they have `size` bytes, the first that is no letter stands at `bad` if that is within the file, and
 -- the next record begins at `next`, which is the file's end where there is none
 pub record BodyAt (file : List ℕ) (from size bad next : ℕ) : Type 0 where
   pub within : next ≤ length file
   pub short : size ≤ next - from
   pub sized : size ≡ length (texts (body file from))
-  pub checked : check-lines (body file from) ≡ if (ltb bad (length file)) (refused 4 bad) fine
+  pub checked : check-lines (body file from) ≡ bad-at file bad
   pub rest : entries (lines-from file from) ≡ entries (lines-from file next)
   pub cursor : cursor-after file (entries (lines-from file from)) ≡ next

@@ -12,12 +12,12 @@ use rules::Name;
 use text::read::copy_part;
 ghost use mathlib.Core.Path.{_≡_};
 ghost use Prim.Native.Nat.{_+_, _≤_};
-ghost use lib.Dec.{ltb};
 ghost use lib.ListN.{length};
 ghost use Rattle.rules.specs.Fasta.{line, up-to-blank, texts, no-room?, check-line, reader-rule};
-ghost use Rattle.rules.specs.Lists.{if, put-at};
-ghost use Rattle.rules.specs.Told.{fine, refused, toldHanded};
-ghost use Rattle.fasta.specs.Scanned.{part, HeaderAt, in-body?, body, BodyAt};
+ghost use Rattle.rules.specs.Lists.{put-at};
+ghost use Rattle.rules.specs.Refusals.{_else_};
+ghost use Rattle.rules.specs.Told.{toldHanded};
+ghost use Rattle.fasta.specs.Scanned.{part, HeaderAt, in-body?, body, bad-at, BodyAt};
 
 // A record's lines: how many bytes they have, where the first of them stands that is no letter (the file's end where there is
 // none), and where the next record begins.
@@ -37,17 +37,10 @@ fn in_body(file: &[u8], at: usize) -> bool
     file[at] != b'>'
 }
 
-// The first of two offsets that is within a file of so many bytes; the second where neither is.
-fn earlier(a: usize, b: usize, end: usize) -> usize
-    ensures { λ r. ⌜ r ≡ if (ltb a end) a b ⌝ }
-{
-    if a < end { a } else { b }
-}
-
 // The first byte of a line that is no letter; the file's end where there is none.
 fn bad_in(file: &[u8], start: usize, end: usize) -> usize
     requires { ⌜ (start ≤ end) × (end ≤ length (now file)) ⌝ }
-    ensures { λ r. ⌜ check-line (line start (part (now (file .entry)) start end)) ≡ if (ltb r (length (now (file .entry)))) (refused 4 r) fine ⌝ }
+    ensures { λ r. ⌜ check-line (line start (part (now (file .entry)) start end)) ≡ bad-at (now (file .entry)) r ⌝ }
 {
     let text = &file[start..end];
     if all_letters(text) {
@@ -61,6 +54,18 @@ fn bad_in(file: &[u8], start: usize, end: usize) -> usize
     }
 }
 
+// The first byte that is no letter in the lines so far, where `bad` says it, and in one line more, which is looked at only if those
+// before it had none.
+fn bad_so_far(bad: usize, file: &[u8], start: usize, end: usize) -> usize
+    requires { ⌜ (start ≤ end) × (end ≤ length (now file)) ⌝ }
+    ensures { λ r. ⌜ _else_ (bad-at (now (file .entry)) bad) (check-line (line start (part (now (file .entry)) start end))) ≡ bad-at (now (file .entry)) r ⌝ }
+{
+    if bad < file.len() {
+        return bad;
+    }
+    bad_in(file, start, end)
+}
+
 // Reads a record's lines, from the one behind its header to the next header.
 fn measure(file: &[u8], from: usize) -> Body
     requires { ⌜ from ≤ length (now file) ⌝ }
@@ -72,8 +77,7 @@ fn measure(file: &[u8], from: usize) -> Body
     while in_body(file, at) {
         let line = line_at(file, at);
         let end = line.end;
-        let found = bad_in(file, at, end);
-        bad = earlier(bad, found, file.len());
+        bad = bad_so_far(bad, file, at, end);
         size += end - at;
         at = line.next;
     }

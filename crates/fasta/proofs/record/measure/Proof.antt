@@ -25,32 +25,29 @@ line-at-requires c κs =
     let a = c .before .before .before .before .args in
     in-file (a .file .now) (c .before .before .loop .at) (sym (c .before .in-body .ensures) ∙ c .if1 .taken)
 
-bad-in-requires : tie.Need-bad-in-requires Inv-loop μ-loop
-bad-in-requires c κs =
+bad-so-far-requires : tie.Need-bad-so-far-requires Inv-loop μ-loop
+bad-so-far-requires c κs =
     let l = c .line-at .ensures .1 in
     (l .forward, omega (arith, l .ended, l .within))
 
-earlier-requires : tie.Need-earlier-requires Inv-loop μ-loop
-earlier-requires c κs = search needs
-
 sub-size : tie.Need-sub-size Inv-loop μ-loop
-sub-size c = c .before .before .line-at .ensures .1 .forward
+sub-size c = c .before .line-at .ensures .1 .forward
 
 add-size : tie.Need-add-size Inv-loop μ-loop
 add-size c =
-    let l = c .before .before .line-at .ensures .1 in
-    omega (arith, c .before .before .before .before .before .loop .inv .short, l .forward, l .ended, l .within)
+    let l = c .before .line-at .ensures .1 in
+    omega (arith, c .before .before .before .before .loop .inv .short, l .forward, l .ended, l .within)
 
 loop-less : tie.Need-loop-less Inv-loop μ-loop
 loop-less c =
-    let l = c .before .before .line-at .ensures .1 in
+    let l = c .before .line-at .ensures .1 in
     omega (arith, l .onward, l .within)
 
 loop-again : tie.Need-loop-again Inv-loop μ-loop
 loop-again c =
-    let d = c .before .before .before .before .before .loop .inv in
-    let i = sym (c .before .before .before .before .in-body .ensures) ∙ c .before .before .before .if1 .taken in
-    measured-more (c .before .bad-in .result) d i (c .before .before .line-at .ensures .1) (c .before .bad-in .ensures) (c .earlier .ensures)
+    let d = c .before .before .before .before .loop .inv in
+    let i = sym (c .before .before .before .in-body .ensures) ∙ c .before .before .if1 .taken in
+    measured-more d i (c .before .line-at .ensures .1) (c .bad-so-far .ensures)
 
 returns : tie.Need-returns Inv-loop μ-loop
 returns c = measured-all (c .before .before .loop .inv) (sym (c .before .in-body .ensures) ∙ c .if1 .left)
@@ -64,8 +61,7 @@ measure-spec =
     loop-holds
     in-body-requires
     line-at-requires
-    bad-in-requires
-    earlier-requires
+    bad-so-far-requires
     sub-size
     add-size
     loop-less
