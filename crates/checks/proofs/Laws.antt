@@ -1,7 +1,7 @@
 -- Laws that the checks lean on: checks two by two, a test of every byte, a sum from one index to the next, a power of the base
 -- one letter at a time, and how far the search for a bad component is.
 use mathlib.Core.Bool.{Bool, true, false, _&&_, not, and-assoc}
-use mathlib.Core.List.{List, [], _∷_, _++_}
+use mathlib.Core.List.{List, [], _∷_, _++_, append-nil}
 use mathlib.Core.Path.{_≡_, _∙_, refl, sym, ap}
 use Prim.Native.Nat.{ℕ, zero, suc, _+_, _-_, _/_, _^_, _≤_, _<_, min}
 use native.Mathlib.Nat.{pow-suc, zero-add}
@@ -21,7 +21,7 @@ use Rattle.rules.specs.declared.Component.{Component}
 use Rattle.rules.specs.declared.Template.{Template}
 use Rattle.rules.proofs.Tables.{take-min}
 use Rattle.rules.proofs.Tests.{both, and-true}
-use Rattle.rules.proofs.Verdicts.{bad-cons, else-assoc, else-fine, here-in, later-in, over-in}
+use Rattle.rules.proofs.Verdicts.{else-assoc, else-fine, here-in, later-in, over-in}
 
 -- of four checks, what the first two find, and else the last two
 pub in-two : (a b c d : Verdict) → first (a ∷ b ∷ c ∷ d ∷ []) ≡ (a else b) else (c else d)
@@ -38,12 +38,6 @@ pub all-end : (f : ℕ → Bool) (a : Bool) (i : ℕ) (l : List ℕ) → length 
 unfolding all?
 all-end f a i l h = rw (drop-of-length-le l {i = i} h, and-true)
 
--- where all are letters none is bad
-pub all-letters : (o : ℕ) (l : List ℕ) → all? letter? l ≡ true → first-bad 4 bad-byte o l ≡ fine
-unfolding all? first-bad
-all-letters o [] e = refl
-all-letters o (b ∷ l) e = let h = both (letter? b) (all? letter? l) .0 e in bad-cons 4 bad-byte o b l .1 (ap not (h .0), all-letters (suc o) l (h .1))
-
 -- behind letters, the first bad byte is the first of the rest
 letters-first : (o : ℕ) (l m : List ℕ) → all? letter? l ≡ true → first-bad 4 bad-byte o (l ++ m) ≡ first-bad 4 bad-byte (length l + o) m
 unfolding all? first-bad
@@ -53,7 +47,12 @@ letters-first o (b ∷ l) m e =
     let q : suc (length l) + o ≡ length l + suc o = omega arith in
     rw (ap not (h .0), q) (letters-first (suc o) l m (h .1))
 
--- so where the bytes from i up to j are letters, it is the first from j on
+-- so where all are letters none is bad
+pub all-letters : (o : ℕ) (l : List ℕ) → all? letter? l ≡ true → first-bad 4 bad-byte o l ≡ fine
+unfolding first-bad
+all-letters o l e = rw append-nil at (letters-first o l [] e)
+
+-- and where the bytes from i up to j are letters, it is the first from j on
 pub letters-past : (o i j : ℕ) (l : List ℕ) → i ≤ j → j ≤ length l → all? letter? (take (j - i) (drop i l)) ≡ true → first-bad 4 bad-byte (i + o) (drop i l) ≡ first-bad 4 bad-byte (j + o) (drop j l)
 letters-past o i j l h k e =
     let d : length (drop i l) ≡ length l - i = length-drop i l in

@@ -2,10 +2,11 @@
 // check is total, so that an order may make all of them and keep the first that applies; but what is long is read only where
 // nothing was refused before.
 ghost use mathlib.Core.Path.{_≡_};
-ghost use Prim.Native.Nat.{ℕ, _+_, _^_, _≤_};
+ghost use Prim.Native.Nat.{ℕ, _+_, _^_};
 ghost use lib.Dec.{ltb};
-ghost use lib.ListN.{length, drop};
+ghost use lib.ListN.{length};
 ghost use Rattle.checks.specs.Orders.{template-checks, value-checks-before-13};
+ghost use Rattle.checks.specs.Scanned.{LettersUpTo};
 ghost use Rattle.rules.specs.Letters.{letter?};
 ghost use Rattle.rules.specs.Limits.{Letter-BASES, Template-LENGTH};
 ghost use Rattle.rules.specs.Lists.{if, all?};
@@ -78,7 +79,7 @@ const BLOCK: usize = 64;
 
 // Goes on by a block at a time, as long as all of its bytes are letters.
 fn pass_letters(bytes: &[u8]) -> usize
-    ensures { λ r. ⌜ (r ≤ length (now (bytes .entry))) × ((o : ℕ) → first-bad 4 bad-byte o (now (bytes .entry)) ≡ first-bad 4 bad-byte (r + o) (drop r (now (bytes .entry)))) ⌝ }
+    ensures { λ r. ⌜ LettersUpTo (now (bytes .entry)) r ⌝ }
 {
     let mut i = 0;
     while BLOCK <= bytes.len() - i {

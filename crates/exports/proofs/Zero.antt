@@ -24,7 +24,7 @@ use Rattle.rules.specs.declared.Search.{Search}
 use Rattle.rules.specs.declared.Template.{Template}
 use Rattle.rules.proofs.Verdicts.{never}
 use Rattle.exports.specs.Exported.{LegOutcome, begin-outcome, leg-outcome, restore-outcome, save-outcome, recover-outcome, join-outcome, fasta-outcome}
-use Rattle.exports.specs.Numbers.{number-told, count-told, page-told, search-told, found-told}
+use Rattle.exports.specs.Numbers.{refusal-number-told, count-told, page-told, search-told, found-told}
 use Rattle.exports.specs.Shape.{template-of}
 use Rattle.exports.proofs.Whole.{begin-saves, leg-refused, leg-runs}
 
@@ -127,12 +127,12 @@ module _ (letters : List ℕ) (used : ℕ) (lengths : List ℕ) (count : ℕ) wh
   reader-numbered file at = (if-numbered (text-first? (lines-from file at)) 19 0 (omega arith), next-numbered (entries (lines-from file at)))
 
 -- 0 is told exactly if nothing refuses
-unless-zero : {A : Type 0} (v : Verdict) (a : A) → Numbered v → (number-told (unless v a) ≡ 0) ↔ (v ≡ fine)
+unless-zero : {A : Type 0} (v : Verdict) (a : A) → Numbered v → (refusal-number-told (unless v a) ≡ 0) ↔ (v ≡ fine)
 unfolding Numbered
 unless-zero fine a h = (λ e. refl, λ e. refl)
 unless-zero (refused n p) a h = (λ e. absurd (omega (arith, h, e)), λ e. never n p e)
 
-written-zero : {A : Type 0} (v : Verdict) (a : A) (xs out : List ℕ) → Numbered v → (number-told ((written-unless v a xs out) .told) ≡ 0) ↔ (v ≡ fine)
+written-zero : {A : Type 0} (v : Verdict) (a : A) (xs out : List ℕ) → Numbered v → (refusal-number-told ((written-unless v a xs out) .told) ≡ 0) ↔ (v ≡ fine)
 unfolding Numbered
 written-zero fine a xs out h = (λ e. refl, λ e. refl)
 written-zero (refused n p) a xs out h = (λ e. absurd (omega (arith, h, e)), λ e. never n p e)
@@ -179,7 +179,7 @@ join-zero xs ys head low high out = written-zero _ _ _ out (all-numbered _ (join
 
 module _ (file letters lengths : List ℕ) (at used count : ℕ) where
   handed-zero : (v : Verdict) (es : List Entry) → Numbered v
-      → (number-told ((on-refusal v (λ n p. stays file at letters used lengths count (refuses n p)) (hands-out file at letters used lengths count es)) .told) ≡ 0) ↔ (v ≡ fine)
+      → (refusal-number-told ((on-refusal v (λ n p. stays file at letters used lengths count (refuses n p)) (hands-out file at letters used lengths count es)) .told) ≡ 0) ↔ (v ≡ fine)
   unfolding Numbered
   handed-zero fine [] h = (λ e. refl, λ e. refl)
   handed-zero fine (e ∷ es) h = (λ e. refl, λ e. refl)

@@ -104,8 +104,8 @@ pub record FastaOutcome : Type 0 where
   pub lengths : List ℕ
 
 abbrev pub fasta-of : ℕ → ℕ → ℕ → ℕ → ℕ → ℕ → ℕ → ℕ → List ℕ → List ℕ → FastaOutcome
-fasta-of number place found name-start name-end at used count letters lengths =
-    record { refusal-number = number; refusal-place = place; found = found; name-start = name-start; name-end = name-end; at = at; used = used; count = count; letters = letters; lengths = lengths }
+fasta-of n p found name-start name-end at used count letters lengths =
+    record { refusal-number = n; refusal-place = p; found = found; name-start = name-start; name-end = name-end; at = at; used = used; count = count; letters = letters; lengths = lengths }
 
 unfoldable pub fasta-outcome : List ℕ → List ℕ → List ℕ → ℕ → ℕ → ℕ → FastaOutcome
 fasta-outcome file letters lengths at used count =

@@ -10,13 +10,13 @@ use Rattle.exports.specs.declared.told.Restored.{Restored}
 use Rattle.exports.specs.declared.told.Stopped.{Stopped}
 
 -- the refusal's number and place, and 0 where there is none
-abbrev pub number-told : {A : Type 0} → Told A → ℕ
-number-told (gives a) = 0
-number-told (refuses n p) = n
+abbrev pub refusal-number-told : {A : Type 0} → Told A → ℕ
+refusal-number-told (gives a) = 0
+refusal-number-told (refuses n p) = n
 
-abbrev pub place-told : {A : Type 0} → Told A → ℕ
-place-told (gives a) = 0
-place-told (refuses n p) = p
+abbrev pub refusal-place-told : {A : Type 0} → Told A → ℕ
+refusal-place-told (gives a) = 0
+refusal-place-told (refuses n p) = p
 
 -- the number that f reads off what is given, and 0 in a refusal
 abbrev pub told-of : {A : Type 0} → (A → ℕ) → Told A → ℕ
@@ -34,32 +34,32 @@ abbrev pub count : ℕ → ℕ → ℕ → Count
 count n p c = record { number = n; place = p; count = c }
 
 unfoldable pub count-told : Told ℕ → Count
-count-told t = count (number-told t) (place-told t) (told-of (λ n. n) t)
+count-told t = count (refusal-number-told t) (refusal-place-told t) (told-of (λ n. n) t)
 
 -- a recovery's rows and the length of its whole list
 abbrev pub page : ℕ → ℕ → ℕ → ℕ → Page
 page n p rows length = record { number = n; place = p; rows = rows; length = length }
 
 unfoldable pub page-told : Told Counts → Page
-page-told t = page (number-told t) (place-told t) (told-of (λ c. c .rows) t) (told-of (λ c. c .length) t)
+page-told t = page (refusal-number-told t) (refusal-place-told t) (told-of (λ c. c .rows) t) (told-of (λ c. c .length) t)
 
 -- why a leg stopped, its steps and its rows
 abbrev pub stopped : ℕ → ℕ → ℕ → ℕ → ℕ → Stopped
 stopped n p stop steps rows = record { number = n; place = p; stop = stop; steps = steps; rows = rows }
 
 unfoldable pub leg-told : LegTold → Stopped
-leg-told l = stopped (number-told (l .answer)) (place-told (l .answer)) (told-of stop-number (l .answer)) (l .steps) (l .rows)
+leg-told l = stopped (refusal-number-told (l .answer)) (refusal-place-told (l .answer)) (told-of stop-number (l .answer)) (l .steps) (l .rows)
 
 -- a search, but for the shape of its template
 abbrev pub restored : ℕ → ℕ → ℕ → ℕ → ℕ → ℕ → ℕ → ℕ → Restored
-restored n p components quorum sequences total letters number =
-    record { number = n; place = p; components = components; quorum = quorum; sequences = sequences; total = total; letters = letters; candidate = number }
+restored n p components quorum sequences total letters candidate =
+    record { number = n; place = p; components = components; quorum = quorum; sequences = sequences; total = total; letters = letters; candidate = candidate }
 
 unfoldable pub search-told : Told Search → Restored
 search-told t =
     restored
-    (number-told t)
-    (place-told t)
+    (refusal-number-told t)
+    (refusal-place-told t)
     (told-of (λ s. s .template .count) t)
     (told-of (λ s. s .quorum) t)
     (told-of (λ s. s .set .sequences) t)
@@ -78,8 +78,8 @@ of-record f no-entry = 0
 unfoldable pub found-told : Told Handing → Found
 found-told t =
     found
-    (number-told t)
-    (place-told t)
+    (refusal-number-told t)
+    (refusal-place-told t)
     (told-of (of-record (λ start end letters. 1)) t)
     (told-of (of-record (λ start end letters. start)) t)
     (told-of (of-record (λ start end letters. end)) t)

@@ -1,4 +1,4 @@
--- A prefix as bytes: its letters as they stand in the buffer, so that a pass compares bytes and looks no value up.
+-- A prefix as bytes: its letters as they stand in the buffer, so that a pass compares bytes, and asks for no letter's value.
 use mathlib.Core.List.{List, map}
 use Prim.Native.Nat.{ℕ}
 use Rattle.rules.specs.Letters.{letter}

@@ -1,19 +1,20 @@
 -- `find_mark`: the bytes passed are letters, so the first that is none stands among the rest.
 use mathlib.Core.Bool.{not}
-use mathlib.Core.Path.{_≡_, _∙_, ap, sym}
-use Prim.Native.Nat.{ℕ, _+_, _-_, _≤_}
-use native.Mathlib.Nat.{add-comm, zero-add}
+use mathlib.Core.Path.{_∙_, ap, sym}
+use Prim.Native.Nat.{_-_}
+use native.Mathlib.Nat.{add-comm}
 use native.Mathlib.Omega.{arith}
-use lib.ListN.{length, drop}
+use lib.ListN.{length}
 use borrow.Author.Tests.{lt-ltb, le-ltb}
-use Rattle.rules.specs.Refusals.{first-bad, bad-byte}
+use Rattle.rules.specs.Refusals.{bad-byte}
 use Rattle.rules.proofs.Verdicts.{here, later, over}
 use borrow.Author.Needs.{needs}
+use Rattle.checks.specs.Scanned.{LettersUpTo}
 use Rattle.checks.proofs.find_mark.Statement.{statement}
 use Rattle.checks.proofs.find_mark.Tie as tie
 
 abbrev Inv-loop : tie.InvT-loop
-Inv-loop bytes i₀ i = (i ≤ length bytes) × ((o : ℕ) → first-bad 4 bad-byte o bytes ≡ first-bad 4 bad-byte (i + o) (drop i bytes))
+Inv-loop bytes i₀ i = LettersUpTo bytes i
 
 abbrev μ-loop : tie.MeasureT-loop
 μ-loop bytes i₀ i = length bytes - i

@@ -1,18 +1,18 @@
 -- `pass_letters`: the bytes passed are letters, so the first that is none stands among the rest.
 use borrow.Author.Needs.{needs}
-use mathlib.Core.Path.{_≡_, _∙_, sym}
-use Prim.Native.Nat.{ℕ, _+_, _-_, _≤_}
+use mathlib.Core.Path.{_∙_, sym}
+use Prim.Native.Nat.{_+_, _-_}
 use native.Mathlib.Nat.{zero-add}
 use native.Mathlib.Omega.{arith}
-use lib.ListN.{length, drop}
-use Rattle.rules.specs.Refusals.{first-bad, bad-byte}
+use lib.ListN.{length}
 use Rattle.rules.proofs.Tests.{not-false}
+use Rattle.checks.specs.Scanned.{LettersUpTo}
 use Rattle.checks.proofs.Laws.{letters-past}
 use Rattle.checks.proofs.pass_letters.Statement.{statement}
 use Rattle.checks.proofs.pass_letters.Tie as tie
 
 abbrev Inv-loop : tie.InvT-loop
-Inv-loop bytes i₀ i = (i ≤ length bytes) × ((o : ℕ) → first-bad 4 bad-byte o bytes ≡ first-bad 4 bad-byte (i + o) (drop i bytes))
+Inv-loop bytes i₀ i = LettersUpTo bytes i
 
 abbrev μ-loop : tie.MeasureT-loop
 μ-loop bytes i₀ i = length bytes - i
