@@ -139,6 +139,28 @@ fn the_page_s_table_is_the_alphabet() {
     assert_eq!(rows(&page), alphabet());
 }
 
+/// What a row of the table has of a letter's comparison, in the definition and
+/// in the code, stands in the lines that the page quotes.
+#[test]
+fn the_page_s_table_has_the_comparisons_that_it_quotes() {
+    let page = contents("docs/ALPHABET.md").expect("the page");
+    let quotes = quotes(&page).expect("quotes");
+    let quoted: Vec<&str> = quotes
+        .iter()
+        .flat_map(|quote| quote.lines.clone())
+        .collect();
+    for [letter, byte, value] in alphabet() {
+        let definition = format!("if (eqb b {byte}) {letter}");
+        let code = format!("when(b == b'{letter}', {value}, v)");
+        let row = format!("| {letter} | {byte} | {value} | `{definition}` | `{code}` |");
+        assert!(page.lines().any(|line| line == row), "no row {row}");
+        for cell in [definition, code] {
+            let there = quoted.iter().any(|line| line.contains(&cell));
+            assert!(there, "`{cell}` is not quoted");
+        }
+    }
+}
+
 /// Made-up files.
 fn made_up(path: &str) -> Result<String, String> {
     match path {

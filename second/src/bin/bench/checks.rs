@@ -8,16 +8,18 @@ use crate::walk::Search;
 use second::library;
 
 /// The first byte that is no letter, if there is one: all are looked at first,
-/// with no way out of the loop, as the library does.
+/// with no way out of the loop, and it is then sought by blocks of 64, as the
+/// library does.
 fn no_letter(letters: &[u8]) -> Option<usize> {
     let is_letter = |byte: &u8| matches!(byte, b'A' | b'C' | b'G' | b'T');
-    if letters
-        .iter()
-        .fold(true, |fine, byte| fine & is_letter(byte))
-    {
+    let all = |bytes: &[u8]| bytes.iter().fold(true, |fine, byte| fine & is_letter(byte));
+    if all(letters) {
         return None;
     }
-    letters.iter().position(|byte| !is_letter(byte))
+    let sound = letters.chunks_exact(64).take_while(|block| all(block));
+    let passed = 64 * sound.count();
+    let rest = letters[passed..].iter().position(|byte| !is_letter(byte));
+    rest.map(|at| passed + at)
 }
 
 /// What a new search over a set is refused with, and the place told: 1 to 4,
