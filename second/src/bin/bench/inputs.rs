@@ -97,3 +97,60 @@ pub fn few_occurrences() -> Search {
     search.components[0] = component(2, 0, 0);
     search
 }
+
+/// Random letters, so many sequences of so many.
+fn random(count: usize, letters: u64, shape: &[(u8, u16, u16)], quorum: u64) -> Search {
+    let mut random = Random::new(letters + count as u64);
+    let sequences: Vec<Vec<u8>> = (0..count).map(|_| random.letters(letters, 4)).collect();
+    let parts = shape.iter();
+    Search {
+        set: Set::of(&sequences),
+        components: parts
+            .map(|(n, low, high)| component(*n, *low, *high))
+            .collect(),
+        quorum,
+    }
+}
+
+/// Searches of several shapes, with the steps that are taken of each.
+pub fn long_searches() -> [(&'static str, Search, u64); 7] {
+    let three = [(3, 0, 0), (3, 0, 30), (3, 0, 30)];
+    let six = [(6, 0, 0), (4, 0, 30)];
+    [
+        (
+            "NNNN[0,100]NNNN[0,100]NNNN, 12 % of 1,024 sequences of 64",
+            twelve_percent(),
+            u64::MAX,
+        ),
+        (
+            "NNN[0,30]NNN[0,30]NNN, 12 % of 1,024 sequences of 64",
+            random(1_024, 64, &three, 123),
+            10_000,
+        ),
+        (
+            "NNNN[0,255]NNNN, 18 of 20 sequences of 600",
+            random(20, 600, &[(4, 0, 0), (4, 0, 255)], 18),
+            50_000,
+        ),
+        (
+            "NNNN[0,50]NNNN, 32 of 64 sequences of 1,024",
+            random(64, 1_024, &[(4, 0, 0), (4, 0, 50)], 32),
+            10_000,
+        ),
+        (
+            "NNN[0,30]NNN, 2 of 64 sequences of 128",
+            many_rows(),
+            u64::MAX,
+        ),
+        (
+            "NNNNNN[0,30]NNNN, one sequence of 65,536",
+            random(1, 65_536, &six, 1),
+            10_000,
+        ),
+        (
+            "NNNNNN[0,30]NNNN, 4 of 8 sequences of 8,192",
+            random(8, 8_192, &six, 4),
+            10_000,
+        ),
+    ]
+}

@@ -1,5 +1,6 @@
 //! Legs of the three programs over the same search, held to the same answer.
 
+use crate::bits::Bits;
 use crate::linked;
 use crate::passes::Passes;
 use crate::positions::Positions;
@@ -34,6 +35,17 @@ pub fn legs<'a>(search: &'a Search, place: Place, budget: u64, room: usize) -> V
         Box::new(move |tables| leg(&mut Positions::new(search), search, place, budget, tables)),
     ];
     runs.into_iter().map(|run| Leg { run, room }).collect()
+}
+
+/// A leg of the library, of positions and of bits.
+pub fn kept<'a>(search: &'a Search, budget: u64, room: usize) -> Vec<Leg<'a>> {
+    let mut legs = legs(search, Place::FIRST, budget, room);
+    legs.remove(1);
+    let bits =
+        move |tables: &mut Rows| leg(&mut Bits::new(search), search, Place::FIRST, budget, tables);
+    let run: Run = Box::new(bits);
+    legs.push(Leg { run, room });
+    legs
 }
 
 /// Checks that all legs go as far and write the same; how far that is.

@@ -4,7 +4,7 @@
 //! it is the middle one.
 
 use crate::inputs;
-use crate::legs::{agreed, legs, Leg};
+use crate::legs::{agreed, kept, legs, Leg};
 use crate::recoveries;
 use crate::timing::{in_turn, ratio, ratios, row, title, Times, Work};
 use crate::walk::{Place, Search, Went};
@@ -110,6 +110,35 @@ pub fn searches() {
         let (went, times) = measure(&search, u64::MAX, 4_096, rounds);
         let mut cells = vec![name.into(), went.steps.to_string(), went.rows.to_string()];
         cells.extend(rates(&went, &times));
+        row(&cells);
+    }
+    println!();
+}
+
+/// Searches that are long with the library, each up to so many steps, beside
+/// the two programs that keep what they found of a prefix.
+pub fn rows_of_bits() {
+    println!("What is kept along the path\n");
+    title(&[
+        "search",
+        "steps",
+        "rows",
+        "library, candidates / s",
+        "positions",
+        "bits",
+        "library / positions",
+        "library / bits",
+        "bits / positions",
+    ]);
+    for (name, search, budget) in inputs::long_searches() {
+        let mut legs = kept(&search, budget, 100_000);
+        let went = agreed(&mut legs);
+        let mut works: Vec<Work> = legs.into_iter().map(Leg::work).collect();
+        let times = in_turn(3, &mut works);
+        let rate = |times: &Times| format!("{:.0}", went.steps as f64 / times.least());
+        let mut cells = vec![name.into(), went.steps.to_string(), went.rows.to_string()];
+        cells.extend(times.iter().map(rate));
+        cells.extend([(0, 1), (0, 2), (2, 1)].map(|(a, b)| ratios(&times[a], &times[b])));
         row(&cells);
     }
     println!();
