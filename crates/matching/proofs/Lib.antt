@@ -1,13 +1,17 @@
--- The laws that the proofs of this crate's functions lean on.
-pub mod Letters
-pub mod Gaps
-pub mod Left
-pub mod Any
-pub mod Passes
-pub mod Occurs
-pub mod Parts
-pub mod Spelling
-pub mod Held
-pub mod Marking
+-- The laws of the definitions of this crate.
+pub mod Slots
+pub mod Steps
+pub mod Counted
+pub mod Gapped
+pub mod Extend
+pub mod Push
+pub mod Replay
+pub mod Leads
+pub mod Totals
+pub mod Shorter
+pub mod Led
+pub mod Weighed
+pub mod Onward
+pub mod Places
 pub mod Bytes
-pub mod Quorum
+pub mod First

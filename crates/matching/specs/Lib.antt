@@ -1,4 +1,3 @@
--- What the contracts of this crate say, beside the definitions of `rules`.
-pub mod Flags
-pub mod Marks
-pub mod Prefix
+-- What the contracts of this crate say, beside the definitions of `rules` and `rows`.
+pub mod Path
+pub mod Weights

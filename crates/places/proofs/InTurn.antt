@@ -1,9 +1,10 @@
 -- The checks of a search in turn: those before 13, and then 13, whose work the earlier ones make sound.
-use mathlib.Core.Path.{_≡_, sym, _∙_}
-use mathlib.Core.Bool.{Bool, true, not}
+use mathlib.Core.Path.{_≡_, sym, ap, _∙_}
+use mathlib.Core.Bool.{Bool, true, false, not, false≢true}
 use mathlib.Core.List.{List, [], _∷_}
 use Prim.Native.Nat.{ℕ}
 use Rattle.checks.specs.Orders.{value-checks-before-13}
+use Rattle.places.specs.Orders.{before-13}
 use Rattle.rules.specs.Lists.{if}
 use Rattle.rules.specs.Refusals.{_else_, first, check5, check6, check7, check8, check13, passes?, set-checks, search-checks}
 use Rattle.rules.specs.Saved.{place-rule?}
@@ -14,30 +15,30 @@ use Rattle.rules.proofs.EachCheck.{check23-fine}
 use Rattle.rules.proofs.Sound.{set-sound, template-sound}
 use Rattle.rules.proofs.Verdicts.{else-assoc, else-fine, else-both, none-of, all-fine}
 
+-- a refusal is not fine
+pub not-fine : {n p : ℕ} → refused n p ≡ fine → ⊥
+not-fine e = false≢true (ap (λ v. elim v [ fine ↦ true | refused n p ↦ false ]) e)
+
 module _ (letters lengths : List ℕ) (s : Search) where
   -- 13 from its test
   pub told-13 : {b : Bool} {v : Verdict} → b ≡ passes? letters lengths s → v ≡ if (not b) (refused 13 0) fine → v ≡ check13 letters lengths s
   unfolding check13
   told-13 e f = f ∙ rw e
 
-  -- the checks before 13
-  pub before-13 : Verdict
-  before-13 = first (set-checks letters lengths) else first (value-checks-before-13 letters lengths s)
-
-  pub before-told : {a b v : Verdict} → a ≡ first (set-checks letters lengths) → b ≡ first (value-checks-before-13 letters lengths s) → v ≡ a else b → v ≡ before-13
+  pub before-told : {a b v : Verdict} → a ≡ first (set-checks letters lengths) → b ≡ first (value-checks-before-13 letters lengths s) → v ≡ a else b → v ≡ before-13 letters lengths s
   unfolding before-13
   before-told e f g = rw (← e, ← f) g
 
-  pub in-turn : first (search-checks letters lengths s) ≡ before-13 else check13 letters lengths s
+  pub in-turn : first (search-checks letters lengths s) ≡ before-13 letters lengths s else check13 letters lengths s
   unfolding search-checks first before-13
   in-turn = simp (else-assoc, else-fine)
 
   -- a refusal before 13 is the one given
-  pub refused-before : {n p : ℕ} → refused n p ≡ before-13 → refused n p ≡ first (search-checks letters lengths s)
+  pub refused-before : {n p : ℕ} → refused n p ≡ before-13 letters lengths s → refused n p ≡ first (search-checks letters lengths s)
   unfolding _else_
   refused-before e = rw (in-turn, ← e)
 
-  module _ (e : fine ≡ before-13) where
+  module _ (e : fine ≡ before-13 letters lengths s) where
     -- and where there is none 13 decides
     pub left-to-13 : {v : Verdict} → v ≡ check13 letters lengths s → v ≡ first (search-checks letters lengths s)
     unfolding _else_

@@ -1,23 +1,25 @@
 -- When a search passes through a place: with no letter it must have ended there, and with letters the prefix that is one shorter
 -- must be frequent.
-use mathlib.Core.Path.{_≡_, refl, sym}
+use mathlib.Core.Path.{_≡_, refl, sym, ap, _∙_}
 use mathlib.Core.Bool.{Bool, true, false, _||_}
 use mathlib.Core.List.{List}
-use Prim.Native.Nat.{ℕ, zero, suc, _-_, _/_, _≤_}
+use Prim.Native.Nat.{ℕ, zero, suc, _-_, _/_, _^_, _≤_, _<_}
+use native.Mathlib.Decide.{decLt}
 use native.Mathlib.Omega.{arith}
-use lib.Dec.{eqb}
-use borrow.Author.Tests.{ne-eqb, leb-true}
+use lib.Dec.{eqb, leb, ltb}
+use borrow.Author.Tests.{ne-eqb, leb-true, ltb-true, le-leb, lt-leb}
 use Rattle.rules.specs.Limits.{Letter-BASES}
+use Rattle.rules.specs.Lists.{if}
 use Rattle.rules.specs.Refusals.{passes?}
 use Rattle.rules.specs.Saved.{place-rule?}
 use Rattle.rules.specs.Sequences.{sequences}
-use Rattle.rules.specs.Support.{frequent}
+use Rattle.rules.specs.Support.{support, parts, reaches, frequent}
 use Rattle.rules.specs.Template.{size}
 use Rattle.rules.specs.Walk.{walk-in, walk-over, candidate}
 use Rattle.rules.specs.declared.Place.{Place}
 use Rattle.rules.specs.declared.Search.{Search}
 use Rattle.rules.specs.declared.Template.{Template}
-use Rattle.rules.proofs.Exact.{exact-search, exact-base, exact-may, exact-place}
+use Rattle.rules.proofs.Exact.{exact-search, exact-base, exact-may, exact-place, exact-frequent}
 use Rattle.rules.proofs.Plain.{candidate-plain}
 use Rattle.rules.proofs.Tests.{both}
 
@@ -49,3 +51,25 @@ module _ (letters lengths : List ℕ) (s : Search) where
 -- a place that keeps its rule has at most K letters
 pub rule-deep : (t : Template) (p : Place) → place-rule? t p ≡ true → p .letters ≤ size t
 rule-deep t p e = leb-true _ _ (both _ _ .0 (rw (exact-place t (exact-search t) p) at e) .0)
+
+-- and its number is one of so many letters
+pub rule-below : (t : Template) (p : Place) → place-rule? t p ≡ true → p .number < Letter-BASES ^ p .letters
+rule-below t p e = ltb-true _ _ (both (leb (p .letters) (size t)) (ltb (p .number) (Letter-BASES ^ p .letters)) .0 (rw (exact-place t (exact-search t) p) at e) .1)
+
+-- the test of a place with letters: the prefix of no letters is frequent, and another if its support reaches the quorum
+module _ (letters lengths : List ℕ) (s : Search) (h : 1 ≤ s .place .letters) where
+  pub passes-by : {found : ℕ} {r : Bool}
+      → (2 ≤ s .place .letters → found ≡ support (parts (s .template) (s .place .letters - 1) (s .place .number / Letter-BASES)) (sequences letters lengths))
+      → r ≡ if (leb (s .place .letters) 1) true (leb (s .quorum) found) → r ≡ passes? letters lengths s
+  unfolding reaches
+  passes-by {found} {r} f e =
+      e ∙ elim (decLt 1 (s .place .letters)) [
+        | no n ↦ (let z : s .place .letters - 1 ≡ 0 = omega arith in
+            ap (λ b. if b true (leb (s .quorum) found)) (le-leb (s .place .letters) 1 (omega arith))
+            ∙ sym (ap (λ (j : ℕ). frequent (s .template) (s .quorum) (sequences letters lengths) j (s .place .number / Letter-BASES)) z)
+            ∙ passes-some letters lengths s h)
+        | yes n ↦ (ap (λ b. if b true (leb (s .quorum) found)) (lt-leb (s .place .letters) 1 n)
+            ∙ ap (leb (s .quorum)) (f n)
+            ∙ sym (exact-frequent (s .template) (exact-search (s .template)) (s .quorum) (sequences letters lengths) (s .place .letters - 1) (s .place .number / Letter-BASES) (omega arith))
+            ∙ passes-some letters lengths s h)
+      ]

@@ -1,27 +1,51 @@
 // An inner crate: whether a search stands where the uninterrupted search passes through (13), and with it all that a leg or a
-// save checks of the search that it is given.
+// save checks of the search that it is given. The rows of its path are made for that, and a leg goes on with them.
+use matching::path;
+use matching::tables;
 use rules::Checked;
-use rules::Letter;
 use rules::Refusal;
 use rules::Search;
 ghost use mathlib.Core.Bool.{true};
 ghost use mathlib.Core.Path.{_≡_};
 ghost use Prim.Native.Nat.{_≤_};
-ghost use lib.ListN.{length};
-ghost use Rattle.rules.specs.Limits.{SequenceSet-LETTERS};
+ghost use lib.Dec.{leb};
+ghost use Rattle.rules.specs.Lists.{if};
 ghost use Rattle.rules.specs.Refusals.{first, check13, passes?, search-checks};
 ghost use Rattle.rules.specs.Saved.{place-rule?};
 ghost use Rattle.rules.specs.Sound.{SoundSet, SoundTemplate};
-ghost use Rattle.rules.specs.Told.{toldChecked};
+ghost use Rattle.rules.specs.Told.{fine, toldChecked};
+ghost use Rattle.matching.specs.Path.{Tables, Made};
+ghost use Rattle.places.specs.Orders.{before-13};
 
-// Whether the place of a search is the ended place or a candidate: one whose prefix a letter shorter is frequent.
-fn passes(letters: &[u8], lengths: &[u32], s: Search, flags: &mut [u8], spare: &mut [u8]) -> bool
+// Whether the prefix of a place, of `size - 1` letters, is frequent, if this is its support. The empty one is.
+fn frequent(size: u8, quorum: u64, found: u32) -> bool
+    ensures { λ r. ⌜ r ≡ if (leb size 1) true (leb quorum found) ⌝ }
+{
+    let support = found as u64;
+    if size <= 1 { true } else { quorum <= support }
+}
+
+// Whether the place of a search is the ended place or a candidate: one whose prefix a letter shorter is frequent. The tables are for the
+// work; where there is a candidate, they have its path.
+fn passes(
+    letters: &[u8],
+    lengths: &[u32],
+    s: Search,
+    inside: &mut [u8],
+    firsts: &mut [u32],
+    offsets: &mut [u32],
+    standing: &mut [u64],
+    rows: &mut [u64],
+    work: &mut [u64],
+    spare: &mut [u64],
+) -> bool
     requires { ⌜ SoundSet (now letters) (now lengths) ⌝ }
     requires { ⌜ SoundTemplate (s .template) ⌝ }
     requires { ⌜ place-rule? (s .template) (s .place) ≡ true ⌝ }
-    requires { ⌜ (length (now letters) ≤ length (now flags)) × (length (now letters) ≤ length (now spare)) ⌝ }
+    requires { ⌜ Tables (now inside) (now firsts) (now offsets) (now standing) (now rows) (now work) (now spare) ⌝ }
     ensures { λ r. ⌜ r ≡ passes? (now (letters .entry)) (now (lengths .entry)) s ⌝ }
-    ensures { λ _. ⌜ (length (now (flags .exit)) ≡ length (now (flags .entry))) × (length (now (spare .exit)) ≡ length (now (spare .entry))) ⌝ }
+    ensures { λ _. ⌜ Tables (now (inside .exit)) (now (firsts .exit)) (now (offsets .exit)) (now (standing .exit)) (now (rows .exit)) (now (work .exit)) (now (spare .exit)) ⌝ }
+    ensures { λ _. ⌜ (1 ≤ s .place .letters → Made (s .template) (now (lengths .entry)) (now (letters .entry)) (now (inside .exit)) (now (firsts .exit)) (now (offsets .exit)) (now (standing .exit)) (now (rows .exit)) (s .place .letters) (s .place .number)) ⌝ }
 {
     let place = s.place;
     let size = place.letters;
@@ -31,16 +55,30 @@ fn passes(letters: &[u8], lengths: &[u32], s: Search, flags: &mut [u8], spare: &
     }
     let template = s.template;
     let quorum = s.quorum;
-    matching::frequent(
+    tables::make(
+        template,
         letters,
         lengths,
+        inside,
+        firsts,
+        offsets,
+        standing,
+        rows,
+    );
+    let found = path::replay(
         template,
-        quorum,
-        size - 1,
-        number / Letter::BASES,
-        flags,
+        size,
+        number,
+        inside,
+        letters,
+        lengths,
+        firsts,
+        standing,
+        rows,
+        work,
         spare,
-    )
+    );
+    frequent(size, quorum, found)
 }
 
 // 13: a place that the search does not pass through.
@@ -48,40 +86,115 @@ pub fn check_passes(
     letters: &[u8],
     lengths: &[u32],
     s: Search,
-    flags: &mut [u8],
-    spare: &mut [u8],
+    inside: &mut [u8],
+    firsts: &mut [u32],
+    offsets: &mut [u32],
+    standing: &mut [u64],
+    rows: &mut [u64],
+    work: &mut [u64],
+    spare: &mut [u64],
 ) -> Checked
     requires { ⌜ SoundSet (now letters) (now lengths) ⌝ }
     requires { ⌜ SoundTemplate (s .template) ⌝ }
     requires { ⌜ place-rule? (s .template) (s .place) ≡ true ⌝ }
-    requires { ⌜ (length (now letters) ≤ length (now flags)) × (length (now letters) ≤ length (now spare)) ⌝ }
+    requires { ⌜ Tables (now inside) (now firsts) (now offsets) (now standing) (now rows) (now work) (now spare) ⌝ }
     ensures { λ r. ⌜ toldChecked r ≡ check13 (now (letters .entry)) (now (lengths .entry)) s ⌝ }
-    ensures { λ _. ⌜ (length (now (flags .exit)) ≡ length (now (flags .entry))) × (length (now (spare .exit)) ≡ length (now (spare .entry))) ⌝ }
+    ensures { λ _. ⌜ Tables (now (inside .exit)) (now (firsts .exit)) (now (offsets .exit)) (now (standing .exit)) (now (rows .exit)) (now (work .exit)) (now (spare .exit)) ⌝ }
+    ensures { λ _. ⌜ (1 ≤ s .place .letters → Made (s .template) (now (lengths .entry)) (now (letters .entry)) (now (inside .exit)) (now (firsts .exit)) (now (offsets .exit)) (now (standing .exit)) (now (rows .exit)) (s .place .letters) (s .place .number)) ⌝ }
 {
-    let through = passes(letters, lengths, s, flags, spare);
+    let through = passes(
+        letters,
+        lengths,
+        s,
+        inside,
+        firsts,
+        offsets,
+        standing,
+        rows,
+        work,
+        spare,
+    );
     Checked::refuse_if(!through, Refusal::NotACandidate)
 }
 
-// 1 to 4, 5, 23, 6, 7, 8, 12, 9, 13: what a leg or a save checks of its search. The two tables are for the work, each with room
-// for the most letters that there may be.
+// 13, for a caller that goes on with no leg: the tables are made for it alone.
+pub fn check_13(letters: &[u8], lengths: &[u32], s: Search) -> Checked
+    requires { ⌜ SoundSet (now letters) (now lengths) ⌝ }
+    requires { ⌜ SoundTemplate (s .template) ⌝ }
+    requires { ⌜ place-rule? (s .template) (s .place) ≡ true ⌝ }
+    ensures { λ r. ⌜ toldChecked r ≡ check13 (now (letters .entry)) (now (lengths .entry)) s ⌝ }
+{
+    let mut inside = [0u8; matching::LETTERS];
+    let mut firsts = [0u32; matching::ENDS];
+    let mut offsets = [0u32; matching::ENDS];
+    let mut standing = [0u64; matching::STANDING];
+    let mut rows = [0u64; matching::SLOTS];
+    let mut work = [0u64; matching::WORDS];
+    let mut spare = [0u64; matching::WORDS];
+    check_passes(
+        letters,
+        lengths,
+        s,
+        &mut inside,
+        &mut firsts,
+        &mut offsets,
+        &mut standing,
+        &mut rows,
+        &mut work,
+        &mut spare,
+    )
+}
+
+// 1 to 4, 5, 23, 6, 7, 8, 12, 9: what a leg or a save checks of its search before 13.
+fn check_before_13(letters: &[u8], lengths: &[u32], s: Search) -> Checked
+    ensures { λ r. ⌜ toldChecked r ≡ before-13 (now (letters .entry)) (now (lengths .entry)) s ⌝ }
+{
+    checks::check_set(letters, lengths).then(checks::check_value(letters, lengths, s))
+}
+
+// All that a save checks of its search.
+pub fn check_alone(letters: &[u8], lengths: &[u32], s: Search) -> Checked
+    ensures { λ r. ⌜ toldChecked r ≡ first (search-checks (now (letters .entry)) (now (lengths .entry)) s) ⌝ }
+{
+    let verdict = check_before_13(letters, lengths, s);
+    match verdict {
+        Checked::Refused(why) => Checked::Refused(why),
+        Checked::Fine => check_13(letters, lengths, s),
+    }
+}
+
+// All that a leg checks of its search. The tables are for the work; where nothing is refused, they have the path of its place.
 pub fn check_search(
     letters: &[u8],
     lengths: &[u32],
     s: Search,
-    flags: &mut [u8],
-    spare: &mut [u8],
+    inside: &mut [u8],
+    firsts: &mut [u32],
+    offsets: &mut [u32],
+    standing: &mut [u64],
+    rows: &mut [u64],
+    work: &mut [u64],
+    spare: &mut [u64],
 ) -> Checked
-    requires { ⌜ (SequenceSet-LETTERS ≤ length (now flags)) × (SequenceSet-LETTERS ≤ length (now spare)) ⌝ }
+    requires { ⌜ Tables (now inside) (now firsts) (now offsets) (now standing) (now rows) (now work) (now spare) ⌝ }
     ensures { λ r. ⌜ toldChecked r ≡ first (search-checks (now (letters .entry)) (now (lengths .entry)) s) ⌝ }
-    ensures { λ _. ⌜ (length (now (flags .exit)) ≡ length (now (flags .entry))) × (length (now (spare .exit)) ≡ length (now (spare .entry))) ⌝ }
+    ensures { λ _. ⌜ Tables (now (inside .exit)) (now (firsts .exit)) (now (offsets .exit)) (now (standing .exit)) (now (rows .exit)) (now (work .exit)) (now (spare .exit)) ⌝ }
+    ensures { λ r. ⌜ (toldChecked r ≡ fine → 1 ≤ s .place .letters → Made (s .template) (now (lengths .entry)) (now (letters .entry)) (now (inside .exit)) (now (firsts .exit)) (now (offsets .exit)) (now (standing .exit)) (now (rows .exit)) (s .place .letters) (s .place .number)) ⌝ }
 {
-    let verdict = checks::check_set(letters, lengths).then(checks::check_value(
-        letters,
-        lengths,
-        s,
-    ));
+    let verdict = check_before_13(letters, lengths, s);
     match verdict {
         Checked::Refused(why) => Checked::Refused(why),
-        Checked::Fine => check_passes(letters, lengths, s, flags, spare),
+        Checked::Fine => check_passes(
+            letters,
+            lengths,
+            s,
+            inside,
+            firsts,
+            offsets,
+            standing,
+            rows,
+            work,
+            spare,
+        ),
     }
 }

@@ -5,12 +5,10 @@ mod read;
 mod sizes;
 mod write;
 
-ghost use mathlib.Core.Bool.{true};
 ghost use mathlib.Core.Path.{_≡_};
 ghost use Rattle.rules.specs.Calls.{save-rule, restore-rule, unless};
-ghost use Rattle.rules.specs.Refusals.{first, check13, search-checks, restore-checks};
-ghost use Rattle.rules.specs.Saved.{read-search, place-rule?};
-ghost use Rattle.rules.specs.Sound.{SoundSet, SoundTemplate};
+ghost use Rattle.rules.specs.Refusals.{first, restore-checks};
+ghost use Rattle.rules.specs.Saved.{read-search};
 ghost use Rattle.rules.specs.Told.{toldChecked, toldSaved, toldBegun};
 ghost use Rattle.saved.specs.Orders.{restore-checks-before-13};
 use blanks::check_blanks;
@@ -23,13 +21,13 @@ use checks::check_same_set;
 use checks::check_set;
 use checks::check_size;
 use kinds::check_kinds;
-use places::check_passes;
+use places::check_13;
+use places::check_alone;
 use read::read_search;
 use rules::Begun;
 use rules::Checked;
 use rules::Saved;
 use rules::Search;
-use rules::SequenceSet;
 use sizes::check_adds_up;
 use sizes::check_sized;
 use write::write;
@@ -55,18 +53,6 @@ fn check_saved(letters: &[u8], lengths: &[u32], bytes: &[u8], s: Search) -> Chec
         .then(check_quorum(lengths, quorum))
 }
 
-// 13. The two tables are for the work.
-fn check_candidate(letters: &[u8], lengths: &[u32], s: Search) -> Checked
-    requires { ⌜ SoundSet (now letters) (now lengths) ⌝ }
-    requires { ⌜ SoundTemplate (s .template) ⌝ }
-    requires { ⌜ place-rule? (s .template) (s .place) ≡ true ⌝ }
-    ensures { λ r. ⌜ toldChecked r ≡ check13 (now (letters .entry)) (now (lengths .entry)) s ⌝ }
-{
-    let mut flags = [0u8; SequenceSet::LETTERS];
-    let mut spare = [0u8; SequenceSet::LETTERS];
-    check_passes(letters, lengths, s, &mut flags, &mut spare)
-}
-
 // A restore's whole order: 13 is checked last, and only where nothing was found before.
 fn check_last(letters: &[u8], lengths: &[u32], bytes: &[u8], s: Search, earlier: Checked) -> Checked
     requires { ⌜ s ≡ read-search (now bytes) ⌝ }
@@ -74,7 +60,7 @@ fn check_last(letters: &[u8], lengths: &[u32], bytes: &[u8], s: Search, earlier:
     ensures { λ r. ⌜ toldChecked r ≡ first (restore-checks (now (letters .entry)) (now (lengths .entry)) (now (bytes .entry))) ⌝ }
 {
     match earlier {
-        Checked::Fine => check_candidate(letters, lengths, s),
+        Checked::Fine => check_13(letters, lengths, s),
         Checked::Refused(why) => Checked::Refused(why),
     }
 }
@@ -100,22 +86,13 @@ pub fn restore(letters: &[u8], lengths: &[u32], bytes: &[u8]) -> Begun
     begun(s, found)
 }
 
-// 1 to 4, 5, 23, 6, 7, 8, 12, 9, 13: a save's order before 17. The two tables are for the work.
-fn check_search(letters: &[u8], lengths: &[u32], s: Search) -> Checked
-    ensures { λ r. ⌜ toldChecked r ≡ first (search-checks (now (letters .entry)) (now (lengths .entry)) s) ⌝ }
-{
-    let mut flags = [0u8; SequenceSet::LETTERS];
-    let mut spare = [0u8; SequenceSet::LETTERS];
-    places::check_search(letters, lengths, s, &mut flags, &mut spare)
-}
-
 // Saves a search over its sequences: writes its bytes to the front of `out`, the rest of which stays, and answers how many they
 // are. Refused, with nothing written: sequences or a search that fail their checks, and a buffer shorter than the save.
 pub fn save(letters: &[u8], lengths: &[u32], search: Search, out: &mut [u8]) -> Saved
     ensures { λ r. ⌜ toldSaved r ≡ (save-rule (now (letters .entry)) (now (lengths .entry)) search (now (out .entry))) .told ⌝ }
     ensures { λ r. ⌜ now (out .exit) ≡ (save-rule (now (letters .entry)) (now (lengths .entry)) search (now (out .entry))) .out ⌝ }
 {
-    let found = check_search(letters, lengths, search);
+    let found = check_alone(letters, lengths, search);
     match found {
         Checked::Fine => write(search, out),
         Checked::Refused(why) => Saved::Refused(why),

@@ -3,3 +3,6 @@ pub mod Four
 pub mod Follow
 pub mod Round
 pub mod Ruled
+pub mod Onward
+pub mod Rowed
+pub mod Turn

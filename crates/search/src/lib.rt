@@ -59,10 +59,26 @@ pub fn leg(
     ensures { λ _. ⌜ now (supports .exit) ≡ (leg-rule (now (letters .entry)) (now (lengths .entry)) search budget (now (motifs .entry)) (now (supports .entry)) (now (weights .entry))) .supports ⌝ }
     ensures { λ _. ⌜ now (weights .exit) ≡ (leg-rule (now (letters .entry)) (now (lengths .entry)) search budget (now (motifs .entry)) (now (supports .entry)) (now (weights .entry))) .weights ⌝ }
 {
-    let mut flags = [0u8; SequenceSet::LETTERS];
-    let mut spare = [0u8; SequenceSet::LETTERS];
+    let mut inside = [0u8; matching::LETTERS];
+    let mut firsts = [0u32; matching::ENDS];
+    let mut offsets = [0u32; matching::ENDS];
+    let mut standing = [0u64; matching::STANDING];
+    let mut slots = [0u64; matching::SLOTS];
+    let mut work = [0u64; matching::WORDS];
+    let mut spare = [0u64; matching::WORDS];
     let mut ways = [0u64; SequenceSet::LETTERS];
-    let checked = places::check_search(letters, lengths, search, &mut flags, &mut spare);
+    let checked = places::check_search(
+        letters,
+        lengths,
+        search,
+        &mut inside,
+        &mut firsts,
+        &mut offsets,
+        &mut standing,
+        &mut slots,
+        &mut work,
+        &mut spare,
+    );
     match checked {
         Checked::Refused(why) => Leg {
             answer: LegAnswer::Refused(why),
@@ -78,7 +94,12 @@ pub fn leg(
             motifs,
             supports,
             weights,
-            &mut flags,
+            &inside,
+            &firsts,
+            &offsets,
+            &standing,
+            &mut slots,
+            &mut work,
             &mut spare,
             &mut ways,
         ),

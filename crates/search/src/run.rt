@@ -1,18 +1,20 @@
 // A leg of a search that the checks accept.
 use super::step;
+use matching::path;
+use matching::weights;
 use rules::Leg;
 use rules::LegAnswer;
 use rules::Place;
 use rules::Search;
 use rules::Template;
 use rules::least;
-ghost use mathlib.Core.Bool.{true};
+ghost use mathlib.Core.Bool.{true, false};
 ghost use mathlib.Core.Path.{_≡_};
-ghost use Prim.Native.Nat.{_+_, _≤_, _<_};
+ghost use Prim.Native.Nat.{ℕ, _+_, _-_, _*_, _/_, _^_, _≤_, _<_};
 ghost use lib.Dec.{leb};
 ghost use lib.ListN.{length, set};
 ghost use Rattle.rules.specs.Calls.{moved, stretch, supports-of, weights-of};
-ghost use Rattle.rules.specs.Limits.{SequenceSet-LETTERS};
+ghost use Rattle.rules.specs.Limits.{SequenceSet-LETTERS, Template-LETTERS, Letter-BASES};
 ghost use Rattle.rules.specs.Lists.{if, put};
 ghost use Rattle.rules.specs.Refusals.{first, search-checks};
 ghost use Rattle.rules.specs.Sequences.{sequences};
@@ -21,6 +23,9 @@ ghost use Rattle.rules.specs.Support.{weight, parts};
 ghost use Rattle.rules.specs.Template as templates;
 ghost use Rattle.rules.specs.Told.{fine, toldLeg};
 ghost use Rattle.rules.specs.Walk.{place};
+ghost use Rattle.rows.specs.Set.{Row-WORDS, Firsts, Row};
+ghost use Rattle.matching.specs.Path.{prefix-starts, Path, Inside, Tables, Made};
+ghost use Rattle.matching.specs.Weights.{prefix-of, Counted};
 ghost use Rattle.search.specs.Told.{room-of, told-of};
 
 // Whether a support reaches the quorum.
@@ -53,80 +58,139 @@ fn stopped(answer: LegAnswer, steps: u64, rows: usize, s: Search, letters: u8, n
     }
 }
 
-// Writes the row of a motif to the three tables: its number, its support and its weighted support.
-fn write(
-    letters: &[u8],
-    lengths: &[u32],
-    template: Template,
-    motif: u64,
-    found: u32,
-    row: usize,
-    motifs: &mut [u64],
-    supports: &mut [u32],
-    weights: &mut [u64],
-    ways: &mut [u64],
-)
-    requires { ⌜ SoundSet (now letters) (now lengths) ⌝ }
+// How many bits the letters of the last component take in a motif's number.
+fn last_bits(template: Template) -> u8
     requires { ⌜ SoundTemplate template ⌝ }
-    requires { ⌜ length (now letters) ≤ length (now ways) ⌝ }
-    requires { ⌜ (row < length (now motifs)) × (row < length (now supports)) × (row < length (now weights)) ⌝ }
-    ensures { λ _. ⌜ now (motifs .exit) ≡ set (now (motifs .entry)) row motif ⌝ }
-    ensures { λ _. ⌜ now (supports .exit) ≡ set (now (supports .entry)) row found ⌝ }
-    ensures { λ _. ⌜ now (weights .exit) ≡ set (now (weights .entry)) row (weight (parts template (templates.size template) motif) (sequences (now (letters .entry)) (now (lengths .entry)))) ⌝ }
-    ensures { λ _. ⌜ length (now (ways .exit)) ≡ length (now (ways .entry)) ⌝ }
+    ensures { λ r. ⌜ ((m : ℕ) → m / 2 ^ r ≡ prefix-of template m) × (r < 64) ⌝ }
 {
-    let weight = ways::weight(letters, lengths, template, motif, ways);
-    motifs[row] = motif;
-    supports[row] = found;
-    weights[row] = weight;
+    let components = template.components();
+    let last = template.count as usize - 1;
+    let component = components[last];
+    let n = component.length as u8;
+    2 * n
 }
 
-// Writes the row of a candidate that is a listed motif, and answers how many rows there are then.
+// Writes the row of a candidate that is a listed motif, whose path and row these are: its number, its support and its weighted support.
+// It answers how many rows there are then.
 fn list(
     hit: bool,
     letters: &[u8],
     lengths: &[u32],
     template: Template,
+    depth: u8,
     motif: u64,
+    prefix: u64,
+    counted: u64,
     found: u32,
     rows: usize,
     motifs: &mut [u64],
     supports: &mut [u32],
     weights: &mut [u64],
+    inside: &[u8],
+    firsts: &[u32],
+    offsets: &[u32],
+    standing: &[u64],
+    slots: &[u64],
+    work: &[u64],
+    spare: &mut [u64],
     ways: &mut [u64],
 ) -> usize
     requires { ⌜ SoundSet (now letters) (now lengths) ⌝ }
     requires { ⌜ SoundTemplate template ⌝ }
+    requires { ⌜ Tables (now inside) (now firsts) (now offsets) (now standing) (now slots) (now work) (now spare) ⌝ }
     requires { ⌜ length (now letters) ≤ length (now ways) ⌝ }
     requires { ⌜ (hit ≡ true → (rows < length (now motifs)) × (rows < length (now supports)) × (rows < length (now weights))) ⌝ }
+    requires { ⌜ (hit ≡ true → (depth ≡ templates.size template) × (motif < Letter-BASES ^ depth) × (prefix ≡ prefix-of template motif)) ⌝ }
+    requires { ⌜ (hit ≡ true → Made template (now lengths) (now letters) (now inside) (now firsts) (now offsets) (now standing) (now slots) depth motif) ⌝ }
+    requires { ⌜ (hit ≡ true → Row (prefix-starts template depth motif) (now lengths) (now letters) (now work)) ⌝ }
+    requires { ⌜ Counted template (now lengths) (now letters) counted (now ways) ⌝ }
     ensures { λ r. ⌜ r ≡ if hit (rows + 1) rows ⌝ }
     ensures { λ _. ⌜ now (motifs .exit) ≡ if hit (set (now (motifs .entry)) rows motif) (now (motifs .entry)) ⌝ }
     ensures { λ _. ⌜ now (supports .exit) ≡ if hit (set (now (supports .entry)) rows found) (now (supports .entry)) ⌝ }
     ensures { λ _. ⌜ now (weights .exit) ≡ if hit (set (now (weights .entry)) rows (weight (parts template (templates.size template) motif) (sequences (now (letters .entry)) (now (lengths .entry))))) (now (weights .entry)) ⌝ }
-    ensures { λ _. ⌜ length (now (ways .exit)) ≡ length (now (ways .entry)) ⌝ }
+    ensures { λ _. ⌜ Counted template (now (lengths .entry)) (now (letters .entry)) (if hit (prefix + 1) counted) (now (ways .exit)) ⌝ }
+    ensures { λ _. ⌜ (length (now (spare .exit)) ≡ length (now (spare .entry))) × (length (now (ways .exit)) ≡ length (now (ways .entry))) ⌝ }
 {
     if hit {
-        write(
+        let weight = weights::weight(
+            template,
+            depth,
+            motif,
+            prefix,
+            counted,
+            inside,
             letters,
             lengths,
-            template,
-            motif,
-            found,
-            rows,
-            motifs,
-            supports,
-            weights,
+            firsts,
+            offsets,
+            standing,
+            slots,
+            work,
+            spare,
             ways,
         );
+        motifs[rows] = motif;
+        supports[rows] = found;
+        weights[rows] = weight;
         rows + 1
     } else {
         rows
     }
 }
 
+// 1 more than the prefix for which the ways are counted then.
+fn counted_for(hit: bool, prefix: u64, counted: u64) -> u64
+    requires { ⌜ prefix < 2 ^ 64 - 1 ⌝ }
+    ensures { λ r. ⌜ r ≡ if hit (prefix + 1) counted ⌝ }
+{
+    if hit { prefix + 1 } else { counted }
+}
+
+// Puts the row of a frequent prefix shorter than a motif into its slot, for the candidates under it.
+fn keep(
+    down: bool,
+    letters: &[u8],
+    lengths: &[u32],
+    template: Template,
+    size: u8,
+    number: u64,
+    inside: &[u8],
+    firsts: &[u32],
+    work: &[u64],
+    spare: &mut [u64],
+    slots: &mut [u64],
+)
+    requires { ⌜ SoundSet (now letters) (now lengths) ⌝ }
+    requires { ⌜ SoundTemplate template ⌝ }
+    requires { ⌜ (1 ≤ size) × (down ≡ true → size < templates.size template) ⌝ }
+    requires { ⌜ Inside template (now inside) ⌝ }
+    requires { ⌜ Firsts (now lengths) (now firsts) ⌝ }
+    requires { ⌜ Path template (now lengths) (now letters) (now slots) size number ⌝ }
+    requires { ⌜ Row (prefix-starts template size number) (now lengths) (now letters) (now work) ⌝ }
+    requires { ⌜ (length (now slots) ≡ Template-LETTERS * Row-WORDS) × (length (now work) ≡ Row-WORDS) × (length (now spare) ≡ Row-WORDS) ⌝ }
+    ensures { λ _. ⌜ (down ≡ true → Path template (now (lengths .entry)) (now (letters .entry)) (now (slots .exit)) (size + 1) (number * Letter-BASES)) ⌝ }
+    ensures { λ _. ⌜ (down ≡ false → now (slots .exit) ≡ now (slots .entry)) ⌝ }
+    ensures { λ _. ⌜ (length (now (slots .exit)) ≡ length (now (slots .entry))) × (length (now (spare .exit)) ≡ length (now (spare .entry))) ⌝ }
+{
+    if down {
+        path::push(
+            template,
+            size,
+            number,
+            inside,
+            letters,
+            lengths,
+            firsts,
+            work,
+            spare,
+            slots,
+        );
+    }
+}
+
 // A leg of a search that the checks accept. Before each candidate, in this order: none left, ended; the budget used, spent; a
-// motif and the tables full, full, and it is not counted. Otherwise a step, with a row if the candidate is a motif. The last
-// three tables are for the work.
+// motif and the tables full, full, and it is not counted. Otherwise a step, with a row if the candidate is a motif. The tables from
+// `inside` on are for the work, and have the path of the search's place.
 pub fn run(
     letters: &[u8],
     lengths: &[u32],
@@ -135,12 +199,19 @@ pub fn run(
     motifs: &mut [u64],
     supports: &mut [u32],
     weights: &mut [u64],
-    flags: &mut [u8],
-    spare: &mut [u8],
+    inside: &[u8],
+    firsts: &[u32],
+    offsets: &[u32],
+    standing: &[u64],
+    slots: &mut [u64],
+    work: &mut [u64],
+    spare: &mut [u64],
     ways: &mut [u64],
 ) -> Leg
     requires { ⌜ first (search-checks (now letters) (now lengths) s) ≡ fine ⌝ }
-    requires { ⌜ (SequenceSet-LETTERS ≤ length (now flags)) × (SequenceSet-LETTERS ≤ length (now spare)) × (SequenceSet-LETTERS ≤ length (now ways)) ⌝ }
+    requires { ⌜ Tables (now inside) (now firsts) (now offsets) (now standing) (now slots) (now work) (now spare) ⌝ }
+    requires { ⌜ SequenceSet-LETTERS ≤ length (now ways) ⌝ }
+    requires { ⌜ (1 ≤ s .place .letters → Made (s .template) (now lengths) (now letters) (now inside) (now firsts) (now offsets) (now standing) (now slots) (s .place .letters) (s .place .number)) ⌝ }
     ensures { λ r. ⌜ toldLeg r ≡ told-of s (stretch (now (letters .entry)) (now (lengths .entry)) s budget (room-of (now (motifs .entry)) (now (supports .entry)) (now (weights .entry)))) ⌝ }
     ensures { λ _. ⌜ now (motifs .exit) ≡ put ((stretch (now (letters .entry)) (now (lengths .entry)) s budget (room-of (now (motifs .entry)) (now (supports .entry)) (now (weights .entry)))) .motifs) (now (motifs .entry)) ⌝ }
     ensures { λ _. ⌜ now (supports .exit) ≡ put (supports-of (now (letters .entry)) (now (lengths .entry)) s ((stretch (now (letters .entry)) (now (lengths .entry)) s budget (room-of (now (motifs .entry)) (now (supports .entry)) (now (weights .entry)))) .motifs)) (now (supports .entry)) ⌝ }
@@ -150,33 +221,71 @@ pub fn run(
     let quorum = s.quorum;
     let depth = template.letters() as u8;
     let room = least(motifs.len(), least(supports.len(), weights.len()));
+    let bits = last_bits(template);
     let place = s.place;
     let mut j = place.letters;
     let mut m = place.number;
     let mut steps: u64 = 0;
     let mut rows: usize = 0;
+    let mut counted: u64 = 0;
     while j > 0 {
         if steps == budget {
             return stopped(LegAnswer::Spent, steps, rows, s, j, m);
         }
-        let found = matching::support(letters, lengths, template, j, m, flags, spare);
+        let found = path::support(
+            template,
+            j,
+            m,
+            inside,
+            letters,
+            lengths,
+            firsts,
+            standing,
+            slots,
+            work,
+        );
         let frequent = reaches(quorum, found);
         let hit = step::listed(depth, j, frequent);
         if hit & (rows == room) {
             return stopped(LegAnswer::Full, steps, rows, s, j, m);
         }
+        let prefix = m >> bits;
         rows = list(
             hit,
             letters,
             lengths,
             template,
+            depth,
             m,
+            prefix,
+            counted,
             found,
             rows,
             motifs,
             supports,
             weights,
+            inside,
+            firsts,
+            offsets,
+            standing,
+            slots,
+            work,
+            spare,
             ways,
+        );
+        counted = counted_for(hit, prefix, counted);
+        keep(
+            frequent & (j < depth),
+            letters,
+            lengths,
+            template,
+            j,
+            m,
+            inside,
+            firsts,
+            work,
+            spare,
+            slots,
         );
         let next = step::next_place(depth, j, m, frequent);
         steps += 1;

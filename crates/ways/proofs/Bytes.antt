@@ -2,14 +2,13 @@
 use mathlib.Core.Path.{_≡_, refl}
 use mathlib.Core.List.{List, [], _∷_, map}
 use Prim.Native.Nat.{ℕ}
-use lib.ListN.{length, take, drop, length-map}
+use lib.ListN.{length, length-map}
 use Rattle.rules.specs.Letters.{value}
-use Rattle.rules.specs.Lists.{run, each}
+use Rattle.rules.specs.Lists.{run}
 use Rattle.rules.specs.Occurrence.{reach, ways}
-use Rattle.rules.specs.Sequences.{split}
 use Rattle.rules.specs.Template.{Part}
 use Rattle.rules.proofs.Bytes.{lettered, Spelled, stands-bytes}
-use Rattle.rules.proofs.Tables.{map-same, map-take, map-drop}
+use Rattle.rules.proofs.Tables.{map-same}
 use Rattle.ways.specs.Counts.{counts}
 
 ways-bytes : (cs : List Part) (s : List ℕ) → Spelled cs → (p : ℕ) → ways (map lettered cs) s p ≡ ways cs (map value s) p
@@ -23,9 +22,3 @@ ways-bytes (c ∷ d ∷ ds) s h p =
 pub counts-bytes : (cs : List Part) (s : List ℕ) → Spelled cs → counts (map lettered cs) s ≡ counts cs (map value s)
 unfolding counts
 counts-bytes cs s h = rw (length-map s value) (map-same _ _ (ways-bytes cs s h) (run 1 (length s)))
-
--- what is the same of the bytes of one sequence and of its values is so of all sequences, laid end to end
-pub all-bytes : (f g : List ℕ → List ℕ) → ((s : List ℕ) → f s ≡ g (map value s)) → (ns l : List ℕ) → each f (split ns l) ≡ each g (split ns (map value l))
-unfolding each split
-all-bytes f g h [] l = refl
-all-bytes f g h (n ∷ ns) l = rw (h (take n l), map-take value n l, map-drop value n l, all-bytes f g h ns (drop n l))

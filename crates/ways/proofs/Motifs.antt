@@ -1,32 +1,28 @@
 -- The bytes that a motif is spelled in give its own parts: what is dropped from the front of a spelling leaves the spelling of
 -- the later letters, so the components from one on have the last letters whatever stands before them.
-use mathlib.Core.Path.{_≡_, refl, sym, ap, _∙_}
+use mathlib.Core.Path.{_≡_, refl, ap, _∙_}
 use mathlib.Core.List.{List, [], _∷_, map}
-use Prim.Native.Nat.{ℕ, zero, suc, _+_, _-_, _^_, _≤_, _<_}
+use Prim.Native.Nat.{ℕ, zero, suc, _+_, _-_, _≤_, _<_}
 use native.Mathlib.Omega.{arith}
 use lib.ListN.{length, drop, getD, length-map}
 use Rattle.rules.specs.Letters.{letter, value}
 use Rattle.rules.specs.Limits.{Letter-BASES}
-use Rattle.rules.specs.Lists.{each, sum}
+use Rattle.rules.specs.Lists.{sum}
 use Rattle.rules.specs.Motif.{spell}
-use Rattle.rules.specs.Sequences.{sequences}
-use Rattle.rules.specs.Sound.{SoundSet, SoundTemplate}
-use Rattle.rules.specs.Support.{weight, parts}
+use Rattle.rules.specs.Sound.{SoundTemplate}
+use Rattle.rules.specs.Support.{parts}
 use Rattle.rules.specs.Template.{deal, none, components, size, cut-after, cut}
 use Rattle.rules.specs.declared.Component.{Component}
 use Rattle.rules.specs.declared.Template.{Template}
-use Rattle.rules.proofs.Bound.{list-bound}
 use Rattle.rules.proofs.Bytes.{lettered, cut-spelled, cut-bytes}
 use Rattle.rules.proofs.Components.{cut-some, components-some}
 use Rattle.rules.proofs.Exact.{exact-search, exact-parts}
 use Rattle.rules.proofs.Spelling.{length-spell, spell-below, spell-drop}
 use Rattle.rules.proofs.Tables.{map-drop}
-use Rattle.rules.proofs.Weights.{weight-list}
-use Rattle.ways.specs.Counts.{counts, all-counts, letters-of, aligned}
+use Rattle.ways.specs.Counts.{counts, letters-of, aligned}
 use Rattle.ways.proofs.Aligned.{letters-within}
-use Rattle.ways.proofs.Bytes.{counts-bytes, all-bytes}
+use Rattle.ways.proofs.Bytes.{counts-bytes}
 use Rattle.ways.proofs.Counting.{counts-after}
-use Rattle.ways.proofs.Totals.{weight-counts}
 
 -- the parts from the component c on are those of the later components and letters alone, after the k letters of the one before
 drop-cut : (n : ℕ) (cs : List Component) → ((i : ℕ) → i < length cs → 1 ≤ (getD cs i none) .length) → (c m : ℕ)
@@ -66,17 +62,3 @@ module _ {t : Template} (sound : SoundTemplate t) (m n : ℕ) (fits : size t ≤
       let digits = cut-spelled 0 cs v (spell-below Letter-BASES (letters-of cs) m (omega arith)) in
       let r = parts-from c in
       rw (ey, ew, aligned-bytes cs n m fit, counts-bytes (cut cs v) s digits, r .1) (counts-after 0 (r .0) cs v (map value s))
-
-  -- those of the whole motif in all sequences
-  module _ (letters lengths : List ℕ) {w : List ℕ} (spelled : w ≡ map letter (spell Letter-BASES n m)) where
-    all-motif : all-counts (aligned (components t) w) lengths letters ≡ each (counts (parts t (size t) m)) (sequences letters lengths)
-    unfolding sequences all-counts
-    all-motif = all-bytes (counts (aligned (components t) w)) (counts (parts t (size t) m)) (λ s. counts-motif 0 s spelled refl) lengths letters
-
-    -- add up to its weighted support
-    pub all-weight : sum (all-counts (aligned (components t) w) lengths letters) ≡ weight (parts t (size t) m) (sequences letters lengths)
-    all-weight = ap sum all-motif ∙ sym (weight-counts (parts t (size t) m) (sequences letters lengths))
-
-    -- which is a number of 64 bits
-    pub all-small : SoundSet letters lengths → sum (all-counts (aligned (components t) w) lengths letters) < 2 ^ 64
-    all-small set = rw (all-weight, weight-list t (sequences letters lengths) m) (omega (arith, list-bound t sound letters lengths set m))

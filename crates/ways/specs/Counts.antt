@@ -3,9 +3,8 @@ use mathlib.Core.List.{List, map}
 use Prim.Native.Nat.{ℕ, zero, suc, _+_, _-_, _^_}
 use lib.ListN.{length, drop, getD}
 use Rattle.rules.specs.Limits.{Template-COMPONENTS, Template-GAP}
-use Rattle.rules.specs.Lists.{run, if, each, sum}
+use Rattle.rules.specs.Lists.{run, if, sum}
 use Rattle.rules.specs.Occurrence.{stands, reach, ways}
-use Rattle.rules.specs.Sequences.{split}
 use Rattle.rules.specs.Template.{Part, cut, distance}
 use Rattle.rules.specs.declared.Component.{Component}
 
@@ -13,10 +12,6 @@ use Rattle.rules.specs.declared.Component.{Component}
 -- A, then A after a gap of 0 to 1, in AAA are 2, 1, 0
 unfoldable pub counts : List Part → List ℕ → List ℕ
 counts cs s = map (ways cs s) (run 1 (length s))
-
--- those of all sequences of a buffer, laid end to end
-unfoldable pub all-counts : List Part → List ℕ → List ℕ → List ℕ
-all-counts cs lengths buffer = each (counts cs) (split lengths buffer)
 
 -- from one start, at most so many: each later part starts at one of at most GAP + 1 distances
 abbrev pub most-ways : ℕ

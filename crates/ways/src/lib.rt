@@ -1,7 +1,6 @@
-// How many occurrences a motif has, from each position and in all. An inner crate: its functions require what the checks show of
-// the sequences and the template.
+// How many occurrences a motif has in one sequence, from each position: what recovery goes by. An inner crate: its functions require
+// what the checks show of the sequences and the template.
 use rules::Component;
-use rules::Letter;
 use rules::Template;
 ghost use mathlib.Core.Path.{_≡_};
 ghost use mathlib.Core.List.{map};
@@ -10,11 +9,9 @@ ghost use lib.ListN.{length, drop};
 ghost use Rattle.rules.specs.Limits.{Template-LENGTH, Template-GAP};
 ghost use Rattle.rules.specs.Lists.{run, sum};
 ghost use Rattle.rules.specs.Occurrence.{stands};
-ghost use Rattle.rules.specs.Sequences.{sequences};
-ghost use Rattle.rules.specs.Sound.{SoundSet, SoundComponent, SoundTemplate};
-ghost use Rattle.rules.specs.Support.{weight, parts};
+ghost use Rattle.rules.specs.Sound.{SoundComponent, SoundTemplate};
 ghost use Rattle.rules.specs.Template.{size, components};
-ghost use Rattle.ways.specs.Counts.{counts, all-counts, most-ways, entry, cell, ending, leading, letters-of, aligned};
+ghost use Rattle.ways.specs.Counts.{counts, most-ways, entry, cell, ending, leading, letters-of, aligned};
 
 // Whether the letters of `word` stand in `s` at the offset `o`.
 fn stands(word: &[u8], s: &[u8], o: usize) -> bool
@@ -140,20 +137,6 @@ pub fn step(sequence: &[u8], template: Template, word: &[u8], component: usize, 
     pass(&word[begin..end], later, sequence, ways);
 }
 
-// The ways of all components, from the last to the first.
-fn passes(sequence: &[u8], template: Template, word: &[u8], ways: &mut [u64])
-    requires { ⌜ SoundTemplate template ⌝ }
-    requires { ⌜ (size template ≤ length (now word)) × (length (now ways) ≡ length (now sequence)) ⌝ }
-    ensures { λ _. ⌜ now (ways .exit) ≡ counts (aligned (components template) (now (word .entry))) (now (sequence .entry)) ⌝ }
-{
-    let count = template.count as usize;
-    let mut c = count;
-    while 0 < c {
-        c -= 1;
-        step(sequence, template, word, c, ways);
-    }
-}
-
 // The sum of some counts. Of a sequence's ways from its first component on, it is the number of occurrences.
 pub fn sum(ways: &[u64]) -> u64
     requires { ⌜ sum (now ways) < 2 ^ 64 ⌝ }
@@ -167,61 +150,4 @@ pub fn sum(ways: &[u64]) -> u64
         i += 1;
     }
     total
-}
-
-// How many occurrences one sequence has.
-fn count(sequence: &[u8], template: Template, word: &[u8], ways: &mut [u64]) -> u64
-    requires { ⌜ SoundTemplate template ⌝ }
-    requires { ⌜ (size template ≤ length (now word)) × (length (now ways) ≡ length (now sequence)) ⌝ }
-    requires { ⌜ sum (counts (aligned (components template) (now word)) (now sequence)) < 2 ^ 64 ⌝ }
-    ensures { λ r. ⌜ r ≡ sum (counts (aligned (components template) (now (word .entry))) (now (sequence .entry))) ⌝ }
-{
-    passes(sequence, template, word, ways);
-    sum(ways)
-}
-
-// How many occurrences all sequences have together, each read from its own part of the buffer.
-fn count_all(
-    letters: &[u8],
-    lengths: &[u32],
-    template: Template,
-    word: &[u8],
-    ways: &mut [u64],
-) -> u64
-    requires { ⌜ SoundTemplate template ⌝ }
-    requires { ⌜ (size template ≤ length (now word)) × (sum (now lengths) ≡ length (now letters)) × (length (now letters) ≤ length (now ways)) ⌝ }
-    requires { ⌜ sum (all-counts (aligned (components template) (now word)) (now lengths) (now letters)) < 2 ^ 64 ⌝ }
-    ensures { λ r. ⌜ r ≡ sum (all-counts (aligned (components template) (now (word .entry))) (now (lengths .entry)) (now (letters .entry))) ⌝ }
-{
-    let mut total: u64 = 0;
-    let mut begin: usize = 0;
-    let mut i = 0;
-    while i < lengths.len() {
-        let n = lengths[i] as usize;
-        let end = begin + n;
-        let found = count(&letters[begin..end], template, word, &mut ways[..n]);
-        total += found;
-        begin = end;
-        i += 1;
-    }
-    total
-}
-
-// The weighted support of a motif: how many occurrences it has in all sequences.
-pub fn weight(
-    letters: &[u8],
-    lengths: &[u32],
-    template: Template,
-    motif: u64,
-    ways: &mut [u64],
-) -> u64
-    requires { ⌜ SoundSet (now letters) (now lengths) ⌝ }
-    requires { ⌜ SoundTemplate template ⌝ }
-    requires { ⌜ length (now letters) ≤ length (now ways) ⌝ }
-    ensures { λ r. ⌜ r ≡ weight (parts template (size template) motif) (sequences (now (letters .entry)) (now (lengths .entry))) ⌝ }
-    ensures { λ _. ⌜ length (now (ways .exit)) ≡ length (now (ways .entry)) ⌝ }
-{
-    let mut word = [0u8; Template::LETTERS as usize];
-    Letter::spell(motif, &mut word);
-    count_all(letters, lengths, template, &word, ways)
 }

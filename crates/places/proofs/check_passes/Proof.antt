@@ -16,9 +16,35 @@ same-length c = search needs
 same-length-2 : tie.Need-same-length-2
 same-length-2 c = search needs
 
+same-length-3 : tie.Need-same-length-3
+same-length-3 c = search needs
+
+same-length-4 : tie.Need-same-length-4
+same-length-4 c = search needs
+
+same-length-5 : tie.Need-same-length-5
+same-length-5 c = search needs
+
+same-length-6 : tie.Need-same-length-6
+same-length-6 c = search needs
+
+same-length-7 : tie.Need-same-length-7
+same-length-7 c = search needs
+
 returns : tie.Need-returns
-returns c = let p = c .before .before .before .before .before .passes in (told-13 _ _ _ (p .ensures .0) (c .refuse-if .ensures), p .ensures .1)
+returns c = let p = c .before .before .before .before .before .before .before .before .before .before .before .before .before .before .before .passes .ensures in (told-13 _ _ _ (p .0) (c .refuse-if .ensures), p .1)
 
 pub check-passes-spec : {M : Type 1} → statement M
 check-passes-spec =
-    tie.close (tie.spec passes-requires refuse-if-requires same-length same-length-2 returns)
+    tie.close
+    (tie.spec
+    passes-requires
+    refuse-if-requires
+    same-length
+    same-length-2
+    same-length-3
+    same-length-4
+    same-length-5
+    same-length-6
+    same-length-7
+    returns)

@@ -1,21 +1,33 @@
--- Whether a search passes through its place: by its letters, as `Through` has it.
-use mathlib.Core.Path.{refl, _∙_}
+-- Whether a search passes through its place: by its letters, as `Through` has it. The path to a place with letters is made on the way.
+use mathlib.Core.Path.{_∙_}
 use native.Mathlib.Omega.{arith}
 use borrow.Author.Needs.{needs}
-use Rattle.places.proofs.Through.{passes-none, passes-some, rule-deep}
+use Rattle.places.proofs.Through.{passes-none, passes-by, rule-deep, rule-below}
 use Rattle.places.proofs.passes.Statement.{statement}
 use Rattle.places.proofs.passes.Tie as tie
 
 returns : tie.Need-returns
-returns c = (passes-none _ _ _ (c .if1 .taken), (refl, refl))
+returns c = (passes-none _ _ _ (c .if1 .taken), (c .before .before .before .before .before .before .before .before .before .before .before .pre .1 .1 .1, λ h. absurd (omega (arith, c .if1 .taken))))
 
-sub-frequent : tie.Need-sub-frequent
-sub-frequent c = omega arith
+make-requires : tie.Need-make-requires
+make-requires c κs =
+    let b = c .before .before .before .before .before .before .before .before .before .before .before .before .before .before .before .before .before in
+    let p = b .pre in
+    let t = p .1 .1 .1 in
+    (p .1 .0, (p .0, (omega (arith, t .inside-long, p .1 .0 .deep), omega (arith, t .firsts-long, p .0 .few), omega (arith, t .offsets-long, p .0 .few), omega (arith, t .standing-long), omega (arith, t .rows-long))))
+
+replay-requires : tie.Need-replay-requires
+replay-requires c κs =
+    let b = c .before .before .before .before .before .before .before .before .before .before .before .before .before .before .before .before .before .before .before .before .before .before .before .before .before .before .before .before .before .before .before .before .before .before in
+    let p = b .pre in
+    let t = p .1 .1 .1 in
+    let a = b .args .s in
+    let m = c .before .before .before .before .before .before .before .before .before .before .before .before .before .before .before .before .make .ensures in
+    let deep = rule-deep (a .template) (a .place) (p .1 .1 .0) in
+    (p .1 .0, (p .0, ((omega (arith, c .before .before .before .before .before .before .before .before .before .before .before .before .before .before .before .before .before .before .before .before .before .before .before .if1 .left), deep, rule-below (a .template) (a .place) (p .1 .1 .0)), (m .0, (m .1 .1 .0, (omega (arith, deep, m .1 .1 .1 .4, t .rows-long, p .1 .0 .deep), t .work-long, t .spare-long))))))
 
 frequent-requires : tie.Need-frequent-requires
-frequent-requires c κs =
-    let s = c .before .before .before .before .before .before .before .before .before in
-    (s .pre .0, (s .pre .1 .0, (omega (arith, rule-deep (s .args .s .template) (s .args .s .place) (s .pre .1 .1 .0)), s .pre .1 .1 .1)))
+frequent-requires c κs = search needs
 
 same-length : tie.Need-same-length
 same-length c = search needs
@@ -23,10 +35,57 @@ same-length c = search needs
 same-length-2 : tie.Need-same-length-2
 same-length-2 c = search needs
 
+same-length-3 : tie.Need-same-length-3
+same-length-3 c = search needs
+
+same-length-4 : tie.Need-same-length-4
+same-length-4 c = search needs
+
+same-length-5 : tie.Need-same-length-5
+same-length-5 c = search needs
+
+same-length-6 : tie.Need-same-length-6
+same-length-6 c = search needs
+
+same-length-7 : tie.Need-same-length-7
+same-length-7 c = search needs
+
 returns-2 : tie.Need-returns-2
 returns-2 c =
-    let f = c .before .before .before .before .frequent in
-    (f .ensures .0 ∙ passes-some _ _ _ (omega arith), f .ensures .1)
+    let b = c .before .before .before .before .before .before .before .before .before .before .before .before .before .before .before .before .before .before .before .before .before .before .before .before .before .before .before .before .before .before .before .before .before .before .before .before .before .before .before .before .before .before in
+    let p = b .pre in
+    let t = p .1 .1 .1 in
+    let m = c .before .before .before .before .before .before .before .before .before .before .before .before .before .before .before .before .before .before .before .before .before .before .before .before .make .ensures in
+    let r = c .before .before .before .before .before .before .before .replay .ensures in
+    let n = m .1 .1 .1 in (
+      passes-by (b .args .letters .now) (b .args .lengths .now) (b .args .s) (omega (arith, c .before .before .before .before .before .before .before .before .before .before .before .before .before .before .before .before .before .before .before .before .before .before .before .before .before .before .before .before .before .before .before .if1 .left)) (r .0) (c .frequent .ensures),
+      (
+        record {
+          inside-long = n .0 ∙ t .inside-long;
+          firsts-long = n .1 ∙ t .firsts-long;
+          offsets-long = n .2 ∙ t .offsets-long;
+          standing-long = n .3 ∙ t .standing-long;
+          rows-long = r .1 .1 .0 ∙ n .4 ∙ t .rows-long;
+          work-long = r .1 .1 .1 ∙ t .work-long;
+          spare-long = r .1 .1 .2 ∙ t .spare-long;
+        },
+        λ h. record { ready = m .0; laid = m .1 .0; path = r .1 .0 },
+      ),
+    )
 
 pub passes-spec : {M : Type 1} → statement M
-passes-spec = tie.close (tie.spec returns sub-frequent frequent-requires same-length same-length-2 returns-2)
+passes-spec =
+    tie.close
+    (tie.spec
+    returns
+    make-requires
+    replay-requires
+    frequent-requires
+    same-length
+    same-length-2
+    same-length-3
+    same-length-4
+    same-length-5
+    same-length-6
+    same-length-7
+    returns-2)

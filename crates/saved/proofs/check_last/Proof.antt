@@ -10,8 +10,8 @@ use Rattle.saved.proofs.check_last.Tie as tie
 enum-told : tie.Need-enum-told
 enum-told c = search needs
 
-check-candidate-requires : tie.Need-check-candidate-requires
-check-candidate-requires c κs =
+check-13-requires : tie.Need-check-13-requires
+check-13-requires c κs =
     let s = c .before .before .before .before .before in
     let r : Ready (s .args .letters .now) (s .args .lengths .now) (s .args .s) =
     rw (s .pre .0) (ready (s .args .letters .now) (s .args .lengths .now) (s .args .bytes .now) (sym (s .pre .1) ∙ ap toldChecked (c .enum-told .given .1))) in
@@ -24,7 +24,7 @@ returns : tie.Need-returns
 unfolding _else_
 returns c =
     let s = c .before .before .before .before .before .before in
-    restore-last (s .args .letters .now) (s .args .lengths .now) (s .args .bytes .now) (s .pre .1) (rw (c .before .enum-told .given .1, ← s .pre .0) (c .check-candidate .ensures))
+    restore-last (s .args .letters .now) (s .args .lengths .now) (s .args .bytes .now) (s .pre .1) (rw (c .before .enum-told .given .1, ← s .pre .0) (c .check-13 .ensures))
 
 returns-2 : tie.Need-returns-2
 unfolding _else_
@@ -34,4 +34,4 @@ returns-2 c =
 
 pub check-last-spec : {M : Type 1} → statement M
 check-last-spec =
-    tie.close (tie.spec enum-told check-candidate-requires enum-known-earlier returns returns-2)
+    tie.close (tie.spec enum-told check-13-requires enum-known-earlier returns returns-2)

@@ -12,15 +12,15 @@ use borrow.Author.Needs.{needs}
 use Rattle.saved.proofs.save.Statement.{statement}
 use Rattle.saved.proofs.save.Tie as tie
 
-check-search-requires : tie.Need-check-search-requires
-check-search-requires c κs = search needs
+check-alone-requires : tie.Need-check-alone-requires
+check-alone-requires c κs = search needs
 
 -- what the checks told of the search
-told : (c : tie.After-check-search) → let a = c .before .before .before .before .args in
+told : (c : tie.After-check-alone) → let a = c .before .before .before .before .args in
     save-rule (a .letters .now) (a .lengths .now) (a .search) (a .out .now)
-    ≡ on-refusal (toldChecked (c .check-search .result)) (λ n p. record { told = refuses n p; out = a .out .now })
+    ≡ on-refusal (toldChecked (c .check-alone .result)) (λ n p. record { told = refuses n p; out = a .out .now })
     (written-unless (check17 (length (bytes (a .search))) (a .out .now)) (length (bytes (a .search))) (bytes (a .search)) (a .out .now))
-told c = save-told _ _ _ _ (c .check-search .ensures)
+told c = save-told _ _ _ _ (c .check-alone .ensures)
 
 enum-told : tie.Need-enum-told
 enum-told c = search needs
@@ -29,7 +29,7 @@ write-requires : tie.Need-write-requires
 write-requires c κs =
     let f = c .before .before .before in
     let a = f .before .before .before .before .args in
-    (search-sound (a .letters .now) (a .lengths .now) (a .search) (sym (f .check-search .ensures) ∙ ap toldChecked (c .before .enum-told .given .1))) .template
+    (search-sound (a .letters .now) (a .lengths .now) (a .search) (sym (f .check-alone .ensures) ∙ ap toldChecked (c .before .enum-told .given .1))) .template
 
 enum-known-found : tie.Need-enum-known-found
 enum-known-found c = search needs
@@ -52,7 +52,7 @@ pub save-spec : {M : Type 1} → statement M
 save-spec =
     tie.close
     (tie.spec
-    check-search-requires
+    check-alone-requires
     enum-told
     write-requires
     enum-known-found

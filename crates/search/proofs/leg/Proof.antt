@@ -1,4 +1,4 @@
--- A leg is refused where its checks refuse, and else runs, as its rule has it.
+-- A leg is refused where its checks refuse, and else runs, as its rule has it, on from the path that the checks have made.
 use mathlib.Core.Path.{sym, ap, _∙_}
 use native.Mathlib.Omega.{arith}
 use Rattle.rules.specs.Told.{toldChecked}
@@ -12,6 +12,21 @@ slice-aggregate-check-search c = search needs
 
 slice-aggregate-check-search-2 : tie.Need-slice-aggregate-check-search-2
 slice-aggregate-check-search-2 c = search needs
+
+slice-aggregate-check-search-3 : tie.Need-slice-aggregate-check-search-3
+slice-aggregate-check-search-3 c = search needs
+
+slice-aggregate-check-search-4 : tie.Need-slice-aggregate-check-search-4
+slice-aggregate-check-search-4 c = search needs
+
+slice-aggregate-check-search-5 : tie.Need-slice-aggregate-check-search-5
+slice-aggregate-check-search-5 c = search needs
+
+slice-aggregate-check-search-6 : tie.Need-slice-aggregate-check-search-6
+slice-aggregate-check-search-6 c = search needs
+
+slice-aggregate-check-search-7 : tie.Need-slice-aggregate-check-search-7
+slice-aggregate-check-search-7 c = search needs
 
 check-search-requires : tie.Need-check-search-requires
 check-search-requires c κs = search needs
@@ -31,15 +46,29 @@ slice-aggregate-run-2 c = search needs
 slice-aggregate-run-3 : tie.Need-slice-aggregate-run-3
 slice-aggregate-run-3 c = search needs
 
+slice-aggregate-run-4 : tie.Need-slice-aggregate-run-4
+slice-aggregate-run-4 c = search needs
+
+slice-aggregate-run-5 : tie.Need-slice-aggregate-run-5
+slice-aggregate-run-5 c = search needs
+
+slice-aggregate-run-6 : tie.Need-slice-aggregate-run-6
+slice-aggregate-run-6 c = search needs
+
+slice-aggregate-run-7 : tie.Need-slice-aggregate-run-7
+slice-aggregate-run-7 c = search needs
+
+slice-aggregate-run-8 : tie.Need-slice-aggregate-run-8
+slice-aggregate-run-8 c = search needs
+
 run-requires : tie.Need-run-requires
 run-requires c κs =
-    let k = c .before .before .before .before .before .before .before .before .before .before in
-    (sym (k .check-search .ensures .0) ∙ ap toldChecked (c .before .before .before .before .before .before .enum-told .given .1), (omega (arith, k .check-search .ensures .1 .0), omega (arith, k .check-search .ensures .1 .1), omega arith))
+    let k = c .before .before .before .before .before .before .before .before .before .before .before .before .before .before .before .before .before .before .before .before .check-search .ensures in
+    let e = ap toldChecked (c .before .before .before .before .before .before .before .before .before .before .before .enum-told .given .1) in
+    (sym (k .0) ∙ e, (k .1 .0, (omega arith, k .1 .1 e)))
 
 returns : tie.Need-returns
-returns c =
-    let k = c .before .before .before .before .before in
-    declined _ _ _ _ _ _ _ (sym (ap toldChecked (c .before .checked .given .1)) ∙ k .check-search .ensures .0)
+returns c = declined _ _ _ _ _ _ _ (sym (ap toldChecked (c .before .checked .given .1)) ∙ c .before .before .before .before .before .before .before .before .before .before .check-search .ensures .0)
 
 same-length : tie.Need-same-length
 same-length c = search needs
@@ -51,10 +80,7 @@ same-length-3 : tie.Need-same-length-3
 same-length-3 c = search needs
 
 returns-2 : tie.Need-returns-2
-returns-2 c =
-    let w = c .before .before .before .before .before .before .before .before .before in
-    let k = w .before .before .before .before .before .before .before .before .before .before .before in
-    accepted _ _ _ _ _ _ _ (sym (ap toldChecked (w .before .before .before .before .before .before .before .enum-told .given .1)) ∙ k .check-search .ensures .0) (w .run .ensures)
+returns-2 c = accepted _ _ _ _ _ _ _ (sym (ap toldChecked (c .before .before .before .before .before .before .before .before .before .before .before .before .before .before .before .before .before .before .before .before .before .before .enum-told .given .1)) ∙ c .before .before .before .before .before .before .before .before .before .before .before .before .before .before .before .before .before .before .before .before .before .before .before .before .before .before .before .before .before .before .before .check-search .ensures .0) (c .before .before .before .before .before .before .before .before .before .before .run .ensures)
 
 pub leg-spec : {M : Type 1} → statement M
 leg-spec =
@@ -62,12 +88,22 @@ leg-spec =
     (tie.spec
     slice-aggregate-check-search
     slice-aggregate-check-search-2
+    slice-aggregate-check-search-3
+    slice-aggregate-check-search-4
+    slice-aggregate-check-search-5
+    slice-aggregate-check-search-6
+    slice-aggregate-check-search-7
     check-search-requires
     enum-known-checked
     enum-told
     slice-aggregate-run
     slice-aggregate-run-2
     slice-aggregate-run-3
+    slice-aggregate-run-4
+    slice-aggregate-run-5
+    slice-aggregate-run-6
+    slice-aggregate-run-7
+    slice-aggregate-run-8
     run-requires
     returns
     same-length

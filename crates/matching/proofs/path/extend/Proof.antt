@@ -1,0 +1,90 @@
+-- The slot below and the letter's row give the candidate's row, and its marks its support.
+use mathlib.Core.Path.{_∙_}
+use Prim.Native.Nat.{_%_}
+use native.Mathlib.Omega.{arith}
+use Rattle.matching.specs.Path.{row-slot}
+use Rattle.rows.specs.Set.{between}
+use Rattle.matching.proofs.Extend.{below-bounded, kept-row, kept-support}
+use Rattle.matching.proofs.Slots.{enough, row-long}
+use borrow.Author.Needs.{needs}
+use Rattle.matching.proofs.path.extend.Statement.{statement}
+use Rattle.matching.proofs.path.extend.Tie as tie
+use Rattle.matching.proofs.path.extend.Reads as reads
+use Rattle.matching.proofs.path.extend.Lts as lts
+use Rattle.rows.proofs.set.count.Reads as count-reads
+use Rattle.rows.proofs.set.keep_all.Reads as keep-all-reads
+
+sub-below : tie.Need-sub-below
+sub-below c = search needs
+
+mul-b : tie.Need-mul-b
+mul-b c = search needs
+
+add-f : tie.Need-add-f
+add-f c = search needs
+
+shared-slice-read-i : tie.Need-shared-slice-read-i
+shared-slice-read-i c = search needs
+
+cast-i : tie.Need-cast-i
+cast-i c = search needs
+
+mul-keep-all : tie.Need-mul-keep-all
+mul-keep-all c = search needs
+
+sub-keep-all : tie.Need-sub-keep-all
+sub-keep-all c = search needs
+
+part-keep-all-start : tie.Need-part-keep-all-start
+part-keep-all-start c = search needs
+
+part-keep-all-end : tie.Need-part-keep-all-end
+part-keep-all-end c = search needs
+
+keep-all-requires : tie.Need-keep-all-requires
+unfolding row-slot between
+keep-all-requires c κs =
+    let b = c .before .before .before .before .before .before .before .before .before .before in
+    let a = b .args in
+    let p = b .pre in
+    let deep = p .1 .1 .0 in
+    let long = p .1 .1 .1 .1 .1 in
+    let bounded = below-bounded (a .template) (p .0) (a .letters .now) (a .lengths .now) (p .1 .0) (a .size) (a .number) (deep .0) (deep .1) _ _ _ (a .slot .now) (p .1 .1 .1 .0) (p .1 .1 .1 .1 .0) in
+    let letter = row-long (a .number % 4) (a .standing .now) (omega (arith, p .1 .1 .1 .0 .letters .long)) in
+    ((p .1 .0 .few, omega arith), (p .1 .1 .1 .0 .laid, (bounded, (omega (arith, long .0, enough (a .letters .now) (a .lengths .now) (p .1 .0)), omega (arith, long .0, letter), omega (arith, long .0, long .1)))))
+
+count-requires : tie.Need-count-requires
+count-requires c κs = search needs
+
+same-length : tie.Need-same-length
+same-length c = search needs
+
+returns : tie.Need-returns
+unfolding row-slot between
+returns c =
+    let b = c .before .before .before .before .before .before .before .before .before .before .before .before .before .before .before in
+    let a = b .args in
+    let p = b .pre in
+    let k = c .before .before .before .before .keep-all .ensures in
+    let deep = p .1 .1 .0 in
+    let long = p .1 .1 .1 .1 .1 in
+    let row = kept-row (a .template) (p .0) (a .letters .now) (a .lengths .now) (p .1 .0) (a .size) (a .number) (deep .0) (deep .1) _ _ _ (a .slot .now) (p .1 .1 .1 .0) (p .1 .1 .1 .1 .0) (long .0) _ (k .1 .0) (k .0) in
+    (kept-support (a .template) (p .0) (a .letters .now) (a .lengths .now) (p .1 .0) (a .size) (a .number) (deep .0) (deep .1) _ _ _ (a .slot .now) (p .1 .1 .1 .0) (p .1 .1 .1 .1 .0) (long .0) _ (k .1 .1 ∙ long .1) row (c .count .ensures), (row, k .1 .1))
+
+pub extend-spec : {M : Type 1} → statement M
+extend-spec =
+    tie.close
+    (tie.spec
+    sub-below
+    mul-b
+    add-f
+    shared-slice-read-i
+    cast-i
+    mul-keep-all
+    sub-keep-all
+    part-keep-all-start
+    part-keep-all-end
+    keep-all-requires
+    count-requires
+    same-length
+    returns)

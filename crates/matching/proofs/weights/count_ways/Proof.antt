@@ -1,0 +1,255 @@
+-- From component to component: the row of the prefix that ends one keeps the counts before it where the prefix stands, which are its
+-- ways; with the gap after it opened they are the counts before the next one.
+use mathlib.Core.List.{List}
+use mathlib.Core.Path.{_≡_, refl, ap, _∙_}
+use Prim.Native.Nat.{ℕ, _+_, _-_, _/_, _^_, _≤_}
+use native.Mathlib.Omega.{arith}
+use lib.ListN.{length}
+use borrow.Author.Needs.{needs}
+use Rattle.rules.specs.Profile.{base-of}
+use Rattle.rules.specs.Template as templates
+use Rattle.rules.specs.declared.Component.{Component}
+use Rattle.rows.specs.Prefix.{letters-before}
+use Rattle.rows.proofs.ByFlags.{row-bounded}
+use Rattle.matching.proofs.Led.{Led}
+use Rattle.matching.proofs.Onward.{Turn, begin-letters, begin-part, begin-long, begin-led, end-led, behind-sound, here-sound, next-letters, next-some, next-deep, next-shift, next-path, next-small, next-led}
+use Rattle.matching.proofs.Slots.{enough}
+use Rattle.matching.proofs.Steps.{prefix-long}
+use Rattle.matching.proofs.weights.count_ways.Statement.{statement}
+use Rattle.matching.proofs.weights.count_ways.Tie as tie
+
+abbrev Inv-loop : tie.InvT-loop
+Inv-loop template depth motif inside letters lengths firsts offsets standing rows spare₀ ways₀ components count n size₀ c₀ spare ways size c =
+    (1 ≤ c) × (c ≤ template .count) × (size ≡ letters-before (templates.components template) (c - 1)) × (length spare ≡ length spare₀) × (length ways ≡ length ways₀)
+    × Led template lengths letters (c - 1) (motif / base-of template ^ (depth - size)) ways
+
+abbrev μ-loop : tie.MeasureT-loop
+μ-loop template depth motif inside letters lengths firsts offsets standing rows spare₀ ways₀ components count n size₀ c₀ spare ways size c = template .count - c
+
+-- at a turn
+module _ (q : tie.In-loop Inv-loop μ-loop) where
+  abbrev start : tie.Start Inv-loop μ-loop
+  start = q .before .before .before .before .before .before .before .before .before .before .before .before .before .before .before .before .before
+
+  abbrev c : ℕ
+  c = q .before .loop .c
+
+  abbrev size : ℕ
+  size = q .before .loop .size
+
+  abbrev components : List Component
+  components = q .before .before .before .before .before .before .before .components .result
+
+  turn : Turn (start .args .template) (start .args .depth) components c size
+  turn = record {
+    sound = start .pre .0;
+    whole = start .pre .1 .1 .0 .0;
+    is = q .before .before .before .before .before .before .before .components .ensures;
+    one = q .before .loop .inv .0;
+    less = omega (arith, q .loop-test .taken);
+    far = q .before .loop .inv .2;
+  }
+
+  ways-long : length (q .before .loop .ways) ≡ length (start .args .ways .now)
+  ways-long = q .before .loop .inv .4 ∙ begin-long (start .args .letters .now) (start .args .ways .now) (start .pre .1 .1 .1 .1 .1 .1 .2) _ (q .before .before .before .before .fill .ensures)
+
+components-requires : tie.Need-components-requires Inv-loop μ-loop
+components-requires c κs = search needs
+
+cast-count : tie.Need-cast-count Inv-loop μ-loop
+cast-count c = search needs
+
+slice-relend-prefix-fill : tie.Need-slice-relend-prefix-fill Inv-loop μ-loop
+slice-relend-prefix-fill c = c .before .before .before .before .before .before .before .before .before .before .before .pre .1 .1 .1 .1 .1 .1 .2
+
+slice-aggregate-fill : tie.Need-slice-aggregate-fill Inv-loop μ-loop
+slice-aggregate-fill c =
+    let s = c .before .before .before .before .before .before .before .before .before .before .before .before in
+    begin-part (s .args .letters .now) (s .args .ways .now) (s .pre .1 .1 .1 .1 .1 .1 .2)
+
+fill-requires : tie.Need-fill-requires Inv-loop μ-loop
+fill-requires c κs = search needs
+
+loop-holds : tie.Need-loop-holds Inv-loop μ-loop
+loop-holds c =
+    let s = c .before .before .before .before .before .before .before .before .before .before .before .before .before .before .before in
+    (omega arith, s .pre .0 .some, begin-letters _, refl, refl, begin-led (s .args .letters .now) (s .args .ways .now) (s .pre .1 .1 .1 .1 .1 .1 .2) _ (c .before .before .fill .ensures) (s .args .template) (s .pre .0) _ (s .pre .1 .0) _)
+
+sub-before : tie.Need-sub-before Inv-loop μ-loop
+sub-before c = search needs
+
+mul-before : tie.Need-mul-before Inv-loop μ-loop
+mul-before c = search needs
+
+array-copy-out-before : tie.Need-array-copy-out-before Inv-loop μ-loop
+array-copy-out-before c = omega (arith, turn c .less, turn c .sound .few)
+
+mul-here : tie.Need-mul-here Inv-loop μ-loop
+mul-here c = search needs
+
+array-copy-out-here : tie.Need-array-copy-out-here Inv-loop μ-loop
+array-copy-out-here c = omega (arith, turn (c .before) .less, turn (c .before) .sound .few)
+
+cast-behind : tie.Need-cast-behind Inv-loop μ-loop
+cast-behind c = search needs
+
+cast-low : tie.Need-cast-low Inv-loop μ-loop
+cast-low c = search needs
+
+cast-high : tie.Need-cast-high Inv-loop μ-loop
+cast-high c = search needs
+
+cast-more : tie.Need-cast-more Inv-loop μ-loop
+cast-more c = omega (arith, behind-sound (turn (c .before .before .before .before .before .before)) .short)
+
+add-size : tie.Need-add-size Inv-loop μ-loop
+add-size c = omega (arith, next-deep (turn (c .before .before .before .before .before .before)), turn (c .before .before .before .before .before .before) .whole, turn (c .before .before .before .before .before .before) .sound .deep)
+
+sub-left : tie.Need-sub-left Inv-loop μ-loop
+sub-left c = next-deep (turn (c .before .before .before .before .before .before))
+
+mul-left : tie.Need-mul-left Inv-loop μ-loop
+mul-left c = omega (arith, next-shift (turn (c .before .before .before .before .before .before)))
+
+cast-prefix : tie.Need-cast-prefix Inv-loop μ-loop
+cast-prefix c = omega (arith, next-shift (turn (c .before .before .before .before .before .before)))
+
+shr-prefix : tie.Need-shr-prefix Inv-loop μ-loop
+shr-prefix c = next-shift (turn (c .before .before .before .before .before .before))
+
+support-requires : tie.Need-support-requires Inv-loop μ-loop
+support-requires c κs =
+    let q = c .before .before .before .before .before .before .before in
+    let s = start q in
+    let p = s .pre in
+    let t = turn q in
+    let o = p .1 .1 .1 .1 .1 .1 in (
+      p .0,
+      (
+        p .1 .0,
+        (
+          (next-some t, omega (arith, next-deep t, t .whole)),
+          (
+            p .1 .1 .1 .0,
+            (
+              next-path t (s .args .motif) _ _ _ (p .1 .1 .1 .1 .1 .0),
+              (omega (arith, next-deep t, o .0), omega (arith, q .before .loop .inv .3, o .1)),
+            ),
+          ),
+        ),
+      ),
+    )
+
+add-lead-all : tie.Need-add-lead-all Inv-loop μ-loop
+add-lead-all c = search needs
+
+add-lead-all-2 : tie.Need-add-lead-all-2 Inv-loop μ-loop
+add-lead-all-2 c = search needs
+
+sub-lead-all : tie.Need-sub-lead-all Inv-loop μ-loop
+sub-lead-all c = omega (arith, here-sound (turn (c .before .before .before .before .before .before .before .before .before .before .before)) .ordered)
+
+lead-all-requires : tie.Need-lead-all-requires Inv-loop μ-loop
+lead-all-requires c κs =
+    let q = c .before .before .before .before .before .before .before .before .before .before .before .before in
+    let s = start q in
+    let p = s .pre in
+    let t = turn q in
+    let b = behind-sound t in
+    let h = here-sound t in
+    let o = p .1 .1 .1 .1 .1 .1 in
+    let r = c .before .before .before .before .support .ensures in (
+      (p .1 .0 .few, omega (arith, b .some), omega (arith, b .short, h .ordered, h .near), omega (arith, h .ordered), omega (arith, h .near)),
+      (
+        p .1 .1 .1 .0 .laid,
+        (
+          p .1 .1 .1 .1 .0,
+          (
+            row-bounded _ _ (p .1 .0 .adds) (p .1 .0 .few) _ (prefix-long (s .args .template) _ _) _ (r .1 .0),
+            (
+              (
+                omega (arith, enough _ _ (p .1 .0), r .1 .1, q .before .loop .inv .3, o .1),
+                omega (arith, r .1 .1, q .before .loop .inv .3, o .1),
+                omega (arith, p .1 .0 .adds, o .2, ways-long q),
+              ),
+              next-small t _ _ (p .1 .0) (s .args .motif) _ _ (q .before .loop .inv .5) (r .1 .0),
+            ),
+          ),
+        ),
+      ),
+    )
+
+add-c : tie.Need-add-c Inv-loop μ-loop
+add-c c = omega (arith, turn (c .before .before .before .before .before .before .before .before .before .before .before .before .before .before .before) .less, turn (c .before .before .before .before .before .before .before .before .before .before .before .before .before .before .before) .sound .few)
+
+loop-less : tie.Need-loop-less Inv-loop μ-loop
+loop-less c = omega (arith, turn (c .before .before .before .before .before .before .before .before .before .before .before .before .before .before .before) .less)
+
+loop-again : tie.Need-loop-again Inv-loop μ-loop
+loop-again c =
+    let q = c .before .before .before .before .before .before .before .before .before .before .before .before .before .before .before in
+    let s = start q in
+    let p = s .pre in
+    let t = turn q in
+    let z : c .before .before .before .before .before .before .before .before .before .before .before .before .before .before .before .before .loop .c + 1 - 1 ≡ c .before .before .before .before .before .before .before .before .before .before .before .before .before .before .before .before .loop .c = omega arith in
+    let n = c .before .before .before .before .before .before .before .support .ensures in
+    let r = c .before .before .lead-all .ensures in (
+      omega arith,
+      omega (arith, t .less),
+      rw z (next-letters t),
+      n .1 .1 ∙ q .before .loop .inv .3,
+      r .1 ∙ q .before .loop .inv .4,
+      rw z (next-led t _ _ (p .1 .0) (s .args .motif) _ _ (q .before .loop .inv .5) (n .1 .0) _ (r .0)),
+    )
+
+same-length : tie.Need-same-length Inv-loop μ-loop
+same-length c = search needs
+
+same-length-2 : tie.Need-same-length-2 Inv-loop μ-loop
+same-length-2 c = search needs
+
+returns : tie.Need-returns Inv-loop μ-loop
+returns c =
+    let s = c .before .before .before .before .before .before .before .before .before .before .before .before .before .before .before .before .before in
+    let l = c .before .loop in (
+      end-led (s .args .template) (s .pre .0) _ _ (s .pre .1 .0) (s .args .motif) _ _ _ _ (s .pre .1 .1 .0 .0) (omega arith) (l .inv .2) (l .inv .5),
+      (search needs, search needs),
+    )
+
+pub count-ways-spec : {M : Type 1} → statement M
+count-ways-spec =
+    tie.close
+    (tie.spec
+    Inv-loop
+    μ-loop
+    components-requires
+    cast-count
+    slice-relend-prefix-fill
+    slice-aggregate-fill
+    fill-requires
+    loop-holds
+    sub-before
+    mul-before
+    array-copy-out-before
+    mul-here
+    array-copy-out-here
+    cast-behind
+    cast-low
+    cast-high
+    cast-more
+    add-size
+    sub-left
+    mul-left
+    cast-prefix
+    shr-prefix
+    support-requires
+    add-lead-all
+    add-lead-all-2
+    sub-lead-all
+    lead-all-requires
+    add-c
+    loop-less
+    loop-again
+    same-length
+    same-length-2
+    returns)

@@ -1,0 +1,79 @@
+-- The path of a search: for each prefix of the place that has fewer letters what the next letter is added to, its row or that row with
+-- the gap opened. They are kept from step to step in one table, a slot of as many words as a row has for each number of letters.
+use mathlib.Core.Bool.{true}
+use mathlib.Core.List.{List, map}
+use mathlib.Core.Path.{_≡_}
+use Prim.Native.Nat.{ℕ, _+_, _-_, _*_, _/_, _^_, _≤_, _<_}
+use lib.ListN.{length, getD}
+use Rattle.rules.specs.Letters.{value}
+use Rattle.rules.specs.Limits.{SequenceSet-SEQUENCES, Template-LETTERS, Letter-BASES}
+use Rattle.rules.specs.Motif.{spell}
+use Rattle.rules.specs.Profile.{profile-of, base-of}
+use Rattle.rules.specs.Support.{parts}
+use Rattle.rules.specs.Template.{none, size, components, distance}
+use Rattle.rules.specs.declared.Template.{Template}
+use Rattle.rows.specs.Flags.{reached, last-starts}
+use Rattle.rows.specs.Prefix.{At, before-letter}
+use Rattle.rows.specs.Set.{Row-WORDS, between, lettered-at, Firsts, Offsets, Filled, Source}
+
+-- slot i of a table of rows
+unfoldable pub row-slot : ℕ → List ℕ → List ℕ
+row-slot i rows = between (i * Row-WORDS) (i * Row-WORDS + Row-WORDS) rows
+
+-- BY A TEMPLATE'S PROFILE. Where the last part of the prefix of j letters with the number m can start
+abbrev pub prefix-starts : Template → ℕ → ℕ → List ℕ → List ℕ
+prefix-starts t j m = last-starts (parts t j m)
+
+-- what letter i of component k is added to after it, by G
+abbrev pub before-next : (ℕ → ℕ → List ℕ → List ℕ) → Template → ℕ → ℕ → ℕ → ℕ → List ℕ → List ℕ
+before-next G t k i j m = before-letter G (profile-of t .reading) (components t) k i (spell (base-of t) j m)
+
+-- ONE SLOT: what a letter is added to after the d letters with the number p
+pub record Slot (t : Template) (ns l slot : List ℕ) (d p : ℕ) : Type 0 where
+  pub held : (k o : ℕ) → At (components t) d k o → Source (before-next reached t k o d p) ns l slot
+
+-- THE PATH to the candidate of j letters with the number m: in slot i what a letter is added to after the first i of them
+pub record Path (t : Template) (ns l rows : List ℕ) (j m : ℕ) : Type 0 where
+  pub held-at : (i k o : ℕ) → i < j → At (components t) i k o → Source (before-next reached t k o i (m / base-of t ^ (j - i))) ns l (row-slot i rows)
+
+-- WHAT IT IS MADE WITH, once in a leg. For each letter of a motif which component it belongs to, and its place there, in one number
+abbrev pub inside-code : ℕ → ℕ → ℕ
+inside-code k i = k * 16 + i
+
+pub record Inside (t : Template) (inside : List ℕ) : Type 0 where
+  pub long : size t ≤ length inside
+  pub same : (d k i : ℕ) → At (components t) d k i → getD inside d 0 ≡ inside-code k i
+
+-- the letters' rows, a slot for each letter
+pub record Letters (t : Template) (ns l standing : List ℕ) : Type 0 where
+  pub long : Letter-BASES * Row-WORDS ≤ length standing
+  pub rows : (x : ℕ) → x < base-of t → Filled (λ _. true) (lettered-at (profile-of t .reading .fits) x ns (map value l)) ns (row-slot x standing) (length ns)
+
+-- all of it
+pub record Ready (t : Template) (ns l inside firsts standing : List ℕ) : Type 0 where
+  pub placed : Inside t inside
+  pub laid : Firsts ns firsts
+  pub letters : Letters t ns l standing
+
+-- how far a component's start may lie from that of the one before it, at least and at most
+abbrev pub gap-near : Template → ℕ → ℕ
+gap-near t k = distance ((getD (components t) (k - 1) none) .length) ((getD (components t) k none) .low)
+
+abbrev pub gap-far : Template → ℕ → ℕ
+gap-far t k = distance ((getD (components t) (k - 1) none) .length) ((getD (components t) k none) .high)
+
+-- THE TABLES that are lent for it, each made once
+pub record Tables (inside firsts offsets standing rows work spare : List ℕ) : Type 0 where
+  pub inside-long : length inside ≡ Template-LETTERS
+  pub firsts-long : length firsts ≡ SequenceSet-SEQUENCES + 1
+  pub offsets-long : length offsets ≡ SequenceSet-SEQUENCES + 1
+  pub standing-long : length standing ≡ Letter-BASES * Row-WORDS
+  pub rows-long : length rows ≡ Template-LETTERS * Row-WORDS
+  pub work-long : length work ≡ Row-WORDS
+  pub spare-long : length spare ≡ Row-WORDS
+
+-- and what they hold for the candidate of j letters with the number m
+pub record Made (t : Template) (ns l inside firsts offsets standing rows : List ℕ) (j m : ℕ) : Type 0 where
+  pub ready : Ready t ns l inside firsts standing
+  pub laid : Offsets ns offsets
+  pub path : Path t ns l rows j m

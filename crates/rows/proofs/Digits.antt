@@ -1,0 +1,109 @@
+-- A binary digit of a number, and of what the bit operations and the shifts make.
+use mathlib.Core.Path.{_≡_, sym, ap, _∙_}
+use Prim.Native.Nat.{ℕ, suc, _+_, _-_, _*_, _/_, _%_, _^_, _≤_, _<_, min, max}
+use native.Mathlib.Nat.{max-zero, zero-max, div-eq-of-lt, mul-assoc}
+use native.Mathlib.Decide.{decLt}
+use native.Mathlib.Omega.{arith}
+use lib.Bits.{bitAnd, bitOr, and-step, or-step, and-shr, or-shr, shifted-even}
+use lib.Pow.{pow-mono, pow-add, shl-shr, shr-shr, field, mod-mod-pow}
+use Rattle.rows.specs.Words.{down, up}
+
+-- digit b of a number
+unfoldable pub digit : ℕ → ℕ → ℕ
+digit w b = w / 2 ^ b % 2
+
+pub digit-and : (a b k : ℕ) → digit (bitAnd a b) k ≡ min (digit a k) (digit b k)
+unfolding digit
+digit-and a b k = rw (and-shr a b k) (omega (arith, and-step (a / 2 ^ k) (b / 2 ^ k)))
+
+pub digit-or : (a b k : ℕ) → digit (bitOr a b) k ≡ max (digit a k) (digit b k)
+unfolding digit
+digit-or a b k = rw (or-shr a b k) (omega (arith, or-step (a / 2 ^ k) (b / 2 ^ k)))
+
+pub digit-shr : (a i k : ℕ) → digit (a / 2 ^ i) k ≡ digit a (i + k)
+unfolding digit
+digit-shr a i k = rw (shr-shr a i k)
+
+-- a number of n digits has no digit n, nor one further up
+pub digit-past : (n a k : ℕ) → a < 2 ^ n → n ≤ k → digit a k ≡ 0
+unfolding digit
+digit-past n a k h l =
+    let p : 2 ^ n ≤ 2 ^ k = pow-mono l in
+    let z : a / 2 ^ k ≡ 0 = div-eq-of-lt (omega arith) in
+    rw z
+
+-- a digit below w is one of the w lowest
+pub digit-mod : (w n k : ℕ) → k < w → digit (n % 2 ^ w) k ≡ digit n k
+unfolding digit
+digit-mod w n k h =
+    let j = w - suc k in
+    let e : w ≡ suc j + k = omega arith in
+    let s : suc j ≡ j + 1 = omega arith in
+    rw (e, field n (suc j) k, s) (mod-mod-pow (n / 2 ^ k) j 1)
+
+pub digit-shl-in : (a i k : ℕ) → i ≤ k → digit (a * 2 ^ i) k ≡ digit a (k - i)
+unfolding digit
+digit-shl-in a i k h =
+    let e : k ≡ i + (k - i) = omega arith in
+    ap (λ (x : ℕ). a * 2 ^ i / 2 ^ x % 2) e ∙ rw (← (shr-shr (a * 2 ^ i) i (k - i)), shl-shr a i)
+
+pub digit-shl-out : (a i k : ℕ) → k < i → digit (a * 2 ^ i) k ≡ 0
+unfolding digit
+digit-shl-out a i k h =
+    let j = i - suc k in
+    let e : 2 ^ i ≡ 2 ^ suc j * 2 ^ k = ap (λ (x : ℕ). 2 ^ x) (omega arith) ∙ pow-add 2 (suc j) k in
+    let m : a * (2 ^ suc j * 2 ^ k) ≡ a * 2 ^ suc j * 2 ^ k = sym (mul-assoc a (2 ^ suc j) (2 ^ k)) in
+    rw (e, m, shl-shr (a * 2 ^ suc j) k) (shifted-even a j)
+
+-- the bits of two words, the lower shifted down by i
+module _ (i low high b : ℕ) (small : i < 64) (inside : b < 64) where
+  from-high : ℕ
+  from-high = ((high * 2) % 2 ^ 64 * 2 ^ (63 - i)) % 2 ^ 64
+
+  from-high-out : b + i < 64 → digit from-high b ≡ 0
+  unfolding from-high
+  from-high-out h =
+      digit-mod 64 ((high * 2) % 2 ^ 64 * 2 ^ (63 - i)) b inside
+      ∙ elim (decLt b (63 - i)) [
+        | yes l ↦ digit-shl-out ((high * 2) % 2 ^ 64) (63 - i) b l
+        | no n ↦ (let e : b - (63 - i) ≡ 0 = omega arith in
+            digit-shl-in ((high * 2) % 2 ^ 64) (63 - i) b (omega arith) ∙ ap (digit ((high * 2) % 2 ^ 64)) e ∙ digit-mod 64 (high * 2) 0 (omega arith) ∙ digit-shl-out high 1 0 (omega arith))
+      ]
+
+  from-high-in : 64 ≤ b + i → digit from-high b ≡ digit high (b + i - 64)
+  unfolding from-high
+  from-high-in h =
+      let e : b - (63 - i) - 1 ≡ b + i - 64 = omega arith in
+      digit-mod 64 ((high * 2) % 2 ^ 64 * 2 ^ (63 - i)) b inside
+      ∙ digit-shl-in ((high * 2) % 2 ^ 64) (63 - i) b (omega arith)
+      ∙ digit-mod 64 (high * 2) (b - (63 - i)) (omega arith)
+      ∙ digit-shl-in high 1 (b - (63 - i)) (omega arith)
+      ∙ ap (digit high) e
+
+  pub down-low : b + i < 64 → digit (down i low high) b ≡ digit low (b + i)
+  unfolding down from-high
+  down-low h =
+      let e : i + b ≡ b + i = omega arith in
+      digit-or (low / 2 ^ i) from-high b ∙ rw (from-high-out h, max-zero, digit-shr low i b, e)
+
+  pub down-high : low < 2 ^ 64 → 64 ≤ b + i → digit (down i low high) b ≡ digit high (b + i - 64)
+  unfolding down from-high
+  down-high l h =
+      digit-or (low / 2 ^ i) from-high b ∙ rw (from-high-in h, digit-shr low i b, digit-past 64 low (i + b) l (omega arith), zero-max)
+
+-- and the upper shifted up by i
+module _ (i low high b : ℕ) (small : i < 64) (inside : b < 64) where
+  from-low : digit (low / 2 / 2 ^ (63 - i)) b ≡ digit low (64 - i + b)
+  from-low = let e : 1 + (63 - i + b) ≡ 64 - i + b = omega arith in digit-shr (low / 2) (63 - i) b ∙ digit-shr low 1 (63 - i + b) ∙ ap (digit low) e
+
+  pub up-high : low < 2 ^ 64 → i ≤ b → digit (up i low high) b ≡ digit high (b - i)
+  unfolding up
+  up-high l h =
+      digit-or ((high * 2 ^ i) % 2 ^ 64) (low / 2 / 2 ^ (63 - i)) b
+      ∙ rw (from-low, digit-past 64 low (64 - i + b) l (omega arith), max-zero, digit-mod 64 (high * 2 ^ i) b inside, digit-shl-in high i b h)
+
+  pub up-low : b < i → digit (up i low high) b ≡ digit low (64 - i + b)
+  unfolding up
+  up-low h =
+      digit-or ((high * 2 ^ i) % 2 ^ 64) (low / 2 / 2 ^ (63 - i)) b
+      ∙ rw (from-low, digit-mod 64 (high * 2 ^ i) b inside, digit-shl-out high i b h, zero-max)

@@ -1,0 +1,143 @@
+-- Each turn writes the words of one sequence, past those of all before it.
+use borrow.Author.Needs.{needs}
+use mathlib.Core.Bool.{true}
+use mathlib.Core.Path.{_≡_, refl, _∙_}
+use Prim.Native.Nat.{_+_, _-_, _≤_, _<_}
+use native.Mathlib.Omega.{arith}
+use lib.Dec.{eqb}
+use lib.ListN.{length}
+use Rattle.rows.specs.Set.{lettered-at, Filled}
+use Rattle.rows.proofs.Sets.{filled-none, filled-end, filled-turn, turn-lies}
+use Rattle.rows.proofs.Offsets.{turn-letters, lettered-turn}
+use Rattle.rows.proofs.set.letter_row.Statement.{statement}
+use Rattle.rows.proofs.set.letter_row.Tie as tie
+
+abbrev Inv-loop : tie.InvT-loop
+Inv-loop letter letters lengths firsts offsets out₀ k₀ out k =
+    (k ≤ length lengths)
+    × (length out ≡ length out₀)
+    × (Filled (λ _. true) (lettered-at eqb letter lengths letters) lengths out k)
+
+abbrev μ-loop : tie.MeasureT-loop
+μ-loop letter letters lengths firsts offsets out₀ k₀ out k = length lengths - k
+
+loop-holds : tie.Need-loop-holds Inv-loop μ-loop
+loop-holds c = (search needs, refl, filled-none _ _ _ _ _ refl)
+
+mul-a : tie.Need-mul-a Inv-loop μ-loop
+mul-a c = search needs
+
+shared-slice-read-a : tie.Need-shared-slice-read-a Inv-loop μ-loop
+shared-slice-read-a c =
+    let s = c .before .before .before .before .before .before .before .before in
+    omega (arith, c .before .loop-test .taken, s .pre .1 .1 .0 .long)
+
+cast-a : tie.Need-cast-a Inv-loop μ-loop
+cast-a c = omega (arith, c .shared-slice-known5 .given (c .before .before .loop .k) .fits)
+
+add-e : tie.Need-add-e Inv-loop μ-loop
+add-e c = search needs
+
+mul-e : tie.Need-mul-e Inv-loop μ-loop
+mul-e c = search needs
+
+shared-slice-read-e : tie.Need-shared-slice-read-e Inv-loop μ-loop
+shared-slice-read-e c =
+    let s = c .before .before .before .before .before .before .before .before .before in
+    omega (arith, c .before .before .loop-test .taken, s .pre .1 .1 .0 .long)
+
+cast-e : tie.Need-cast-e Inv-loop μ-loop
+cast-e c = omega (arith, c .shared-slice-known6 .given (c .before .before .before .loop .k + 1) .fits)
+
+mul-from : tie.Need-mul-from Inv-loop μ-loop
+mul-from c = search needs
+
+shared-slice-read-from : tie.Need-shared-slice-read-from Inv-loop μ-loop
+shared-slice-read-from c =
+    let s = c .before .before .before .before .before .before .before .before .before .before in
+    omega (arith, c .before .before .before .loop-test .taken, s .pre .1 .0 .long)
+
+cast-from : tie.Need-cast-from Inv-loop μ-loop
+cast-from c = omega (arith, c .shared-slice-known7 .given (c .before .before .before .before .loop .k) .fits)
+
+add-to : tie.Need-add-to Inv-loop μ-loop
+add-to c = search needs
+
+mul-to : tie.Need-mul-to Inv-loop μ-loop
+mul-to c = search needs
+
+shared-slice-read-to : tie.Need-shared-slice-read-to Inv-loop μ-loop
+shared-slice-read-to c =
+    let s = c .before .before .before .before .before .before .before .before .before .before .before in
+    omega (arith, c .before .before .before .before .loop-test .taken, s .pre .1 .0 .long)
+
+cast-to : tie.Need-cast-to Inv-loop μ-loop
+cast-to c = omega (arith, c .shared-slice-known8 .given (c .before .before .before .before .before .loop .k + 1) .fits)
+
+letters-between-requires : tie.Need-letters-between-requires Inv-loop μ-loop
+letters-between-requires c κs =
+    let s = c .before .before .before .before .before .before .before .before .before .before .before .before in
+    let l = c .before .before .before .before .before .before .loop in
+    let h : l .k < length (s .args .lengths .now) = c .before .before .before .before .before .loop-test .taken in
+    let a = s .pre .1 .1 .0 .same (l .k) (omega arith) in
+    let e = s .pre .1 .1 .0 .same (l .k + 1) (omega arith) in
+    let f = s .pre .1 .0 .same (l .k) (omega arith) in
+    let t = s .pre .1 .0 .same (l .k + 1) (omega arith) in
+    let m = turn-letters _ _ h a e f t in
+    let w = turn-lies _ _ h f t in
+    (m .0, omega (arith, m .1, s .pre .0), w .0, omega (arith, w .1, s .pre .1 .1 .1, l .inv .1), m .2, m .3)
+
+add-k : tie.Need-add-k Inv-loop μ-loop
+add-k c = search needs
+
+loop-less : tie.Need-loop-less Inv-loop μ-loop
+loop-less c = search needs
+
+loop-again : tie.Need-loop-again Inv-loop μ-loop
+loop-again c =
+    let s = c .before .before .before .before .before .before .before .before .before .before .before .before .before .before .before in
+    let l = c .before .before .before .before .before .before .before .before .before .loop in
+    let h : l .k < length (s .args .lengths .now) = c .before .before .before .before .before .before .before .before .loop-test .taken in
+    let a = s .pre .1 .1 .0 .same (l .k) (omega arith) in
+    let e = s .pre .1 .1 .0 .same (l .k + 1) (omega arith) in
+    let f = s .pre .1 .0 .same (l .k) (omega arith) in
+    let t = s .pre .1 .0 .same (l .k + 1) (omega arith) in
+    let o = c .before .before .letters-between .ensures in (
+      search needs,
+      o .0 .1 ∙ l .inv .1,
+      filled-turn _ _ _ (l .out) _ _ h (l .inv .2) f t (o .0 .0) (λ _. lettered-turn _ _ h a e f t eqb (s .args .letter) (s .args .letters .now) (o .1)),
+    )
+
+same-length : tie.Need-same-length Inv-loop μ-loop
+same-length c = search needs
+
+returns : tie.Need-returns Inv-loop μ-loop
+returns c = let l = c .before .loop in (filled-end _ _ _ _ _ _ (search needs) (l .inv .2), l .inv .1)
+
+pub letter-row-spec : {M : Type 1} → statement M
+letter-row-spec =
+    tie.close
+    (tie.spec
+    Inv-loop
+    μ-loop
+    loop-holds
+    mul-a
+    shared-slice-read-a
+    cast-a
+    add-e
+    mul-e
+    shared-slice-read-e
+    cast-e
+    mul-from
+    shared-slice-read-from
+    cast-from
+    add-to
+    mul-to
+    shared-slice-read-to
+    cast-to
+    letters-between-requires
+    add-k
+    loop-less
+    loop-again
+    same-length
+    returns)

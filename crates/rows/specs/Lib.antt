@@ -1,0 +1,7 @@
+-- What the contracts of this crate say, beside the definitions of `rules`.
+pub mod Flags
+pub mod Prefix
+pub mod Bits
+pub mod Words
+pub mod Rows
+pub mod Set

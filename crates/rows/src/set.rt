@@ -1,0 +1,248 @@
+// Rows over the whole set: the marks, and each sequence's words. Only sequences that have a mark are looked at.
+use super::BITS;
+use super::MARKS;
+use super::words;
+use rules::Offset;
+ghost use mathlib.Core.Bool.{true};
+ghost use mathlib.Core.Path.{_≡_};
+ghost use Prim.Native.Nat.{ℕ, _+_, _-_, _*_, _^_, _≤_, _<_, min};
+ghost use mathlib.Core.List.{[], _∷_};
+ghost use lib.Dec.{eqb, ltb};
+ghost use lib.ListN.{length, take, getD};
+ghost use Rattle.rules.specs.Limits.{SequenceSet-SEQUENCES, SequenceSet-LETTERS};
+ghost use Rattle.rules.specs.Lists as lists;
+ghost use Rattle.rows.specs.Bits.{held};
+ghost use Rattle.rows.specs.Flags.{left?};
+ghost use Rattle.rows.specs.Rows.{extended, lettered};
+ghost use Rattle.rows.specs.Set.{Row-MARKS, words-of, first-word, Firsts, Offsets, between, bits-at, marked?, extended-at, extended-marked?, lettered-at, Filled, Marked, Bounded};
+
+// A word with every bit set.
+const ALL: u64 = 0xFFFF_FFFF_FFFF_FFFF;
+
+// The words of a sequence of `n` letters.
+fn words_of(n: u32) -> u32
+    requires { ⌜ n ≤ SequenceSet-LETTERS ⌝ }
+    ensures { λ r. ⌜ r ≡ words-of n ⌝ }
+{
+    (n + 63) / 64
+}
+
+// Writes where each sequence's words begin in a row, and where its letters do in the buffer.
+pub fn lay_out(lengths: &[u32], firsts: &mut [u32], offsets: &mut [u32])
+    requires { ⌜ (length (now lengths) ≤ SequenceSet-SEQUENCES) × (lists.sum (now lengths) ≤ SequenceSet-LETTERS) ⌝ }
+    requires { ⌜ (length (now lengths) < length (now firsts)) × (length (now lengths) < length (now offsets)) ⌝ }
+    ensures { λ _. ⌜ Firsts (now (lengths .entry)) (now (firsts .exit)) ⌝ }
+    ensures { λ _. ⌜ Offsets (now (lengths .entry)) (now (offsets .exit)) ⌝ }
+    ensures { λ _. ⌜ (length (now (firsts .exit)) ≡ length (now (firsts .entry))) × (length (now (offsets .exit)) ≡ length (now (offsets .entry))) ⌝ }
+{
+    let mut first = MARKS as u32;
+    let mut offset: u32 = 0;
+    firsts[0] = first;
+    offsets[0] = 0;
+    let mut k = 0;
+    while k < lengths.len() {
+        let n = lengths[k];
+        first = first + words_of(n);
+        offset = offset + n;
+        k += 1;
+        firsts[k] = first;
+        offsets[k] = offset;
+    }
+}
+
+// Marks the first `n` sequences of a row that has no marks.
+fn mark_first(n: usize, row: &mut [u64])
+    requires { ⌜ (n ≤ SequenceSet-SEQUENCES) × (Row-MARKS ≤ length (now row)) ⌝ }
+    requires { ⌜ ((k : ℕ) → k < SequenceSet-SEQUENCES → getD (held (now row)) k 0 ≡ 0) ⌝ }
+    ensures { λ _. ⌜ Marked (λ k. ltb k n) (now (row .exit)) SequenceSet-SEQUENCES ⌝ }
+    ensures { λ _. ⌜ (length (now (row .exit)) ≡ length (now (row .entry))) × ((q : ℕ) → Row-MARKS ≤ q → getD (now (row .exit)) q 0 ≡ getD (now (row .entry)) q 0) ⌝ }
+{
+    let mut k = 0;
+    while k < n {
+        let q = k / BITS;
+        let b = k % BITS;
+        row[q] = row[q] | (1 << b);
+        k += 1;
+    }
+}
+
+// The row that a first letter is added to: the `n` sequences all have a mark, and every bit is set.
+pub fn begin(n: usize, row: &mut [u64])
+    requires { ⌜ (n ≤ SequenceSet-SEQUENCES) × (Row-MARKS ≤ length (now row)) ⌝ }
+    ensures { λ _. ⌜ Marked (λ k. ltb k n) (now (row .exit)) SequenceSet-SEQUENCES ⌝ }
+    ensures { λ _. ⌜ (length (now (row .exit)) ≡ length (now (row .entry))) × ((q : ℕ) → Row-MARKS ≤ q → q < length (now (row .entry)) → getD (now (row .exit)) q 0 ≡ 2 ^ 64 - 1) ⌝ }
+{
+    words::fill(row, ALL);
+    words::fill(&mut row[..MARKS], 0);
+    mark_first(n, row);
+}
+
+// The letter's row in one sequence: its letters from `a` up to `e`, its words from `from` up to `to`.
+fn letters_between(
+    letter: u8,
+    letters: &[u8],
+    a: Offset,
+    e: Offset,
+    from: usize,
+    to: usize,
+    out: &mut [u64],
+)
+    requires { ⌜ (a .0 ≤ e .0) × (e .0 ≤ length (now letters)) × (from ≤ to) × (to ≤ length (now out)) × (e .0 - a .0 ≤ 64 * (to - from)) × (64 * (to - from) ≤ e .0 - a .0 + 63) ⌝ }
+    ensures { λ _. ⌜ (take from (now (out .exit)) ≡ take from (now (out .entry))) × (length (now (out .exit)) ≡ length (now (out .entry))) ⌝ }
+    ensures { λ _. ⌜ held (between from to (now (out .exit))) ≡ lettered eqb letter (between (a .0) (e .0) (now (letters .entry))) (64 * (to - from)) ⌝ }
+{
+    let begin = a.0;
+    let end = e.0;
+    words::set_letters(letter, &letters[begin..end], &mut out[from..to]);
+}
+
+// The row of a letter, given as a byte: the bits at which it stands, in every sequence. It has no marks of its own, and what is in
+// their place stays.
+pub fn letter_row(
+    letter: u8,
+    letters: &[u8],
+    lengths: &[u32],
+    firsts: &[u32],
+    offsets: &[u32],
+    out: &mut [u64],
+)
+    requires { ⌜ lists.sum (now lengths) ≡ length (now letters) ⌝ }
+    requires { ⌜ Firsts (now lengths) (now firsts) ⌝ }
+    requires { ⌜ Offsets (now lengths) (now offsets) ⌝ }
+    requires { ⌜ first-word (now lengths) (length (now lengths)) ≤ length (now out) ⌝ }
+    ensures { λ _. ⌜ Filled (λ _. true) (lettered-at eqb letter (now (lengths .entry)) (now (letters .entry))) (now (lengths .entry)) (now (out .exit)) (length (now (lengths .entry))) ⌝ }
+    ensures { λ _. ⌜ length (now (out .exit)) ≡ length (now (out .entry)) ⌝ }
+{
+    let mut k = 0;
+    while k < lengths.len() {
+        let a = offsets[k] as usize;
+        let e = offsets[k + 1] as usize;
+        let from = firsts[k] as usize;
+        let to = firsts[k + 1] as usize;
+        letters_between(letter, letters, Offset(a), Offset(e), from, to, out);
+        k += 1;
+    }
+}
+
+// One letter more in the words from `from` up to `to`.
+fn keep_between(
+    from: usize,
+    to: usize,
+    row: &[u64],
+    letter: &[u64],
+    i: usize,
+    out: &mut [u64],
+) -> bool
+    requires { ⌜ (from ≤ to) × (to ≤ length (now row)) × (to ≤ length (now letter)) × (to ≤ length (now out)) × (i < 64) ⌝ }
+    ensures { λ _. ⌜ (take from (now (out .exit)) ≡ take from (now (out .entry))) × (length (now (out .exit)) ≡ length (now (out .entry))) ⌝ }
+    ensures { λ _. ⌜ held (between from to (now (out .exit))) ≡ extended i (held (between from to (now (letter .entry)))) (held (between from to (now (row .entry)))) ⌝ }
+    ensures { λ r. ⌜ r ≡ left? (extended i (held (between from to (now (letter .entry)))) (held (between from to (now (row .entry))))) ⌝ }
+{
+    words::keep_letter(&row[from..to], &letter[from..to], i, &mut out[from..to])
+}
+
+// The same in the words of a sequence, one of which is looked at apart: most sets have short sequences.
+fn keep_sequence(
+    from: usize,
+    to: usize,
+    row: &[u64],
+    letter: &[u64],
+    i: usize,
+    out: &mut [u64],
+) -> bool
+    requires { ⌜ (from ≤ to) × (to ≤ length (now row)) × (to ≤ length (now letter)) × (to ≤ length (now out)) × (i < 64) ⌝ }
+    ensures { λ _. ⌜ (take from (now (out .exit)) ≡ take from (now (out .entry))) × (length (now (out .exit)) ≡ length (now (out .entry))) ⌝ }
+    ensures { λ _. ⌜ held (between from to (now (out .exit))) ≡ extended i (held (between from to (now (letter .entry)))) (held (between from to (now (row .entry)))) ⌝ }
+    ensures { λ r. ⌜ r ≡ left? (extended i (held (between from to (now (letter .entry)))) (held (between from to (now (row .entry))))) ⌝ }
+{
+    if to - from == 1 {
+        let word = row[from] & words::down(i, letter[from], 0);
+        out[from] = word;
+        return words::marked(word);
+    }
+    keep_between(from, to, row, letter, i, out)
+}
+
+// One letter more in the sequences of one word of marks, those that have one. It answers their new marks.
+fn keep_sequences(
+    w: usize,
+    lengths: &[u32],
+    firsts: &[u32],
+    row: &[u64],
+    letter: &[u64],
+    i: usize,
+    out: &mut [u64],
+) -> u64
+    requires { ⌜ (w < Row-MARKS) × (length (now lengths) ≤ SequenceSet-SEQUENCES) × (i < 64) ⌝ }
+    requires { ⌜ Firsts (now lengths) (now firsts) ⌝ }
+    requires { ⌜ Bounded (now lengths) (now row) ⌝ }
+    requires { ⌜ (first-word (now lengths) (length (now lengths)) ≤ length (now row)) × (length (now letter) ≡ length (now row)) × (length (now out) ≡ length (now row)) ⌝ }
+    ensures { λ r. ⌜ ((b : ℕ) → b < 64 → eqb (getD (held (r ∷ [])) b 0) 1 ≡ extended-marked? i (now (lengths .entry)) (now (letter .entry)) (now (row .entry)) (w * 64 + b)) ⌝ }
+    ensures { λ _. ⌜ (take (first-word (now (lengths .entry)) (min (w * 64) (length (now (lengths .entry))))) (now (out .exit)) ≡ take (first-word (now (lengths .entry)) (min (w * 64) (length (now (lengths .entry))))) (now (out .entry))) × (length (now (out .exit)) ≡ length (now (out .entry))) ⌝ }
+    ensures { λ _. ⌜ ((k : ℕ) → w * 64 ≤ k → k < w * 64 + 64 → marked? (now (row .entry)) k ≡ true → bits-at (now (lengths .entry)) k (now (out .exit)) ≡ extended-at i (now (lengths .entry)) (now (letter .entry)) (now (row .entry)) k) ⌝ }
+{
+    let base = BITS * w;
+    let mut rest = row[w];
+    let mut k = base;
+    let mut left: u64 = 0;
+    while rest != 0 {
+        let zeros = u64::trailing_zeros(rest);
+        let at = k + zeros as usize;
+        let from = firsts[at] as usize;
+        let to = firsts[at + 1] as usize;
+        let found = keep_sequence(from, to, row, letter, i, out);
+        let b = at - base;
+        left = left | (words::one(found) << b);
+        rest = (rest >> zeros) >> 1;
+        k = at + 1;
+    }
+    left
+}
+
+// One letter more, the i-th of its component, in every sequence that has a mark: its words, and its new mark.
+pub fn keep_all(
+    lengths: &[u32],
+    firsts: &[u32],
+    row: &[u64],
+    letter: &[u64],
+    i: usize,
+    out: &mut [u64],
+)
+    requires { ⌜ (length (now lengths) ≤ SequenceSet-SEQUENCES) × (i < 64) ⌝ }
+    requires { ⌜ Firsts (now lengths) (now firsts) ⌝ }
+    requires { ⌜ Bounded (now lengths) (now row) ⌝ }
+    requires { ⌜ (first-word (now lengths) (length (now lengths)) ≤ length (now row)) × (length (now letter) ≡ length (now row)) × (length (now out) ≡ length (now row)) ⌝ }
+    ensures { λ _. ⌜ Marked (extended-marked? i (now (lengths .entry)) (now (letter .entry)) (now (row .entry))) (now (out .exit)) SequenceSet-SEQUENCES ⌝ }
+    ensures { λ _. ⌜ Filled (marked? (now (row .entry))) (extended-at i (now (lengths .entry)) (now (letter .entry)) (now (row .entry))) (now (lengths .entry)) (now (out .exit)) (length (now (lengths .entry))) ⌝ }
+    ensures { λ _. ⌜ length (now (out .exit)) ≡ length (now (out .entry)) ⌝ }
+{
+    let mut w = 0;
+    while w < MARKS {
+        let left = keep_sequences(w, lengths, firsts, row, letter, i, out);
+        out[w] = left;
+        w += 1;
+    }
+}
+
+// Copies the first `n` words of a row into a table, from `a` on.
+pub fn copy_to(row: &[u64], n: usize, a: usize, to: &mut [u64])
+    requires { ⌜ (n ≤ length (now row)) × (a + n ≤ length (now to)) ⌝ }
+    ensures { λ _. ⌜ (take a (now (to .exit)) ≡ take a (now (to .entry))) × (length (now (to .exit)) ≡ length (now (to .entry))) × (between a (a + n) (now (to .exit)) ≡ take n (now (row .entry))) ⌝ }
+{
+    let e = a + n;
+    words::copy(&row[..n], &mut to[a..e]);
+}
+
+// How many sequences are marked.
+pub fn count(row: &[u64]) -> u32
+    requires { ⌜ Row-MARKS ≤ length (now row) ⌝ }
+    ensures { λ r. ⌜ r ≡ lists.sum (held (take Row-MARKS (now (row .entry)))) ⌝ }
+{
+    let mut sum: u32 = 0;
+    let mut w = 0;
+    while w < MARKS {
+        sum += u64::count_ones(row[w]);
+        w += 1;
+    }
+    sum
+}

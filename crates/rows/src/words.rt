@@ -1,0 +1,197 @@
+// The words of one sequence.
+use rules::least;
+ghost use mathlib.Core.Bool.{not};
+ghost use mathlib.Core.List.{[], _∷_, map};
+ghost use mathlib.Core.Path.{_≡_};
+ghost use Prim.Native.Nat.{_+_, _-_, _*_, _≤_, _<_};
+ghost use lib.Dec.{eqb};
+ghost use lib.ListN.{length, replicate};
+ghost use Rattle.rules.specs.Lists.{run, over};
+ghost use Rattle.rows.specs.Flags.{bit, left?};
+ghost use Rattle.rows.specs.Bits.{held};
+ghost use Rattle.rows.specs.Rows.{either, behind, window, extended, lettered};
+ghost use Rattle.rows.specs.Words as words;
+
+// The 64 bits from bit `i` of two words on.
+pub fn down(i: usize, low: u64, high: u64) -> u64
+    requires { ⌜ i < 64 ⌝ }
+    ensures { λ r. ⌜ r ≡ words.down i low high ⌝ }
+{
+    (low >> i) | ((high << 1) << (63 - i))
+}
+
+// The upper of two words, shifted up by `i` bits, with those that come in from the lower.
+fn up(i: usize, low: u64, high: u64) -> u64
+    requires { ⌜ i < 64 ⌝ }
+    ensures { λ r. ⌜ r ≡ words.up i low high ⌝ }
+{
+    (high << i) | ((low >> 1) >> (63 - i))
+}
+
+// Writes `value` to each of some words.
+pub fn fill(out: &mut [u64], value: u64)
+    ensures { λ _. ⌜ now (out .exit) ≡ replicate (length (now (out .entry))) value ⌝ }
+{
+    let mut q = 0;
+    while q < out.len() {
+        out[q] = value;
+        q += 1;
+    }
+}
+
+// Whether a word is not 0.
+pub fn marked(word: u64) -> bool
+    ensures { λ r. ⌜ r ≡ not (eqb word 0) ⌝ }
+{
+    word != 0
+}
+
+// 1 of true.
+pub fn one(found: bool) -> u64
+    ensures { λ r. ⌜ r ≡ bit found ⌝ }
+{
+    if found { 1 } else { 0 }
+}
+
+// The bits of a word at which a letter stands in at most 64 letters.
+fn letter_word(letter: u8, sequence: &[u8]) -> u64
+    requires { ⌜ length (now sequence) ≤ 64 ⌝ }
+    ensures { λ r. ⌜ held (r ∷ []) ≡ lettered eqb letter (now (sequence .entry)) 64 ⌝ }
+{
+    let mut word: u64 = 0;
+    let mut p = sequence.len();
+    while 0 < p {
+        p -= 1;
+        word = (word << 1) | one(letter == sequence[p]);
+    }
+    word
+}
+
+// Makes the row of a letter in one sequence: the bits at which it stands.
+pub fn set_letters(letter: u8, sequence: &[u8], out: &mut [u64])
+    requires { ⌜ (64 * length (now out) ≤ length (now sequence) + 63) × (length (now sequence) ≤ 64 * length (now out)) ⌝ }
+    ensures { λ _. ⌜ held (now (out .exit)) ≡ lettered eqb letter (now (sequence .entry)) (64 * length (now (out .entry))) ⌝ }
+{
+    let n = sequence.len();
+    let mut q = 0;
+    while q < out.len() {
+        let from = 64 * q;
+        let to = least(from + 64, n);
+        out[q] = letter_word(letter, &sequence[from..to]);
+        q += 1;
+    }
+}
+
+// The first `n` words of a row with one letter more, and all of them joined in one.
+fn keep_words(row: &[u64], letters: &[u64], i: usize, n: usize, out: &mut [u64]) -> u64
+    requires { ⌜ (length (now letters) ≡ length (now row)) × (length (now out) ≡ length (now row)) × (n < length (now row)) × (i < 64) ⌝ }
+    ensures { λ r. ⌜ eqb r 0 ≡ not (left? (map (words.extended-word i (now (letters .entry)) (now (row .entry))) (run 0 n))) ⌝ }
+    ensures { λ _. ⌜ now (out .exit) ≡ over (words.extended-word i (now (letters .entry)) (now (row .entry))) n (now (out .entry)) ⌝ }
+{
+    let mut all: u64 = 0;
+    let mut q = 0;
+    while q < n {
+        let v = row[q] & down(i, letters[q], letters[q + 1]);
+        out[q] = v;
+        all = all | v;
+        q += 1;
+    }
+    all
+}
+
+// One letter more, the i-th of its part: keeps the bits at which the letter stands `i` places on, and answers whether one is
+// left.
+pub fn keep_letter(row: &[u64], letters: &[u64], i: usize, out: &mut [u64]) -> bool
+    requires { ⌜ (length (now letters) ≡ length (now row)) × (length (now out) ≡ length (now row)) × (i < 64) ⌝ }
+    ensures { λ _. ⌜ held (now (out .exit)) ≡ extended i (held (now (letters .entry))) (held (now (row .entry))) ⌝ }
+    ensures { λ r. ⌜ r ≡ left? (held (now (out .exit))) ⌝ }
+{
+    let n = out.len();
+    if n == 0 {
+        return false;
+    }
+    let last = n - 1;
+    let all = keep_words(row, letters, i, last, out);
+    let v = row[last] & down(i, letters[last], 0);
+    out[last] = v;
+    marked(all | v)
+}
+
+// The words past `e` of a row shifted up by `e` words and `i` bits.
+fn shift_words(row: &[u64], e: usize, i: usize, out: &mut [u64])
+    requires { ⌜ (length (now out) ≡ length (now row)) × (e < length (now row)) × (i < 64) ⌝ }
+    requires { ⌜ now out ≡ over (words.behind-word e i (now row)) (e + 1) (now out) ⌝ }
+    ensures { λ _. ⌜ now (out .exit) ≡ over (words.behind-word e i (now (row .entry))) (length (now (row .entry))) (now (out .entry)) ⌝ }
+{
+    let mut q = e + 1;
+    while q < out.len() {
+        out[q] = up(i, row[q - e - 1], row[q - e]);
+        q += 1;
+    }
+}
+
+// A row shifted up by `d` positions.
+fn shift_up(row: &[u64], d: usize, out: &mut [u64])
+    requires { ⌜ length (now out) ≡ length (now row) ⌝ }
+    ensures { λ _. ⌜ held (now (out .exit)) ≡ behind d (held (now (row .entry))) ⌝ }
+{
+    let e = d / 64;
+    let i = d % 64;
+    let n = out.len();
+    if n <= e {
+        fill(out, 0);
+        return;
+    }
+    fill(&mut out[..e], 0);
+    out[e] = up(i, 0, row[0]);
+    shift_words(row, e, i, out);
+}
+
+// Sets in a row the bits of another.
+fn join(row: &mut [u64], other: &[u64])
+    requires { ⌜ length (now other) ≡ length (now row) ⌝ }
+    ensures { λ _. ⌜ held (now (row .exit)) ≡ either (held (now (row .entry))) (held (now (other .entry))) ⌝ }
+{
+    let mut q = 0;
+    while q < row.len() {
+        row[q] = row[q] | other[q];
+        q += 1;
+    }
+}
+
+// Copies a row.
+pub fn copy(row: &[u64], out: &mut [u64])
+    requires { ⌜ length (now out) ≡ length (now row) ⌝ }
+    ensures { λ _. ⌜ now (out .exit) ≡ now (row .entry) ⌝ }
+{
+    let mut q = 0;
+    while q < out.len() {
+        out[q] = row[q];
+        q += 1;
+    }
+}
+
+// Spreads each bit of a row over `count` positions, its own the first, by shifts that double.
+fn spread(count: usize, row: &mut [u64], spare: &mut [u64])
+    requires { ⌜ (length (now spare) ≡ length (now row)) × (1 ≤ count) ⌝ }
+    ensures { λ _. ⌜ held (now (row .exit)) ≡ window 0 count (held (now (row .entry))) ⌝ }
+{
+    let mut have = 1;
+    while have < count {
+        let d = least(have, count - have);
+        shift_up(row, d, spare);
+        join(row, spare);
+        have += d;
+    }
+}
+
+// Sets the bits of `out` that have one of `count` set bits before them, the nearest `d` places before. `spare` is lent for the
+// work.
+pub fn open_gap(row: &[u64], d: usize, count: usize, spare: &mut [u64], out: &mut [u64])
+    requires { ⌜ (length (now spare) ≡ length (now row)) × (length (now out) ≡ length (now row)) × (1 ≤ count) ⌝ }
+    ensures { λ _. ⌜ held (now (out .exit)) ≡ window d count (held (now (row .entry))) ⌝ }
+{
+    copy(row, spare);
+    spread(count, spare, out);
+    shift_up(spare, d, out);
+}

@@ -1,0 +1,77 @@
+-- The tables of a leg's loop over one turn: they keep their lengths, a listed motif's path and row are those of its candidate, and after
+-- `keep` the slots hold the path to the next place.
+use mathlib.Core.Bool.{Bool, true, false, _&&_}
+use mathlib.Core.List.{List}
+use mathlib.Core.Path.{_≡_, refl, sym, ap, _∙_}
+use Prim.Native.Nat.{ℕ, _+_, _-_, _*_, _^_, _≤_, _<_}
+use native.Mathlib.Nat.{pow-le-pow-right}
+use native.Mathlib.Omega.{arith}
+use lib.Dec.{eqb, ltb}
+use lib.ListN.{length}
+use borrow.Author.Tests.{eqb-true, ltb-true}
+use Rattle.rules.proofs.Tests.{both}
+use Rattle.rules.specs.Sound.{SoundTemplate}
+use Rattle.rules.specs.Template.{size}
+use Rattle.rules.specs.Walk.{place, next}
+use Rattle.rules.specs.declared.Place.{Place}
+use Rattle.rules.specs.declared.Template.{Template}
+use Rattle.rows.specs.Set.{Row}
+use Rattle.matching.proofs.Weighed.{prefix-small}
+use Rattle.matching.specs.Path.{prefix-starts, Path, Tables, Made}
+use Rattle.matching.specs.Weights.{prefix-of, Counted}
+use Rattle.search.proofs.Onward.{path-next}
+use Rattle.search.specs.Four.{four}
+
+-- tables that keep their lengths stay tables
+pub tables-still : {inside firsts offsets standing slots work spare slots′ work′ spare′ : List ℕ} → Tables inside firsts offsets standing slots work spare
+    → length slots′ ≡ length slots → length work′ ≡ length work → length spare′ ≡ length spare → Tables inside firsts offsets standing slots′ work′ spare′
+tables-still t s w p = record {
+  inside-long = t .inside-long;
+  firsts-long = t .firsts-long;
+  offsets-long = t .offsets-long;
+  standing-long = t .standing-long;
+  rows-long = s ∙ t .rows-long;
+  work-long = w ∙ t .work-long;
+  spare-long = p ∙ t .spare-long;
+}
+
+-- at first no ways are counted
+pub none-counted : (t : Template) (ns l ways : List ℕ) → Counted t ns l 0 ways
+none-counted t ns l ways = record { leads = λ h. absurd (omega arith) }
+
+-- a listed candidate has all letters of a motif
+pub hit-whole : (j depth : ℕ) (good : Bool) {hit : Bool} → hit ≡ (eqb j depth && good) → hit ≡ true → j ≡ depth
+hit-whole j depth good e h = eqb-true j depth (both (eqb j depth) good .0 (sym e ∙ h) .0)
+
+-- and one under which the search goes on has fewer
+pub down-short : (j depth k : ℕ) (good : Bool) → depth ≡ k → good && ltb j depth ≡ true → j < k
+down-short j depth k good e h = omega (arith, ltb-true j depth (both good (ltb j depth) .0 h .1), e)
+
+-- 1 more than the number of the prefix before the last component fits a word
+pub prefix-fits : (t : Template) → SoundTemplate t → (j m prefix : ℕ) → j ≤ size t → m < 4 ^ j → prefix ≡ prefix-of t m → prefix < 2 ^ 64 - 1
+prefix-fits t sound j m prefix h b e = omega (arith, e, prefix-small t sound m (size t) refl (omega (arith, b, pow-le-pow-right {n = 4} (omega arith) {i = j} {j = size t} h)))
+
+-- the ways are counted for what `counted_for` answers
+pub counted-as : {t : Template} {ns l ways : List ℕ} {counted counted′ : ℕ} → counted ≡ counted′ → Counted t ns l counted′ ways → Counted t ns l counted ways
+counted-as e h = rw e h
+
+-- where a candidate has all letters of a motif, its number, the path to it and its row are those of the motif
+pub below-whole : (j m : ℕ) {depth : ℕ} → j ≡ depth → m < 4 ^ j → m < 4 ^ depth
+below-whole j m e h = rw (← e) h
+
+pub made-whole : {t : Template} {ns l inside firsts offsets standing slots : List ℕ} (j m : ℕ) {depth : ℕ} → j ≡ depth → Made t ns l inside firsts offsets standing slots j m → Made t ns l inside firsts offsets standing slots depth m
+made-whole j m e h = rw (← e) h
+
+pub row-whole : (t : Template) {ns l work : List ℕ} (j m : ℕ) {depth : ℕ} → j ≡ depth → Row (prefix-starts t j m) ns l work → Row (prefix-starts t depth m) ns l work
+row-whole t j m e h = rw (← e) h
+
+-- what is made stays, and the path goes on to the next place
+pub made-next : (t : Template) (ns l : List ℕ) (j m : ℕ) {inside firsts offsets standing slots slots′ : List ℕ} (depth : ℕ) (good : ℕ → ℕ → Bool) {frequent : Bool} {q : Place}
+    → Made t ns l inside firsts offsets standing slots j m → frequent ≡ good j m
+    → (frequent && ltb j depth ≡ true → Path t ns l slots′ (j + 1) (m * 4)) → (frequent && ltb j depth ≡ false → slots′ ≡ slots)
+    → next (four good depth) (place j m) ≡ q → Made t ns l inside firsts offsets standing slots′ (q .letters) (q .number)
+made-next t ns l j m {slots = slots} {slots′} depth good made f p s e = record {
+  ready = made .ready;
+  laid = made .laid;
+  path = path-next t ns l slots slots′ good depth j m (made .path) (ap (λ (b : Bool). b && ltb j depth) f) p s e;
+}
