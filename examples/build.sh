@@ -1,5 +1,5 @@
-# Makes the library, and says how a C program is built over it and run: check.sh here and tests/header.sh source it, from the
-# repository's folder.
+# Makes the library, and says how a C program is built over it and run: check.sh here, tests/header.sh and tests/stack.sh source it,
+# from the repository's folder.
 # shellcheck shell=sh
 
 second/library.sh
@@ -22,7 +22,8 @@ over_library() { # FILE.c COMMAND..
     [ "$machine" != x86_64 ] || return 0
 
     # The kit's folder: rt names a page that stands in it, KIT/docs/START-HERE.md. The host's C headers declare what the
-    # programs use in the same words for both processors.
+    # programs use in the same words for both processors, but for the size of pthread_attr_t: 64 bytes on aarch64, of which
+    # x86-64's C library uses 56.
     tools=$(dirname "$(dirname "$(rt doc)")")/on/$machine/toolchain
     lib=$tools/lib
     machine=x86_64

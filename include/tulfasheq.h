@@ -1,7 +1,7 @@
 /* Tulfasheq for C and C++: the search for structured motifs in DNA, as numbers and arrays.
  *
  * Link with libtulfasheq.a (second/library.sh makes it for the machine at hand, at target/host/libtulfasheq.a). No call keeps
- * anything between calls, allocates, or reads or writes anything but what it is passed; a call uses less than 1 MiB of stack.
+ * anything between calls, allocates, or reads or writes anything but what it is passed; a call uses less than 1.5 MiB of stack.
  *
  * Every array is passed as a pointer and the number of its elements. A pointer is never null, also where that number is 0, and is
  * aligned as its type asks. No array or number that a call writes may overlap another that it is passed.

@@ -10,7 +10,7 @@
 //! that is not refused sets *place to 0." What this says of numbers is held to
 //! in every call made here.
 //!
-//! "A call uses less than 1 MiB of stack", for which a thread's usual 2 MiB do.
+//! "A call uses less than 1.5 MiB of stack", for which a thread's usual 2 MiB do.
 
 mod declared;
 mod reader;

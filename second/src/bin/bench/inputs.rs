@@ -51,6 +51,14 @@ pub fn one_sequence(low: u16, high: u16) -> Search {
     }
 }
 
+/// The same sequence, and as many letters and gaps as a template can have.
+pub fn deepest() -> Search {
+    let mut search = one_sequence(0, 0);
+    search.components = [6, 6, 5, 5, 5, 5].map(|n| component(n, 0, 255)).to_vec();
+    search.components[0] = component(6, 0, 0);
+    search
+}
+
 /// The template NNNN[0,100]NNNN[0,100]NNNN at a quorum of 12 % on 1,024
 /// sequences of 64 letters.
 pub fn twelve_percent() -> Search {
@@ -113,7 +121,7 @@ fn random(count: usize, letters: u64, shape: &[(u8, u16, u16)], quorum: u64) -> 
 }
 
 /// Searches of several shapes, with the steps that are taken of each.
-pub fn long_searches() -> [(&'static str, Search, u64); 7] {
+pub fn searches() -> [(&'static str, Search, u64); 7] {
     let three = [(3, 0, 0), (3, 0, 30), (3, 0, 30)];
     let six = [(6, 0, 0), (4, 0, 30)];
     [

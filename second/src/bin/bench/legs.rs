@@ -2,7 +2,6 @@
 
 use crate::bits::Bits;
 use crate::linked;
-use crate::passes::Passes;
 use crate::positions::Positions;
 use crate::timing::Work;
 use crate::walk::{leg, Place, Rows, Search, Went};
@@ -23,29 +22,18 @@ impl<'a> Leg<'a> {
     }
 }
 
-/// A leg of the library, of passes and of positions. Each makes what it works
-/// in afresh: the library 640 KiB on the stack, all of it cleared; passes four
-/// tables as long as the longest sequence; positions its text, its lists and
-/// the counts beside them.
+/// A leg of the library, of bits and of positions. Each makes what it works in
+/// afresh: the library some 1.1 MiB on the stack, all of it cleared; bits its
+/// rows and its counts, as long as the set's sequences; positions its text, its
+/// lists and the counts beside them.
 pub fn legs<'a>(search: &'a Search, place: Place, budget: u64, room: usize) -> Vec<Leg<'a>> {
     let saved = linked::saved_at(search, place);
     let runs: Vec<Run> = vec![
         Box::new(move |tables| linked::leg(search, &saved, budget, tables)),
-        Box::new(move |tables| leg(&mut Passes::new(search), search, place, budget, tables)),
+        Box::new(move |tables| leg(&mut Bits::new(search), search, place, budget, tables)),
         Box::new(move |tables| leg(&mut Positions::new(search), search, place, budget, tables)),
     ];
     runs.into_iter().map(|run| Leg { run, room }).collect()
-}
-
-/// A leg of the library, of positions and of bits.
-pub fn kept<'a>(search: &'a Search, budget: u64, room: usize) -> Vec<Leg<'a>> {
-    let mut legs = legs(search, Place::FIRST, budget, room);
-    legs.remove(1);
-    let bits =
-        move |tables: &mut Rows| leg(&mut Bits::new(search), search, Place::FIRST, budget, tables);
-    let run: Run = Box::new(bits);
-    legs.push(Leg { run, room });
-    legs
 }
 
 /// Checks that all legs go as far and write the same; how far that is.

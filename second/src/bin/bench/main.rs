@@ -1,9 +1,9 @@
 //! The library beside Rust programs, on the same inputs and in the same run:
-//! `passes`, which does the library's own passes; `positions`, which keeps
-//! position lists along the path, and `bits`, which keeps rows of bits; and
-//! `reader`, which reads FASTA. Each is held to the library's answers before it
-//! is timed. `second/bench.sh` runs it; docs/BENCHMARKS.md says what is measured
-//! and how it is meant.
+//! `bits`, which keeps rows of bits along the path as the library does, and
+//! `positions`, which keeps position lists; `passes`, which recovers by the
+//! library's own passes; and `reader`, which reads FASTA. Each is held to the
+//! library's answers before it is timed. `second/bench.sh` runs it;
+//! docs/BENCHMARKS.md says what is measured and how it is meant.
 
 mod bits;
 mod checks;
@@ -22,12 +22,11 @@ mod walk;
 mod words;
 
 /// The measures, by the names that they can be asked for by.
-const MEASURES: [(&str, fn()); 7] = [
+const MEASURES: [(&str, fn()); 6] = [
     ("checks", checks::of_a_new_search),
-    ("candidate", measures::one_candidate),
+    ("legs", measures::no_step),
     ("walk", measures::candidates),
     ("searches", measures::searches),
-    ("rows", measures::rows_of_bits),
     ("recovery", measures::occurrences),
     ("reading", files::readers),
 ];

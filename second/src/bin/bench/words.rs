@@ -4,32 +4,21 @@
 
 use crate::walk::Set;
 
-/// The words of a stretch. A long sequence has a mark for each of its
-/// stretches, so that those without a bit are passed over.
-pub const STRETCH: usize = 16;
-
-/// The words of one sequence, and the first of its stretches.
+/// The words of one sequence.
 #[derive(Clone, Copy, Debug)]
 pub struct Span {
     begin: u16,
     end: u16,
-    stretch: u16,
 }
 
 impl Span {
     /// Each sequence's words.
     pub fn of(set: &Set) -> Vec<Span> {
-        let (mut begin, mut stretch) = (0, 0);
+        let mut end = 0;
         let span = |length: &u32| {
-            let end = begin + length.div_ceil(64) as usize;
-            let span = Span {
-                begin: begin as u16,
-                end: end as u16,
-                stretch: stretch as u16,
-            };
-            stretch += (end - begin).div_ceil(STRETCH);
-            begin = end;
-            span
+            let begin = end;
+            end += length.div_ceil(64) as u16;
+            Span { begin, end }
         };
         set.lengths.iter().map(span).collect()
     }
@@ -41,43 +30,30 @@ impl Span {
     pub fn end(self) -> usize {
         self.end.into()
     }
-
-    pub fn is_long(self) -> bool {
-        self.end() - self.begin() > STRETCH
-    }
-
-    /// Its stretches, each by its number, its first word and its end.
-    pub fn stretches(self) -> impl DoubleEndedIterator<Item = (usize, usize, usize)> {
-        let count = (self.end() - self.begin()).div_ceil(STRETCH);
-        (0..count).map(move |at| {
-            let begin = self.begin() + STRETCH * at;
-            let stretch = usize::from(self.stretch) + at;
-            (stretch, begin, self.end().min(begin + STRETCH))
-        })
-    }
 }
 
-/// A bit for each sequence, or for each stretch.
-#[derive(Clone, Debug)]
-pub struct Marks<const N: usize>(pub [u64; N]);
+/// The words of all sequences, and a mark for each sequence that has a bit set.
+/// What stands where there is no mark is left over from another row.
+#[derive(Clone)]
+pub struct Row {
+    pub words: Vec<u64>,
+    pub marks: [u64; 16],
+}
 
-impl<const N: usize> Marks<N> {
-    pub fn has(&self, at: usize) -> bool {
-        self.0[at / 64] >> (at % 64) & 1 == 1
+impl Row {
+    /// Every bit of every sequence.
+    pub fn full(spans: &[Span]) -> Row {
+        let mut marks = [0; 16];
+        for sequence in 0..spans.len() {
+            marks[sequence / 64] |= 1 << (sequence % 64);
+        }
+        let words = vec![u64::MAX; spans.last().map_or(0, |span| span.end())];
+        Row { words, marks }
     }
 
-    pub fn put(&mut self, at: usize, set: bool) {
-        self.0[at / 64] &= !(1 << (at % 64));
-        self.0[at / 64] |= u64::from(set) << (at % 64);
-    }
-
-    pub fn count(&self) -> u32 {
-        self.0.iter().map(|word| word.count_ones()).sum()
-    }
-
-    /// Those that are set.
-    pub fn each(&self) -> impl Iterator<Item = usize> + '_ {
-        self.0.iter().enumerate().flat_map(|(word, bits)| {
+    /// The sequences that have a mark.
+    pub fn marked(&self) -> impl Iterator<Item = usize> + '_ {
+        self.marks.iter().enumerate().flat_map(|(word, bits)| {
             let mut bits = *bits;
             std::iter::from_fn(move || {
                 let at = (bits != 0).then(|| 64 * word + bits.trailing_zeros() as usize);
@@ -86,91 +62,85 @@ impl<const N: usize> Marks<N> {
             })
         })
     }
-}
 
-/// The words of all sequences, a mark for each that has a bit set, and one for
-/// each stretch of a long one. What stands where there is no mark is left over
-/// from another row.
-#[derive(Clone)]
-pub struct Row {
-    pub words: Vec<u64>,
-    pub marks: Marks<16>,
-    pub stretches: Marks<18>,
-}
-
-impl Row {
-    /// Every bit of every sequence.
-    pub fn full(spans: &[Span]) -> Row {
-        let mut marks = Marks([0; 16]);
-        for sequence in 0..spans.len() {
-            marks.put(sequence, true);
+    /// One letter more, the `i`-th of its component: those bits of a row at
+    /// which the letter's own has one `i` places on. How many sequences have one.
+    pub fn keep(&mut self, from: &Row, letter: &[u64], i: usize, spans: &[Span]) -> u32 {
+        let mut count = 0;
+        let n = self.words.len();
+        let (row, letter, out) = (&from.words[..n], &letter[..n], &mut self.words[..n]);
+        let marks = from.marks.iter().zip(&mut self.marks);
+        for ((bits, left), spans) in marks.zip(spans.chunks(64)) {
+            *left = kept(*bits, |bit| {
+                let (begin, end) = (spans[bit].begin(), spans[bit].end());
+                if end - begin == 1 {
+                    out[begin] = row[begin] & letter[begin] >> i;
+                    return out[begin];
+                }
+                let (row, letter) = (&row[begin..end], &letter[begin..end]);
+                keep(row, letter, i, &mut out[begin..end])
+            });
+            count += left.count_ones();
         }
-        Row {
-            words: vec![u64::MAX; spans.last().map_or(0, |span| span.end())],
-            marks,
-            stretches: Marks([u64::MAX; 18]),
-        }
+        count
     }
 
-    /// One letter more in one sequence, the `i`-th of its component: those bits of
-    /// a row at which the letter's own has one `i` places on. Whether one is left.
-    #[inline(always)]
-    pub fn keep(&mut self, from: &Row, letter: &[u64], i: usize, span: Span) -> bool {
-        let begin = span.begin();
-        if span.end() - begin == 1 {
-            let word = from.words[begin] & letter[begin] >> i;
-            self.words[begin] = word;
-            return word != 0;
+    /// The same where every sequence has one word.
+    pub fn keep_short(&mut self, from: &Row, letter: &[u64], i: usize) -> u32 {
+        let mut count = 0;
+        let n = self.words.len();
+        let (row, letter, out) = (&from.words[..n], &letter[..n], &mut self.words[..n]);
+        let marks = from.marks.iter().zip(&mut self.marks);
+        let rows = row
+            .chunks(64)
+            .zip(letter.chunks(64))
+            .zip(out.chunks_mut(64));
+        for ((bits, left), ((row, letter), out)) in marks.zip(rows) {
+            *left = kept(*bits, |bit| {
+                out[bit] = row[bit] & letter[bit] >> i;
+                out[bit]
+            });
+            count += left.count_ones();
         }
-        if span.is_long() {
-            return self.keep_stretches(from, letter, i, span);
-        }
-        let words = begin..span.end();
-        let (row, out) = (&from.words[words.clone()], &mut self.words[words.clone()]);
-        keep(row, &letter[words], 0, i, out)
-    }
-
-    /// The same in a long sequence.
-    #[inline(never)]
-    fn keep_stretches(&mut self, from: &Row, letter: &[u64], i: usize, span: Span) -> bool {
-        let mut found = false;
-        for (stretch, begin, end) in span.stretches() {
-            let mut here = false;
-            if from.stretches.has(stretch) {
-                let after = if end < span.end() { letter[end] } else { 0 };
-                let (row, out) = (&from.words[begin..end], &mut self.words[begin..end]);
-                here = keep(row, &letter[begin..end], after, i, out);
-            }
-            self.stretches.put(stretch, here);
-            found |= here;
-        }
-        found
-    }
-
-    /// The stretches of a marked sequence that have a bit set: first word and
-    /// end.
-    pub fn each_stretch(&self, span: Span) -> impl Iterator<Item = (usize, usize)> + '_ {
-        let there = move |(stretch, ..): &(usize, usize, usize)| {
-            !span.is_long() || self.stretches.has(*stretch)
-        };
-        span.stretches()
-            .filter(there)
-            .map(|(_, begin, end)| (begin, end))
-    }
-
-    /// A word of a marked sequence.
-    pub fn word(&self, span: Span, word: usize) -> u64 {
-        let stretch = usize::from(span.stretch) + (word - span.begin()) / STRETCH;
-        match span.is_long() && !self.stretches.has(stretch) {
-            true => 0,
-            false => self.words[word],
-        }
+        count
     }
 }
 
-/// The 64 bits from bit `i` of two words on.
-fn down(i: usize, low: u64, high: u64) -> u64 {
-    (low >> i) | ((high << 1) << (63 - i))
+/// Those bits of a word of marks whose sequences answer a word that is not 0.
+#[inline(always)]
+fn kept(mut bits: u64, mut word: impl FnMut(usize) -> u64) -> u64 {
+    let mut found = 0;
+    while bits != 0 {
+        let bit = bits.trailing_zeros();
+        bits &= bits - 1;
+        found |= u64::from(word(bit as usize) != 0) << bit;
+    }
+    found
+}
+
+/// One letter more in a sequence of several words, and all of them joined.
+fn keep(row: &[u64], letter: &[u64], i: usize, out: &mut [u64]) -> u64 {
+    let (Some((last, row)), Some((end, _))) = (row.split_last(), letter.split_last()) else {
+        return 0;
+    };
+    let Some((to, out)) = out.split_last_mut() else {
+        return 0;
+    };
+    *to = last & end >> i;
+    let mut all = *to;
+    let rows = row.iter().zip(letter.iter().zip(&letter[1..])).zip(out);
+    if i == 0 {
+        for ((row, (letter, _)), out) in rows {
+            *out = row & letter;
+            all |= *out;
+        }
+    } else {
+        for ((row, (low, high)), out) in rows {
+            *out = row & (low >> i | high << (64 - i));
+            all |= *out;
+        }
+    }
+    all
 }
 
 /// The upper of two words, shifted up by `i` bits.
@@ -178,23 +148,11 @@ fn up(i: usize, low: u64, high: u64) -> u64 {
     (high << i) | ((low >> 1) >> (63 - i))
 }
 
-/// One letter more in some words of a sequence; after the letter's last comes
-/// `after`. Whether a bit is left.
-#[inline(always)]
-fn keep(row: &[u64], letter: &[u64], after: u64, i: usize, out: &mut [u64]) -> bool {
-    let [.., last] = *row else {
-        return false;
-    };
-    let letter = &letter[..row.len()];
-    let mut all = 0;
-    let next = letter.iter().skip(1);
-    for (((row, low), high), out) in row.iter().zip(letter).zip(next).zip(out.iter_mut()) {
-        *out = row & down(i, *low, *high);
-        all |= *out;
-    }
-    let end = row.len() - 1;
-    out[end] = last & down(i, letter[end], after);
-    all | out[end] != 0
+/// A word of a sequence's row that is shifted up by `d` bits.
+pub fn shifted(row: &[u64], d: usize, word: usize) -> u64 {
+    let (e, i) = (d / 64, d % 64);
+    let at = |back: usize| word.checked_sub(back).map_or(0, |at| row[at]);
+    up(i, at(e + 1), at(e))
 }
 
 /// A sequence's words shifted up by `d` bits.
@@ -222,4 +180,47 @@ pub fn open(row: &mut [u64], near: usize, count: usize, spare: &mut [u64], out: 
         have += d;
     }
     shift_up(row, near, out);
+}
+
+/// The same where a sequence has one word.
+pub fn open_word(mut word: u64, near: usize, count: usize) -> u64 {
+    let up = |word: u64, d: usize| word.checked_shl(d as u32).unwrap_or(0);
+    let mut have = 1;
+    while have < count {
+        let d = have.min(count - have);
+        word |= up(word, d);
+        have += d;
+    }
+    up(word, near)
+}
+
+/// The rows of the four letters. Bits 1 and 2 of its byte tell a letter from the
+/// others: those of eight letters are gathered by one multiplication.
+pub fn letter_rows(set: &Set, words: usize) -> [Vec<u64>; 4] {
+    let mut rows = [(); 4].map(|()| Vec::with_capacity(words));
+    for sequence in set.sequences() {
+        for letters in sequence.chunks(64) {
+            let (mut low, mut high) = (0, 0);
+            let (eights, rest) = letters.as_chunks();
+            let mut last = [0; 8];
+            last[..rest.len()].copy_from_slice(rest);
+            for (at, eight) in eights.iter().chain([&last]).take(8).enumerate() {
+                let eight = u64::from_le_bytes(*eight);
+                low |= gathered(eight >> 1) << (8 * at);
+                high |= gathered(eight >> 2) << (8 * at);
+            }
+            let all = u64::MAX >> (64 - letters.len());
+            let [a, c, g, t] = &mut rows;
+            a.push(all & !low & !high);
+            c.push(low & !high);
+            g.push(low & high);
+            t.push(high & !low);
+        }
+    }
+    rows
+}
+
+/// The lowest bits of eight bytes, the first in the lowest.
+fn gathered(bytes: u64) -> u64 {
+    (bytes & 0x0101_0101_0101_0101).wrapping_mul(0x0102_0408_1020_4080) >> 56
 }
