@@ -65,7 +65,7 @@ pub slot-filled : (x : ℕ) (ns l standing : List ℕ) → x * Row-WORDS + Row-W
     × Filled (λ _. true) (lettered-at eqb (letter x) ns l) ns (row-slot x out) (length ns))
 unfolding row-slot
 slot-filled x ns l standing h ys e n f =
-    let r = part-copied (x * 2048) (x * 2048 + 2048) standing (omega arith) h ys {zs = ys} n refl in
+    let r = part-copied (x * 2072) (x * 2072 + 2072) standing (omega arith) h ys {zs = ys} n refl in
     ((r .0, r .1), rw (r .2, ← e) f)
 
 -- ALL SLOTS: those of the first n letters are written
@@ -86,7 +86,7 @@ slotted-more ns l n x y q left here = record {
 }
   where
     same : (k : ℕ) → k < n → row-slot k y ≡ row-slot k x
-    same k h = unfold row-slot in between-kept (n * 2048) (k * 2048) (k * 2048 + 2048) x y (omega arith) (omega arith) left
+    same k h = unfold row-slot in between-kept (n * 2072) (k * 2072) (k * 2072 + 2072) x y (omega arith) (omega arith) left
 
 pub slotted-end : (t : Template) (ns l : List ℕ) (n : ℕ) (standing : List ℕ) → 4 ≤ n → 4 * Row-WORDS ≤ length standing → Slotted ns l n standing → Letters t ns l standing
 slotted-end t ns l n standing e h q = record {

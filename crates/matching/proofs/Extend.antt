@@ -69,7 +69,7 @@ module _ (t : Template) (sound : SoundTemplate t) (l ns : List ℕ) (set : Sound
   pub below-bounded : Bounded ns slot
   below-bounded = record { none = source .past }
 
-  module _ (long : length slot ≡ 2048) where
+  module _ (long : length slot ≡ 2072) where
     pub kept-row : (out : List ℕ) → (let i = getD inside (j - 1) 0 % 16 in let x = row-slot (m % 4) standing in
         Filled (marked? slot) (extended-at i ns x slot) ns out (length ns) → Marked (extended-marked? i ns x slot) out 1024 → Row (prefix-starts t j m) ns l out)
     kept-row out q n =
@@ -80,6 +80,6 @@ module _ (t : Template) (sound : SoundTemplate t) (l ns : List ℕ) (set : Sound
         (omega (arith, long, enough l ns set)) (row-slot (m % 4) standing) (letter-slot (lettered-at (profile-of t .reading .fits) (m % base-of t) ns (map value l)) ns standing z (ready .letters .rows (m % base-of t) (rw b (omega arith))))
         out (rw e at q) (rw e at n)
 
-    pub kept-support : (out : List ℕ) {r : ℕ} → length out ≡ 2048 → Row (prefix-starts t j m) ns l out → r ≡ sum (held (take 16 out)) → r ≡ support (parts t j m) (sequences l ns)
+    pub kept-support : (out : List ℕ) {r : ℕ} → length out ≡ 2072 → Row (prefix-starts t j m) ns l out → r ≡ sum (held (take 16 out)) → r ≡ support (parts t j m) (sequences l ns)
     kept-support out w row e =
         e ∙ row-count ns l (set .adds) (set .few) (prefix-starts t j m) (prefix-long t j m) out (omega arith) row ∙ left-support t sound j m some (sequences l ns)

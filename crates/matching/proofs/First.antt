@@ -62,7 +62,7 @@ module _ (l ns : List ℕ) (sound : SoundSet l ns) (row : List ℕ) (marks : Mar
       let a = first-word ns k in
       let y = words-of (getD ns k 0) in
       let g : p < 64 * y = omega (arith, long ns l (sound .adds) (sound .few) k, words-room (getD ns k 0)) in
-      let i : a + p / 64 < 2048 = omega (arith, first-most ns k (length ns) u u, enough l ns sound) in
+      let i : a + p / 64 < 2072 = omega (arith, first-most ns k (length ns) u u, enough l ns sound) in
       ones-at (between a (a + y) row) p (between-at a (a + y) row (p / 64) (omega arith) ∙ words (a + p / 64) (omega (arith, first-past ns k)) i)
 
   past-marks : (k : ℕ) → length ns ≤ k → k < 1024 → marked? row k ≡ false
@@ -94,7 +94,7 @@ module _ (rows : List ℕ) (room : Row-WORDS ≤ length rows) where
 
     slot-is : row-slot 0 (ys ++ drop Row-WORDS rows) ≡ ys
     unfolding row-slot between
-    slot-is = take-at ys (drop Row-WORDS rows) 2048 (same ∙ slot-long)
+    slot-is = take-at ys (drop Row-WORDS rows) 2072 (same ∙ slot-long)
 
     pub first-path : (t : Template) → SoundTemplate t → (l ns : List ℕ) → SoundSet l ns → Marked (λ k. ltb k (length ns)) ys 1024
         → ((q : ℕ) → Row-MARKS ≤ q → q < length (take Row-WORDS rows) → getD ys q 0 ≡ 2 ^ 64 - 1)

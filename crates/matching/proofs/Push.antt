@@ -115,12 +115,12 @@ module _ (t : Template) (sound : SoundTemplate t) (l ns : List ℕ) (set : Sound
         (first-is k (component-there z .0)))
 
 -- THE SLOT IN ITS TABLE: the slots below are left, so it is the path to each candidate one letter longer
-module _ (t : Template) (ns l rows : List ℕ) (j m : ℕ) (path : Path t ns l rows j m) (room : j * 2048 + 2048 ≤ length rows) (ys : List ℕ)
-    (n : length ys ≡ length (midOf (j * 2048) (j * 2048 + 2048 - j * 2048) rows)) where
-  pub pushed-slot : Slot t ns l ys j m → (let rows' = putMid (j * 2048) (j * 2048 + 2048 - j * 2048) rows ys in
+module _ (t : Template) (ns l rows : List ℕ) (j m : ℕ) (path : Path t ns l rows j m) (room : j * 2072 + 2072 ≤ length rows) (ys : List ℕ)
+    (n : length ys ≡ length (midOf (j * 2072) (j * 2072 + 2072 - j * 2072) rows)) where
+  pub pushed-slot : Slot t ns l ys j m → (let rows' = putMid (j * 2072) (j * 2072 + 2072 - j * 2072) rows ys in
       ((x : ℕ) → x < base-of t → Path t ns l rows' (j + 1) (m * base-of t + x)) × (length rows' ≡ length rows))
   unfolding row-slot
   pushed-slot s =
-      let r = part-copied (j * 2048) (j * 2048 + 2048) rows (omega arith) room ys {zs = ys} n refl in
+      let r = part-copied (j * 2072) (j * 2072 + 2072) rows (omega arith) room ys {zs = ys} n refl in
       let e : j + 1 ≡ suc j = omega arith in
       ((λ x h. rw e (pushed t ns l rows _ j m x h path (r .0) (rw (r .2) s))), r .1)

@@ -65,11 +65,11 @@ module _ (t : Template) (ns l slot : List ℕ) (j m : ℕ) where
   base = exact-base t (exact-search t)
 
   -- a table of one slot is that slot
-  whole : length slot ≡ 2048 → row-slot 0 slot ≡ slot
+  whole : length slot ≡ 2072 → row-slot 0 slot ≡ slot
   unfolding row-slot between
-  whole n = take-all 2048 slot (omega arith)
+  whole n = take-all 2072 slot (omega arith)
 
-  pub slot-begin : 1 ≤ j → m < 4 ^ j → length slot ≡ 2048 → Path t ns l slot 1 0 → Slot t ns l slot (1 - 1) (m / 4 ^ (j - 1) / base-of t)
+  pub slot-begin : 1 ≤ j → m < 4 ^ j → length slot ≡ 2072 → Path t ns l slot 1 0 → Slot t ns l slot (1 - 1) (m / 4 ^ (j - 1) / base-of t)
   slot-begin some h n p =
       rw (whole n) at (parent t ns l slot 1 (m / 4 ^ (j - 1)) (replay-begin t ns l slot j m some h p) (omega arith))
 

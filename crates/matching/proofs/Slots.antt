@@ -29,13 +29,13 @@ use Rattle.rows.proofs.Sets.{between-kept}
 some-base : (t : Template) → 1 ≤ base-of t
 some-base t = rw (exact-base t (exact-search t)) (omega arith)
 
--- 2,048 words are enough
+-- 2,072 words are enough
 many : (ns : List ℕ) → 64 * first-word ns (length ns) ≤ 64 * 16 + sum ns + 63 * length ns
 unfolding first-word words-of sum
 many [] = omega arith
 many (n ∷ ns) = omega (arith, many ns)
 
-pub enough : (l ns : List ℕ) → SoundSet l ns → first-word ns (length ns) ≤ 2048
+pub enough : (l ns : List ℕ) → SoundSet l ns → first-word ns (length ns) ≤ 2072
 enough l ns set = omega (arith, many ns, set .short, set .adds, set .few)
 
 module _ (t : Template) (ns l : List ℕ) where
@@ -53,13 +53,13 @@ module _ (t : Template) (ns l : List ℕ) where
 
   -- a slot more: the path to a child
   pub pushed : (rows rows' : List ℕ) (j m x : ℕ) → x < base-of t → Path t ns l rows j m
-      → take (j * 2048) rows' ≡ take (j * 2048) rows
+      → take (j * 2072) rows' ≡ take (j * 2072) rows
       → Slot t ns l (row-slot j rows') j m
       → Path t ns l rows' (suc j) (m * base-of t + x)
   pushed rows rows' j m x b p r f = record { held-at = one }
     where
       row-same : (i : ℕ) → i < j → row-slot i rows' ≡ row-slot i rows
-      row-same i h = unfold row-slot in between-kept (j * 2048) (i * 2048) (i * 2048 + 2048) rows rows' (omega arith) (omega arith) r
+      row-same i h = unfold row-slot in between-kept (j * 2072) (i * 2072) (i * 2072 + 2072) rows rows' (omega arith) (omega arith) r
 
       one : (i k o : ℕ) → i < suc j → At (components t) i k o → Source (before-next reached t k o i ((m * base-of t + x) / base-of t ^ (suc j - i))) ns l (row-slot i rows')
       one i k o h a =
@@ -79,9 +79,9 @@ module _ (t : Template) (ns l : List ℕ) where
   shortened rows j m j' m' p h e = record { held-at = λ i k o u a. rw (e i u) (p .held-at i k o (omega arith) a) }
 
 -- a slot is as long as it should be
-pub row-long : (i : ℕ) (rows : List ℕ) → i * 2048 + 2048 ≤ length rows → length (row-slot i rows) ≡ 2048
+pub row-long : (i : ℕ) (rows : List ℕ) → i * 2072 + 2072 ≤ length rows → length (row-slot i rows) ≡ 2072
 unfolding row-slot between
-row-long i rows h = mid-len (i * 2048) (i * 2048 + 2048) rows h ∙ omega arith
+row-long i rows h = mid-len (i * 2072) (i * 2072 + 2072) rows h ∙ omega arith
 
 -- WHERE A LETTER STANDS is one place
 pub at-one : (cs : List Component) (j k o k' o' : ℕ) → At cs j k o → At cs j k' o' → (k ≡ k') × (o ≡ o')
@@ -100,7 +100,7 @@ slot-at t ns l slot j m k o at s = record { held = λ k' o' b. let u = at-one (c
 
 -- a slot written: the path to the first child
 module _ (t : Template) (ns l : List ℕ) (rows rows' : List ℕ) (j m k o : ℕ) (path : Path t ns l rows j m) (at : At (components t) j k o)
-    (r : take (j * 2048) rows' ≡ take (j * 2048) rows) where
+    (r : take (j * 2072) rows' ≡ take (j * 2072) rows) where
   pub pushed-one : Source (before-next reached t k o j m) ns l (row-slot j rows') → Path t ns l rows' (j + 1) (m * base-of t)
   pushed-one s =
       let e : j + 1 ≡ suc j = omega arith in

@@ -17,9 +17,13 @@ use Rattle.rows.specs.Rows.{window, extended, lettered, padded}
 abbrev pub Row-MARKS : ℕ
 Row-MARKS = SequenceSet-SEQUENCES / Word-BITS
 
--- and those of a row in all: 2,048, for every sequence may leave up to 63 bits of its last word unused
+-- and those of a row in all: 2,048, for every sequence may leave up to 63 bits of its last word unused, and 24 behind them that no
+-- sequence uses
+abbrev pub Row-UNUSED : ℕ
+Row-UNUSED = 24
+
 abbrev pub Row-WORDS : ℕ
-Row-WORDS = Row-MARKS + (SequenceSet-LETTERS + (Word-BITS - 1) * SequenceSet-SEQUENCES) / Word-BITS
+Row-WORDS = Row-MARKS + (SequenceSet-LETTERS + (Word-BITS - 1) * SequenceSet-SEQUENCES) / Word-BITS + Row-UNUSED
 
 -- the words of a sequence of n letters
 unfoldable pub words-of : ℕ → ℕ

@@ -7,11 +7,16 @@ pub mod words;
 
 use rules::SequenceSet;
 
-// The bits of a word; the words of marks, one bit for each sequence that there may be; and the words of a row: its marks, and then
-// each sequence's own, whole words.
+// The bits of a word, and the words of marks, one bit for each sequence that there may be.
 pub const BITS: usize = 64;
 
 pub const MARKS: usize = SequenceSet::SEQUENCES / BITS;
 
+// Words that are left unused behind each row. Tables of rows that all are as long as a power of two would have the same word of each of
+// them in the same few lines of a processor's cache, which then holds too few of them at a time.
+pub const UNUSED: usize = 24;
+
+// The words of a row: its marks, then each sequence's own, whole words, and those that are left unused.
 pub const WORDS: usize = MARKS
-    + (SequenceSet::LETTERS + (BITS - 1) * SequenceSet::SEQUENCES) / BITS;
+    + (SequenceSet::LETTERS + (BITS - 1) * SequenceSet::SEQUENCES) / BITS
+    + UNUSED;

@@ -34,7 +34,7 @@ fill-slot-requires c κs =
     let a = b .args in
     let p = b .pre in
     let z = p .1 .1 .1 .1 .1 .1 .1 in
-    let n = mid-len (a .size * 2048) (a .size * 2048 + 2048) (a .rows .now) (z .0) in
+    let n = mid-len (a .size * 2072) (a .size * 2072 + 2072) (a .rows .now) (z .0) in
     (p .0, (p .1 .0, (p .1 .1 .0, (p .1 .1 .1 .0, (p .1 .1 .1 .1 .0, (p .1 .1 .1 .1 .1 .1 .0, (omega (arith, n), z .1, z .2)))))))
 
 same-length : tie.Need-same-length

@@ -34,7 +34,7 @@ letter-row-requires c κs =
     let s = c .before .before .before .before .before .before .before in
     let a = s .args in
     let p = s .pre in
-    let n = mid-len (a .x * 2048) (a .x * 2048 + 2048) (a .standing .now) (omega (arith, p .1 .1 .1)) in
+    let n = mid-len (a .x * 2072) (a .x * 2072 + 2072) (a .standing .now) (omega (arith, p .1 .1 .1)) in
     (p .0 .adds, (p .1 .0, (p .1 .1 .0, omega (arith, n, enough (a .letters .now) (a .lengths .now) (p .0)))))
 
 same-length : tie.Need-same-length
