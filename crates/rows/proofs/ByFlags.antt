@@ -189,7 +189,7 @@ marks-sum F e (s ∷ ss) (suc n) h = rw (map-run-suc (mark-of F (s ∷ ss)) 0 n,
     go true = omega arith
     go false = omega arith
 
-bit-of : (x : ℕ) (b : Bool) → x ≤ 1 → eqb x 1 ≡ b → x ≡ bit b
+pub bit-of : (x : ℕ) (b : Bool) → x ≤ 1 → eqb x 1 ≡ b → x ≡ bit b
 bit-of x true h e = eqb-true x 1 e
 bit-of x false h e = elim (decLt 0 x) [ yes l ↦ absurd (false≢true (sym e ∙ eq-eqb x 1 (omega arith))) | no l ↦ omega arith ]
 

@@ -27,6 +27,10 @@ pub mod Adding
 pub mod Masking
 pub mod Reaching
 pub mod Walk
+pub mod Tally
+pub mod Lowest
+pub mod Kept
+pub mod Possible
 pub mod Single
 pub mod Opened
 pub mod Marks

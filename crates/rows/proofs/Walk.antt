@@ -40,7 +40,7 @@ pub record Next (ns firsts row : List ℕ) (w k at : ℕ) : Type 0 where
   pub begins : getD firsts at 0 ≡ first-word ns at
   pub ends : getD firsts (at + 1) 0 ≡ first-word ns (at + 1)
 
-clash : {b : Bool} {A : Type 0} → b ≡ false → b ≡ true → A
+pub clash : {b : Bool} {A : Type 0} → b ≡ false → b ≡ true → A
 clash e f = absurd (false≢true (sym e ∙ f))
 
 -- THE WORDS

@@ -10,7 +10,7 @@ use Rattle.rules.specs.Limits.{SequenceSet-SEQUENCES, SequenceSet-LETTERS}
 use Rattle.rules.specs.Lists.{if, sum}
 use Rattle.rules.specs.Sequences.{split, sequences}
 use Rattle.rows.specs.Bits.{Word-BITS, held}
-use Rattle.rows.specs.Flags.{left?}
+use Rattle.rows.specs.Flags.{bit, left?}
 use Rattle.rows.specs.Rows.{window, extended, lettered, padded}
 
 -- the words of marks: sixteen
@@ -56,6 +56,11 @@ bits-at ns k row = held (between (first-word ns k) (first-word ns k + words-of (
 -- whether sequence k has a mark
 unfoldable pub marked? : List ℕ → ℕ → Bool
 marked? row k = eqb (getD (held row) k 0) 1
+
+-- of how many of the n sequences from a on h holds
+unfoldable pub tally : (ℕ → Bool) → ℕ → ℕ → ℕ
+tally h a zero = 0
+tally h a (suc n) = bit (h a) + tally h (suc a) n
 
 -- ONE LETTER MORE, the i-th of its component: the bits of sequence k, and whether it has a mark then: it had one, and a bit is left
 unfoldable pub extended-at : ℕ → List ℕ → List ℕ → List ℕ → ℕ → List ℕ

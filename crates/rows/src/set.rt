@@ -14,7 +14,7 @@ ghost use Rattle.rules.specs.Lists as lists;
 ghost use Rattle.rows.specs.Bits.{held};
 ghost use Rattle.rows.specs.Flags.{left?};
 ghost use Rattle.rows.specs.Rows.{extended, lettered};
-ghost use Rattle.rows.specs.Set.{Row-MARKS, words-of, first-word, Firsts, Offsets, between, bits-at, marked?, extended-at, extended-marked?, lettered-at, Filled, Marked, Bounded};
+ghost use Rattle.rows.specs.Set.{Row-MARKS, words-of, first-word, Firsts, Offsets, between, bits-at, marked?, tally, extended-at, extended-marked?, lettered-at, Filled, Marked, Bounded};
 
 // A word with every bit set.
 const ALL: u64 = 0xFFFF_FFFF_FFFF_FFFF;
@@ -163,7 +163,13 @@ fn keep_sequence(
     keep_between(from, to, row, letter, i, out)
 }
 
-// One letter more in the sequences of one word of marks, those that have one. It answers their new marks.
+// What a letter more makes of a word of marks: those that are left, and how many are lost.
+pub struct Kept {
+    pub left: u64,
+    pub lost: u32,
+}
+
+// One letter more in the sequences of one word of marks, those that have one. It stops where more than `most` of them have lost theirs.
 fn keep_sequences(
     w: usize,
     lengths: &[u32],
@@ -171,57 +177,81 @@ fn keep_sequences(
     row: &[u64],
     letter: &[u64],
     i: usize,
+    most: u32,
     out: &mut [u64],
-) -> u64
+) -> Kept
     requires { ⌜ (w < Row-MARKS) × (length (now lengths) ≤ SequenceSet-SEQUENCES) × (i < 64) ⌝ }
     requires { ⌜ Firsts (now lengths) (now firsts) ⌝ }
     requires { ⌜ Bounded (now lengths) (now row) ⌝ }
     requires { ⌜ (first-word (now lengths) (length (now lengths)) ≤ length (now row)) × (length (now letter) ≡ length (now row)) × (length (now out) ≡ length (now row)) ⌝ }
-    ensures { λ r. ⌜ ((b : ℕ) → b < 64 → eqb (getD (held (r ∷ [])) b 0) 1 ≡ extended-marked? i (now (lengths .entry)) (now (letter .entry)) (now (row .entry)) (w * 64 + b)) ⌝ }
+    ensures { λ r. ⌜ tally (extended-marked? i (now (lengths .entry)) (now (letter .entry)) (now (row .entry))) (w * 64) 64 + r .lost ≤ tally (marked? (now (row .entry))) (w * 64) 64 ⌝ }
+    ensures { λ r. ⌜ (r .lost ≤ most → tally (extended-marked? i (now (lengths .entry)) (now (letter .entry)) (now (row .entry))) (w * 64) 64 + r .lost ≡ tally (marked? (now (row .entry))) (w * 64) 64) ⌝ }
+    ensures { λ r. ⌜ (r .lost ≤ most → (b : ℕ) → b < 64 → eqb (getD (held (r .left ∷ [])) b 0) 1 ≡ extended-marked? i (now (lengths .entry)) (now (letter .entry)) (now (row .entry)) (w * 64 + b)) ⌝ }
     ensures { λ _. ⌜ (take (first-word (now (lengths .entry)) (min (w * 64) (length (now (lengths .entry))))) (now (out .exit)) ≡ take (first-word (now (lengths .entry)) (min (w * 64) (length (now (lengths .entry))))) (now (out .entry))) × (length (now (out .exit)) ≡ length (now (out .entry))) ⌝ }
-    ensures { λ _. ⌜ ((k : ℕ) → w * 64 ≤ k → k < w * 64 + 64 → marked? (now (row .entry)) k ≡ true → bits-at (now (lengths .entry)) k (now (out .exit)) ≡ extended-at i (now (lengths .entry)) (now (letter .entry)) (now (row .entry)) k) ⌝ }
+    ensures { λ r. ⌜ (r .lost ≤ most → (k : ℕ) → w * 64 ≤ k → k < w * 64 + 64 → marked? (now (row .entry)) k ≡ true → bits-at (now (lengths .entry)) k (now (out .exit)) ≡ extended-at i (now (lengths .entry)) (now (letter .entry)) (now (row .entry)) k) ⌝ }
 {
-    let base = BITS * w;
+    let base = w * BITS;
     let mut rest = row[w];
-    let mut k = base;
     let mut left: u64 = 0;
+    let mut lost: u32 = 0;
     while rest != 0 {
+        if most < lost {
+            return Kept { left, lost };
+        }
         let zeros = u64::trailing_zeros(rest);
-        let at = k + zeros as usize;
+        let at = base + zeros as usize;
         let from = firsts[at] as usize;
         let to = firsts[at + 1] as usize;
         let found = keep_sequence(from, to, row, letter, i, out);
-        let b = at - base;
-        left = left | (words::one(found) << b);
-        rest = (rest >> zeros) >> 1;
-        k = at + 1;
+        left = left | (words::one(found) << zeros);
+        lost += words::none(found);
+        rest = rest & (rest - 1);
     }
-    left
+    Kept { left, lost }
 }
 
-// One letter more, the i-th of its component, in every sequence that has a mark: its words, and its new mark.
+// One letter more, the i-th of its component, in every sequence that has a mark: its words, and its new mark. It answers how many have a
+// mark then; or, as soon as fewer than `quorum` can have one, so many as still can, and the rest is not written.
 pub fn keep_all(
     lengths: &[u32],
     firsts: &[u32],
     row: &[u64],
     letter: &[u64],
     i: usize,
+    quorum: u32,
     out: &mut [u64],
-)
+) -> u32
     requires { ⌜ (length (now lengths) ≤ SequenceSet-SEQUENCES) × (i < 64) ⌝ }
     requires { ⌜ Firsts (now lengths) (now firsts) ⌝ }
     requires { ⌜ Bounded (now lengths) (now row) ⌝ }
     requires { ⌜ (first-word (now lengths) (length (now lengths)) ≤ length (now row)) × (length (now letter) ≡ length (now row)) × (length (now out) ≡ length (now row)) ⌝ }
-    ensures { λ _. ⌜ Marked (extended-marked? i (now (lengths .entry)) (now (letter .entry)) (now (row .entry))) (now (out .exit)) SequenceSet-SEQUENCES ⌝ }
-    ensures { λ _. ⌜ Filled (marked? (now (row .entry))) (extended-at i (now (lengths .entry)) (now (letter .entry)) (now (row .entry))) (now (lengths .entry)) (now (out .exit)) (length (now (lengths .entry))) ⌝ }
+    ensures { λ r. ⌜ tally (extended-marked? i (now (lengths .entry)) (now (letter .entry)) (now (row .entry))) 0 SequenceSet-SEQUENCES ≤ r ⌝ }
+    ensures { λ r. ⌜ (quorum ≤ r → r ≡ tally (extended-marked? i (now (lengths .entry)) (now (letter .entry)) (now (row .entry))) 0 SequenceSet-SEQUENCES) ⌝ }
+    ensures { λ r. ⌜ (quorum ≤ r → Marked (extended-marked? i (now (lengths .entry)) (now (letter .entry)) (now (row .entry))) (now (out .exit)) SequenceSet-SEQUENCES) ⌝ }
+    ensures { λ r. ⌜ (quorum ≤ r → Filled (marked? (now (row .entry))) (extended-at i (now (lengths .entry)) (now (letter .entry)) (now (row .entry))) (now (lengths .entry)) (now (out .exit)) (length (now (lengths .entry)))) ⌝ }
     ensures { λ _. ⌜ length (now (out .exit)) ≡ length (now (out .entry)) ⌝ }
 {
+    let mut possible = count(row);
     let mut w = 0;
     while w < MARKS {
-        let left = keep_sequences(w, lengths, firsts, row, letter, i, out);
-        out[w] = left;
+        if possible < quorum {
+            return possible;
+        }
+        let kept = keep_sequences(
+            w,
+            lengths,
+            firsts,
+            row,
+            letter,
+            i,
+            possible - quorum,
+            out,
+        );
+        out[w] = kept.left;
+        possible -= kept.lost;
         w += 1;
     }
+    possible
 }
 
 // Copies the first `n` words of a row into a table, from `a` on.

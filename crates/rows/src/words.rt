@@ -53,6 +53,13 @@ pub fn one(found: bool) -> u64
     if found { 1 } else { 0 }
 }
 
+// 1 of false.
+pub fn none(found: bool) -> u32
+    ensures { λ r. ⌜ r ≡ bit (not found) ⌝ }
+{
+    if found { 0 } else { 1 }
+}
+
 // The bits of a word at which a letter stands in at most 64 letters.
 fn letter_word(letter: u8, sequence: &[u8]) -> u64
     requires { ⌜ length (now sequence) ≤ 64 ⌝ }

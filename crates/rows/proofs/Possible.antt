@@ -1,0 +1,130 @@
+-- How many sequences can still have a mark with one letter more: those that have it already, and of those to come as many as had one. At
+-- the end it is how many have one. Once it is below the quorum, so is that.
+use mathlib.Core.Bool.{Bool, true}
+use mathlib.Core.List.{List, [], _∷_, map}
+use mathlib.Core.Path.{_≡_, refl, sym, ap, _∙_}
+use Prim.Native.Nat.{ℕ, zero, suc, _+_, _-_, _*_, _/_, _%_, _≤_, _<_, min}
+use native.Mathlib.Nat.{zero-add}
+use native.Mathlib.Omega.{arith}
+use lib.Dec.{eqb}
+use lib.ListN.{length, take, getD, set}
+use lib.Seq.{ext-getD, getD-take, length-take-le}
+use Rattle.rules.proofs.Over.{length-map-run, getD-map-run}
+use Rattle.rules.specs.Lists.{run, sum}
+use Rattle.rows.specs.Bits.{held}
+use Rattle.rows.specs.Flags.{bit}
+use Rattle.rows.specs.Set.{Row-MARKS, first-word, bits-at, marked?, tally, extended-at, extended-marked?, Filled, Marked}
+use Rattle.rows.proofs.Bits.{held-at}
+use Rattle.rows.proofs.ByFlags.{bit-of}
+use Rattle.rows.proofs.Digits.{digit}
+use Rattle.rows.proofs.Held.{length-held}
+use Rattle.rows.proofs.Marks.{filled-word, marked-word, marked-none, marked-end}
+use Rattle.rows.proofs.Sets.{filled-none, filled-end}
+use Rattle.rows.proofs.Tally.{tally-zero, tally-append, tally-less}
+use Rattle.rows.proofs.Turns.{bit-small}
+use Rattle.rows.proofs.Walk.{mark-none}
+
+-- a mark as a number
+unfoldable mark-bit : List ℕ → ℕ → ℕ
+mark-bit row k = bit (marked? row k)
+
+mark-bits : (row : List ℕ) (a n : ℕ) → sum (map (mark-bit row) (run a n)) ≡ tally (marked? row) a n
+unfolding sum run tally mark-bit
+mark-bits row a zero = refl
+mark-bits row a (suc n) = ap (λ (x : ℕ). bit (marked? row a) + x) (mark-bits row (suc a) n)
+
+-- the digits of the words of marks are the tally of the marks
+pub marks-tally : (row : List ℕ) → 16 ≤ length row → sum (held (take 16 row)) ≡ tally (marked? row) 0 1024
+unfolding mark-bit marked?
+marks-tally row wide = ap sum marks-list ∙ mark-bits row 0 1024
+  where
+    at : (p : ℕ) → p < 1024 → getD (held (take 16 row)) p 0 ≡ mark-bit row p
+    at p h =
+        let q : p / 64 < 16 = omega arith in
+        held-at (take 16 row) p ∙ ap (λ (w : ℕ). digit w (p % 64)) (getD-take 16 row (p / 64) 0 q) ∙ sym (held-at row p)
+        ∙ bit-of (getD (held row) p 0) (eqb (getD (held row) p 0) 1) (bit-small row p) refl
+
+    marks-list : held (take 16 row) ≡ map (mark-bit row) (run 0 1024)
+    marks-list =
+        let n : length (held (take 16 row)) ≡ 1024 = length-held (take 16 row) ∙ ap (λ (m : ℕ). 64 * m) (length-take-le 16 row wide) in
+        ext-getD 0 (held (take 16 row)) (map (mark-bit row) (run 0 1024)) (n ∙ sym (length-map-run (mark-bit row) 0 1024))
+        (λ p h. at p (rw n at h) ∙ sym (getD-map-run (mark-bit row) 0 0 1024 p (rw n at h) ∙ ap (mark-bit row) (zero-add p)))
+
+module _ (i : ℕ) (ns ls ws : List ℕ) where
+  -- so many can have a mark after the first w words of marks
+  unfoldable pub able : ℕ → ℕ
+  able w = tally (extended-marked? i ns ls ws) 0 (w * 64) + tally (marked? ws) (w * 64) (1024 - w * 64)
+
+  pub record Possible (quorum : ℕ) (out : List ℕ) (possible w : ℕ) : Type 0 where
+    pub most : able w ≤ possible
+    pub exact : quorum ≤ possible → possible ≡ able w
+    pub filled : quorum ≤ possible → Filled (marked? ws) (extended-at i ns ls ws) ns out (min (w * 64) (length ns))
+    pub marks : quorum ≤ possible → Marked (extended-marked? i ns ls ws) out (w * 64)
+
+  less : (a n : ℕ) → tally (extended-marked? i ns ls ws) a n ≤ tally (marked? ws) a n
+  less = tally-less (marked? ws) (extended-marked? i ns ls ws) (λ k e. mark-none i ns ls ws k e)
+
+  pub possible-begin : (quorum : ℕ) (out : List ℕ) {possible : ℕ} → 16 ≤ length ws → possible ≡ sum (held (take 16 ws)) → Possible quorum out possible 0
+  unfolding able
+  possible-begin quorum out wide e =
+      let t = e ∙ marks-tally ws wide in
+      let z = tally-zero (extended-marked? i ns ls ws) 0 in record {
+        most = omega (arith, t, z);
+        exact = λ h. omega (arith, t, z);
+        filled = λ h. filled-none _ _ _ _ _ (omega arith);
+        marks = λ h. marked-none _ _;
+      }
+
+  module _ (quorum : ℕ) (out : List ℕ) (possible w : ℕ) (p : Possible quorum out possible w) where
+    -- no more have one in the end
+    pub possible-most : w ≤ 16 → tally (extended-marked? i ns ls ws) 0 1024 ≤ possible
+    unfolding able
+    possible-most h =
+        let n : 1024 ≡ w * 64 + (1024 - w * 64) = omega arith in
+        let z : 0 + w * 64 ≡ w * 64 = omega arith in
+        let a = ap (tally (extended-marked? i ns ls ws) 0) n ∙ tally-append (extended-marked? i ns ls ws) 0 (w * 64) (1024 - w * 64)
+        ∙ ap (λ (k : ℕ). tally (extended-marked? i ns ls ws) 0 (w * 64) + tally (extended-marked? i ns ls ws) k (1024 - w * 64)) z in
+        omega (arith, a, p .most, less (w * 64) (1024 - w * 64))
+
+    pub possible-end : w ≡ 16 → length ns ≤ 1024 → quorum ≤ possible
+        → (possible ≡ tally (extended-marked? i ns ls ws) 0 1024) × (Marked (extended-marked? i ns ls ws) out 1024) × (Filled (marked? ws) (extended-at i ns ls ws) ns out (length ns))
+    unfolding able
+    possible-end e few h =
+        let n : w * 64 ≡ 1024 = omega arith in
+        let m : 1024 - w * 64 ≡ 0 = omega arith in
+        let x : able w ≡ tally (extended-marked? i ns ls ws) 0 1024 = rw (m, n) (omega (arith, tally-zero (marked? ws) 1024)) in
+        (p .exact h ∙ x, marked-end _ _ _ _ n (p .marks h), filled-end _ _ _ _ _ _ (omega arith) (p .filled h))
+
+    -- A TURN, the next word of marks: of its sequences so many are lost
+    module _ (h : quorum ≤ possible) (s : w < Row-MARKS) (lost : ℕ)
+        (bound : tally (extended-marked? i ns ls ws) (w * 64) 64 + lost ≤ tally (marked? ws) (w * 64) 64) where
+      ahead-of : tally (marked? ws) (w * 64) (1024 - w * 64) ≡ tally (marked? ws) (w * 64) 64 + tally (marked? ws) ((w + 1) * 64) (1024 - (w + 1) * 64)
+      ahead-of =
+          let n : 1024 - w * 64 ≡ 64 + (1024 - (w + 1) * 64) = omega arith in
+          let z : w * 64 + 64 ≡ (w + 1) * 64 = omega arith in
+          ap (tally (marked? ws) (w * 64)) n ∙ tally-append (marked? ws) (w * 64) 64 (1024 - (w + 1) * 64)
+          ∙ ap (λ (k : ℕ). tally (marked? ws) (w * 64) 64 + tally (marked? ws) k (1024 - (w + 1) * 64)) z
+
+      behind-of : tally (extended-marked? i ns ls ws) 0 ((w + 1) * 64) ≡ tally (extended-marked? i ns ls ws) 0 (w * 64) + tally (extended-marked? i ns ls ws) (w * 64) 64
+      behind-of =
+          let n : (w + 1) * 64 ≡ w * 64 + 64 = omega arith in
+          let z : 0 + w * 64 ≡ w * 64 = omega arith in
+          ap (tally (extended-marked? i ns ls ws) 0) n ∙ tally-append (extended-marked? i ns ls ws) 0 (w * 64) 64
+          ∙ ap (λ (k : ℕ). tally (extended-marked? i ns ls ws) 0 (w * 64) + tally (extended-marked? i ns ls ws) k 64) z
+
+      pub lost-most : lost ≤ possible
+      unfolding able
+      lost-most = omega (arith, p .most, bound, ahead-of)
+
+      module _ (y : List ℕ) (left : ℕ) (stays : take (first-word ns (min (w * 64) (length ns))) y ≡ take (first-word ns (min (w * 64) (length ns))) out) (long : Row-MARKS ≤ length y)
+          (tallied : lost ≤ possible - quorum → tally (extended-marked? i ns ls ws) (w * 64) 64 + lost ≡ tally (marked? ws) (w * 64) 64)
+          (lefts : lost ≤ possible - quorum → (b : ℕ) → b < 64 → eqb (getD (held (left ∷ [])) b 0) 1 ≡ extended-marked? i ns ls ws (w * 64 + b))
+          (here : lost ≤ possible - quorum → (k : ℕ) → w * 64 ≤ k → k < w * 64 + 64 → marked? ws k ≡ true → bits-at ns k y ≡ extended-at i ns ls ws k) where
+        pub possible-turn : Possible quorum (set y w left) (possible - lost) (w + 1)
+        unfolding able
+        possible-turn = record {
+          most = omega (arith, p .most, bound, ahead-of, behind-of);
+          exact = λ q. omega (arith, p .exact h, tallied (omega (arith, q, lost-most)), ahead-of, behind-of);
+          filled = λ q. filled-word _ _ _ _ _ s stays _ _ (p .filled h) (here (omega (arith, q, lost-most)));
+          marks = λ q. marked-word _ _ _ _ _ s stays _ (p .marks h) long (lefts (omega (arith, q, lost-most)));
+        }
