@@ -80,6 +80,14 @@ module _ (t : Template) (sound : SoundTemplate t) (l ns : List ℕ) (set : Sound
         (omega (arith, long, enough l ns set)) (row-slot (m % 4) standing) (letter-slot (lettered-at (profile-of t .reading .fits) (m % base-of t) ns (map value l)) ns standing z (ready .letters .rows (m % base-of t) (rw b (omega arith))))
         out (rw e at q) (rw e at n)
 
-    pub kept-support : (out : List ℕ) {r : ℕ} → length out ≡ 2072 → Row (prefix-starts t j m) ns l out → r ≡ sum (held (take 16 out)) → r ≡ support (parts t j m) (sequences l ns)
-    kept-support out w row e =
-        e ∙ row-count ns l (set .adds) (set .few) (prefix-starts t j m) (prefix-long t j m) out (omega arith) row ∙ left-support t sound j m some (sequences l ns)
+    -- where the row is whole its tally is the support
+    whole-support : (out : List ℕ) → length out ≡ 2072 → Row (prefix-starts t j m) ns l out → tally (marked? out) 0 1024 ≡ support (parts t j m) (sequences l ns)
+    whole-support out w row =
+        sym (marks-tally out (omega arith)) ∙ row-count ns l (set .adds) (set .few) (prefix-starts t j m) (prefix-long t j m) out (omega arith) row
+        ∙ left-support t sound j m some (sequences l ns)
+
+    -- and it is that of the new marks, whether they are written or not
+    pub kept-support : (out : List ℕ) → (let i = getD inside (j - 1) 0 % 16 in let x = row-slot (m % 4) standing in
+        length out ≡ 2072 → Row (prefix-starts t j m) ns l out → Marked (extended-marked? i ns x slot) out 1024
+        → tally (extended-marked? i ns x slot) 0 1024 ≡ support (parts t j m) (sequences l ns))
+    kept-support out w row n = ?

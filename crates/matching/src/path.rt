@@ -19,7 +19,8 @@ ghost use Rattle.rows.specs.Set.{Row-WORDS, first-word, Firsts, marked?, window
 // A letter's component and its place there stand in one number, which this divides.
 pub const PLACES: u8 = 16;
 
-// The support of a candidate, and its row, from the slot of the prefix that is one letter shorter.
+// The support of a candidate, and its row, from the slot of the prefix that is one letter shorter. Where the support is below `quorum`, a
+// number may be answered that is below it too, and the row may not be whole.
 fn extend(
     template: Template,
     size: u8,
@@ -30,6 +31,7 @@ fn extend(
     firsts: &[u32],
     standing: &[u64],
     slot: &[u64],
+    quorum: u32,
     work: &mut [u64],
 ) -> u32
     requires { ⌜ SoundTemplate template ⌝ }
@@ -38,8 +40,9 @@ fn extend(
     requires { ⌜ Ready template (now lengths) (now letters) (now inside) (now firsts) (now standing) ⌝ }
     requires { ⌜ Slot template (now lengths) (now letters) (now slot) (size - 1) (number / base-of template) ⌝ }
     requires { ⌜ (length (now slot) ≡ Row-WORDS) × (length (now work) ≡ Row-WORDS) ⌝ }
-    ensures { λ r. ⌜ r ≡ support (parts template size number) (sequences (now (letters .entry)) (now (lengths .entry))) ⌝ }
-    ensures { λ _. ⌜ Row (prefix-starts template size number) (now (lengths .entry)) (now (letters .entry)) (now (work .exit)) ⌝ }
+    ensures { λ r. ⌜ support (parts template size number) (sequences (now (letters .entry)) (now (lengths .entry))) ≤ r ⌝ }
+    ensures { λ r. ⌜ (quorum ≤ r → r ≡ support (parts template size number) (sequences (now (letters .entry)) (now (lengths .entry)))) ⌝ }
+    ensures { λ r. ⌜ (quorum ≤ r → Row (prefix-starts template size number) (now (lengths .entry)) (now (letters .entry)) (now (work .exit))) ⌝ }
     ensures { λ _. ⌜ length (now (work .exit)) ≡ length (now (work .entry)) ⌝ }
 {
     let below = size as usize - 1;
@@ -47,8 +50,7 @@ fn extend(
     let b = x * WORDS;
     let f = b + WORDS;
     let i = (inside[below] % PLACES) as usize;
-    set::keep_all(lengths, firsts, slot, &standing[b..f], i, work);
-    set::count(work)
+    set::keep_all(lengths, firsts, slot, &standing[b..f], i, quorum, work)
 }
 
 // The same for a candidate whose path stands in the slots.
@@ -62,6 +64,7 @@ pub fn support(
     firsts: &[u32],
     standing: &[u64],
     rows: &[u64],
+    quorum: u32,
     work: &mut [u64],
 ) -> u32
     requires { ⌜ SoundTemplate template ⌝ }
@@ -70,8 +73,9 @@ pub fn support(
     requires { ⌜ Ready template (now lengths) (now letters) (now inside) (now firsts) (now standing) ⌝ }
     requires { ⌜ Path template (now lengths) (now letters) (now rows) size number ⌝ }
     requires { ⌜ (size * Row-WORDS ≤ length (now rows)) × (length (now work) ≡ Row-WORDS) ⌝ }
-    ensures { λ r. ⌜ r ≡ support (parts template size number) (sequences (now (letters .entry)) (now (lengths .entry))) ⌝ }
-    ensures { λ _. ⌜ Row (prefix-starts template size number) (now (lengths .entry)) (now (letters .entry)) (now (work .exit)) ⌝ }
+    ensures { λ r. ⌜ support (parts template size number) (sequences (now (letters .entry)) (now (lengths .entry))) ≤ r ⌝ }
+    ensures { λ r. ⌜ (quorum ≤ r → r ≡ support (parts template size number) (sequences (now (letters .entry)) (now (lengths .entry)))) ⌝ }
+    ensures { λ r. ⌜ (quorum ≤ r → Row (prefix-starts template size number) (now (lengths .entry)) (now (letters .entry)) (now (work .exit))) ⌝ }
     ensures { λ _. ⌜ length (now (work .exit)) ≡ length (now (work .entry)) ⌝ }
 {
     let below = size as usize - 1;
@@ -87,6 +91,7 @@ pub fn support(
         firsts,
         standing,
         &rows[a..e],
+        quorum,
         work,
     )
 }
@@ -243,6 +248,7 @@ pub fn replay(
             firsts,
             standing,
             rows,
+            0,
             work,
         );
         push(
@@ -300,6 +306,7 @@ pub fn shorter(
             firsts,
             standing,
             slot,
+            0,
             work,
         );
         fill_slot(

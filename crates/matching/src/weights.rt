@@ -218,6 +218,7 @@ fn count_ways(
             firsts,
             standing,
             rows,
+            0,
             spare,
         );
         lead_all(

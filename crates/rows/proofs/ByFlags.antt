@@ -20,13 +20,14 @@ use Rattle.rules.specs.Sequences.{split, sequences}
 use Rattle.rows.specs.Bits.{held}
 use Rattle.rows.specs.Flags.{bit, kept, reached, left?}
 use Rattle.rows.specs.Rows.{window, lettered, padded}
-use Rattle.rows.specs.Set.{words-of, first-word, between, bits-at, marked?, extended-at, extended-marked?, window-at, lettered-at, Filled, Marked, Bounded, sequence, Row, Source}
+use Rattle.rows.specs.Set.{words-of, first-word, between, bits-at, marked?, tally, extended-at, extended-marked?, window-at, lettered-at, Filled, Marked, Bounded, sequence, Row, Source}
 use Rattle.rows.proofs.Bits.{held-at}
 use Rattle.rows.proofs.Dark.{kept-dark, reached-dark}
 use Rattle.rows.proofs.Digits.{digit}
 use Rattle.rows.proofs.Held.{length-held}
 use Rattle.rows.proofs.Link.{padded-in, length-padded, left-padded, extended-flags, window-flags}
 use Rattle.rows.proofs.Sets.{first-most}
+use Rattle.rows.proofs.Tally.{tally-sum, marks-tally}
 
 room : (n : ℕ) → n ≤ 64 * words-of n
 unfolding words-of
@@ -139,7 +140,8 @@ module _ (ns l : List ℕ) (adds : sum ns ≡ length l) (few : length ns ≤ 102
     G : List ℕ → List ℕ
     G s = kept f x i s (F s)
 
-    mark-same : (k : ℕ) → k < 1024 → extended-marked? i ns letter row k ≡ left? (kept f x i (sequence ns l k) (F (sequence ns l k)))
+    -- whether it is written or not
+    pub mark-same : (k : ℕ) → k < 1024 → extended-marked? i ns letter row k ≡ left? (kept f x i (sequence ns l k) (F (sequence ns l k)))
     unfolding extended-marked?
     mark-same k u = go (marked? row k) refl
       where
@@ -189,29 +191,13 @@ marks-sum F e (s ∷ ss) (suc n) h = rw (map-run-suc (mark-of F (s ∷ ss)) 0 n,
     go true = omega arith
     go false = omega arith
 
-pub bit-of : (x : ℕ) (b : Bool) → x ≤ 1 → eqb x 1 ≡ b → x ≡ bit b
-bit-of x true h e = eqb-true x 1 e
-bit-of x false h e = elim (decLt 0 x) [ yes l ↦ absurd (false≢true (sym e ∙ eq-eqb x 1 (omega arith))) | no l ↦ omega arith ]
-
-mark-is : (row : List ℕ) (k : ℕ) → eqb (getD (held row) k 0) 1 ≡ marked? row k
-unfolding marked?
-mark-is row k = refl
-
-module _ (ns l : List ℕ) (adds : sum ns ≡ length l) (few : length ns ≤ 1024) (F : List ℕ → List ℕ) (same : (s : List ℕ) → length (F s) ≡ length s) (row : List ℕ) (wide : 16 ≤ length row) (is : Row F ns l row) where
-  marks-list : held (take 16 row) ≡ map (mark-of F (sequences l ns)) (run 0 1024)
-  marks-list =
-      let n : length (held (take 16 row)) ≡ 1024 = length-held (take 16 row) ∙ ap (λ (m : ℕ). 64 * m) (length-take-le 16 row wide) in
-      ext-getD 0 (held (take 16 row)) (map (mark-of F (sequences l ns)) (run 0 1024)) (n ∙ sym (length-map-run (mark-of F (sequences l ns)) 0 1024))
-      (λ p h. at p (rw n at h) ∙ sym (getD-map-run (mark-of F (sequences l ns)) 0 0 1024 p (rw n at h) ∙ ap (mark-of F (sequences l ns)) (zero-add p)))
-    where
-      at : (p : ℕ) → p < 1024 → getD (held (take 16 row)) p 0 ≡ mark-of F (sequences l ns) p
-      at p h =
-          let q : p / 64 < 16 = omega arith in
-          held-at (take 16 row) p ∙ ap (λ (w : ℕ). digit w (p % 64)) (getD-take 16 row (p / 64) 0 q) ∙ sym (held-at row p)
-          ∙ bit-of (getD (held row) p 0) (left? (F (sequence ns l p))) (bit-small row p) (mark-is row p ∙ is .marks-are p h)
-
-  -- the marks of a row are as many as the sequences in which a flag is left
-  pub row-count : sum (held (take 16 row)) ≡ length (keep (λ b. b) (map (λ s. left? (F s)) (sequences l ns)))
-  row-count =
-      ap sum marks-list
+module _ (ns l : List ℕ) (adds : sum ns ≡ length l) (few : length ns ≤ 1024) (F : List ℕ → List ℕ) (same : (s : List ℕ) → length (F s) ≡ length s) where
+  -- marks that say where a flag is left are as many as the sequences in which one is
+  pub flags-tally : (h : ℕ → Bool) → ((k : ℕ) → k < 1024 → h k ≡ left? (F (sequence ns l k))) → tally h 0 1024 ≡ length (keep (λ b. b) (map (λ s. left? (F s)) (sequences l ns)))
+  flags-tally h q =
+      tally-sum h (mark-of F (sequences l ns)) 0 1024 (λ k a u. ap bit (q k (omega arith)))
       ∙ marks-sum F (nothing-left ns l adds few (F []) (same [])) (sequences l ns) 1024 (unfold sequences in rw split-count few)
+
+  -- and so are those of a row
+  pub row-count : (row : List ℕ) → 16 ≤ length row → Row F ns l row → sum (held (take 16 row)) ≡ length (keep (λ b. b) (map (λ s. left? (F s)) (sequences l ns)))
+  row-count row wide is = marks-tally row wide ∙ flags-tally (marked? row) (is .marks-are)

@@ -1,54 +1,19 @@
 -- How many sequences can still have a mark with one letter more: those that have it already, and of those to come as many as had one. At
 -- the end it is how many have one. Once it is below the quorum, so is that.
-use mathlib.Core.Bool.{Bool, true}
-use mathlib.Core.List.{List, [], _∷_, map}
-use mathlib.Core.Path.{_≡_, refl, sym, ap, _∙_}
-use Prim.Native.Nat.{ℕ, zero, suc, _+_, _-_, _*_, _/_, _%_, _≤_, _<_, min}
-use native.Mathlib.Nat.{zero-add}
+use mathlib.Core.Bool.{true}
+use mathlib.Core.List.{List, [], _∷_}
+use mathlib.Core.Path.{_≡_, ap, _∙_}
+use Prim.Native.Nat.{ℕ, _+_, _-_, _*_, _≤_, _<_, min}
 use native.Mathlib.Omega.{arith}
 use lib.Dec.{eqb}
 use lib.ListN.{length, take, getD, set}
-use lib.Seq.{ext-getD, getD-take, length-take-le}
-use Rattle.rules.proofs.Over.{length-map-run, getD-map-run}
-use Rattle.rules.specs.Lists.{run, sum}
+use Rattle.rules.specs.Lists.{sum}
 use Rattle.rows.specs.Bits.{held}
-use Rattle.rows.specs.Flags.{bit}
 use Rattle.rows.specs.Set.{Row-MARKS, first-word, bits-at, marked?, tally, extended-at, extended-marked?, Filled, Marked}
-use Rattle.rows.proofs.Bits.{held-at}
-use Rattle.rows.proofs.ByFlags.{bit-of}
-use Rattle.rows.proofs.Digits.{digit}
-use Rattle.rows.proofs.Held.{length-held}
 use Rattle.rows.proofs.Marks.{filled-word, marked-word, marked-none, marked-end}
 use Rattle.rows.proofs.Sets.{filled-none, filled-end}
-use Rattle.rows.proofs.Tally.{tally-zero, tally-append, tally-less}
-use Rattle.rows.proofs.Turns.{bit-small}
+use Rattle.rows.proofs.Tally.{tally-zero, tally-append, tally-less, marks-tally}
 use Rattle.rows.proofs.Walk.{mark-none}
-
--- a mark as a number
-unfoldable mark-bit : List ℕ → ℕ → ℕ
-mark-bit row k = bit (marked? row k)
-
-mark-bits : (row : List ℕ) (a n : ℕ) → sum (map (mark-bit row) (run a n)) ≡ tally (marked? row) a n
-unfolding sum run tally mark-bit
-mark-bits row a zero = refl
-mark-bits row a (suc n) = ap (λ (x : ℕ). bit (marked? row a) + x) (mark-bits row (suc a) n)
-
--- the digits of the words of marks are the tally of the marks
-pub marks-tally : (row : List ℕ) → 16 ≤ length row → sum (held (take 16 row)) ≡ tally (marked? row) 0 1024
-unfolding mark-bit marked?
-marks-tally row wide = ap sum marks-list ∙ mark-bits row 0 1024
-  where
-    at : (p : ℕ) → p < 1024 → getD (held (take 16 row)) p 0 ≡ mark-bit row p
-    at p h =
-        let q : p / 64 < 16 = omega arith in
-        held-at (take 16 row) p ∙ ap (λ (w : ℕ). digit w (p % 64)) (getD-take 16 row (p / 64) 0 q) ∙ sym (held-at row p)
-        ∙ bit-of (getD (held row) p 0) (eqb (getD (held row) p 0) 1) (bit-small row p) refl
-
-    marks-list : held (take 16 row) ≡ map (mark-bit row) (run 0 1024)
-    marks-list =
-        let n : length (held (take 16 row)) ≡ 1024 = length-held (take 16 row) ∙ ap (λ (m : ℕ). 64 * m) (length-take-le 16 row wide) in
-        ext-getD 0 (held (take 16 row)) (map (mark-bit row) (run 0 1024)) (n ∙ sym (length-map-run (mark-bit row) 0 1024))
-        (λ p h. at p (rw n at h) ∙ sym (getD-map-run (mark-bit row) 0 0 1024 p (rw n at h) ∙ ap (mark-bit row) (zero-add p)))
 
 module _ (i : ℕ) (ns ls ws : List ℕ) where
   -- so many can have a mark after the first w words of marks

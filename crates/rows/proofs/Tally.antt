@@ -1,12 +1,24 @@
 -- Tallies: of how many sequences something holds, taken apart where a walk over them stands.
-use mathlib.Core.Bool.{Bool, true, false}
+use mathlib.Core.Bool.{Bool, true, false, false≢true}
 use mathlib.Core.List.{List, [], _∷_, map}
 use mathlib.Core.Path.{_≡_, refl, sym, ap, _∙_}
-use Prim.Native.Nat.{ℕ, zero, suc, _+_, _-_, _/_, _%_, _≤_, _<_}
+use Prim.Native.Nat.{ℕ, zero, suc, _+_, _-_, _*_, _/_, _%_, _≤_, _<_}
 use native.Mathlib.Nat.{zero-add, suc-add}
+use native.Mathlib.Decide.{decLt}
 use native.Mathlib.Omega.{arith}
+use lib.Dec.{eqb}
+use lib.ListN.{length, take, getD}
+use borrow.Author.Tests.{eq-eqb, eqb-true}
+use lib.Seq.{ext-getD, getD-take, length-take-le}
+use Rattle.rules.proofs.Over.{length-map-run, getD-map-run}
+use Rattle.rules.specs.Lists.{run, sum}
+use Rattle.rows.specs.Bits.{held}
 use Rattle.rows.specs.Flags.{bit}
-use Rattle.rows.specs.Set.{tally}
+use Rattle.rows.specs.Set.{marked?, tally}
+use Rattle.rows.proofs.Bits.{held-at}
+use Rattle.rows.proofs.Digits.{digit}
+use Rattle.rows.proofs.Held.{length-held}
+use Rattle.rows.proofs.Turns.{bit-small}
 
 bit-most : (b : Bool) → bit b ≤ 1
 bit-most true = omega arith
@@ -41,6 +53,15 @@ module _ (h : ℕ → Bool) where
   tally-most a zero = omega arith
   tally-most a (suc n) = omega (arith, bit-most (h a), tally-most (suc a) n)
 
+  -- it is a sum
+  pub tally-sum : (f : ℕ → ℕ) (a n : ℕ) → ((k : ℕ) → a ≤ k → k < a + n → bit (h k) ≡ f k) → tally h a n ≡ sum (map f (run a n))
+  unfolding tally sum run
+  tally-sum f a zero q = refl
+  tally-sum f a (suc n) q =
+      let e : bit (h a) ≡ f a = q a (omega arith) (omega arith) in
+      let r = tally-sum f (suc a) n (λ k l u. q k (omega arith) (omega arith)) in
+      omega (arith, e, r)
+
   -- one alone
   tally-one : (a : ℕ) → tally h a 1 ≡ bit (h a)
   unfolding tally
@@ -74,3 +95,28 @@ module _ (g h : ℕ → Bool) where
       let e : bit (h a) ≡ bit (g a) = ap bit (q a (omega arith) (omega arith)) in
       let r = tally-same (suc a) n (λ k l u. q k (omega arith) (omega arith)) in
       omega (arith, e, r)
+
+bit-of : (x : ℕ) (b : Bool) → x ≤ 1 → eqb x 1 ≡ b → x ≡ bit b
+bit-of x true h e = eqb-true x 1 e
+bit-of x false h e = elim (decLt 0 x) [ yes l ↦ absurd (false≢true (sym e ∙ eq-eqb x 1 (omega arith))) | no l ↦ omega arith ]
+
+-- a mark as a number
+unfoldable mark-bit : List ℕ → ℕ → ℕ
+mark-bit row k = bit (marked? row k)
+
+-- the digits of the words of marks are the tally of the marks
+pub marks-tally : (row : List ℕ) → 16 ≤ length row → sum (held (take 16 row)) ≡ tally (marked? row) 0 1024
+unfolding mark-bit marked?
+marks-tally row wide = ap sum marks-list ∙ sym (tally-sum (marked? row) (mark-bit row) 0 1024 (λ k l u. refl))
+  where
+    at : (p : ℕ) → p < 1024 → getD (held (take 16 row)) p 0 ≡ mark-bit row p
+    at p h =
+        let q : p / 64 < 16 = omega arith in
+        held-at (take 16 row) p ∙ ap (λ (w : ℕ). digit w (p % 64)) (getD-take 16 row (p / 64) 0 q) ∙ sym (held-at row p)
+        ∙ bit-of (getD (held row) p 0) (eqb (getD (held row) p 0) 1) (bit-small row p) refl
+
+    marks-list : held (take 16 row) ≡ map (mark-bit row) (run 0 1024)
+    marks-list =
+        let n : length (held (take 16 row)) ≡ 1024 = length-held (take 16 row) ∙ ap (λ (m : ℕ). 64 * m) (length-take-le 16 row wide) in
+        ext-getD 0 (held (take 16 row)) (map (mark-bit row) (run 0 1024)) (n ∙ sym (length-map-run (mark-bit row) 0 1024))
+        (λ p h. at p (rw n at h) ∙ sym (getD-map-run (mark-bit row) 0 0 1024 p (rw n at h) ∙ ap (mark-bit row) (zero-add p)))
