@@ -20,11 +20,10 @@ use Rattle.rows.specs.Bits.{held}
 use Rattle.rows.specs.Flags.{reached}
 use Rattle.matching.specs.Path.{row-slot, prefix-starts, before-next, Slot, Inside, Ready}
 use Rattle.rows.specs.Prefix.{At, letters-before}
-use Rattle.rows.specs.Set.{marked?, extended-at, extended-marked?, lettered-at, Filled, Marked, Bounded, Row, Source}
-use Rattle.rows.proofs.ByFlags.{row-count}
+use Rattle.rows.specs.Set.{marked?, tally, extended-at, extended-marked?, lettered-at, Filled, Marked, Bounded, Row, Source}
 use Rattle.matching.proofs.Counted.{left-support}
 use Rattle.matching.proofs.Slots.{enough}
-use Rattle.matching.proofs.Steps.{small-letter, prefix-long, candidate-row}
+use Rattle.matching.proofs.Steps.{small-letter, candidate-row, candidate-tally}
 
 -- each letter stands somewhere
 pub record Somewhere (cs : List Component) (d : ℕ) : Type 0 where
@@ -69,25 +68,26 @@ module _ (t : Template) (sound : SoundTemplate t) (l ns : List ℕ) (set : Sound
   pub below-bounded : Bounded ns slot
   below-bounded = record { none = source .past }
 
+  -- the letter's own row
+  of-letter : Filled (λ _. true) (lettered-at (profile-of t .reading .fits) (m % base-of t) ns (map value l)) ns (row-slot (m % 4) standing) (length ns)
+  of-letter =
+      let b = exact-base t (exact-search t) in
+      let z : m % base-of t ≡ m % 4 = ap (λ (x : ℕ). m % x) b in
+      letter-slot (lettered-at (profile-of t .reading .fits) (m % base-of t) ns (map value l)) ns standing z (ready .letters .rows (m % base-of t) (rw b (omega arith)))
+
   module _ (long : length slot ≡ 2072) where
     pub kept-row : (out : List ℕ) → (let i = getD inside (j - 1) 0 % 16 in let x = row-slot (m % 4) standing in
         Filled (marked? slot) (extended-at i ns x slot) ns out (length ns) → Marked (extended-marked? i ns x slot) out 1024 → Row (prefix-starts t j m) ns l out)
     kept-row out q n =
         let e = inside-letter t sound inside (ready .placed) (j - 1) (here .component) (here .letter) (here .at) in
-        let b = exact-base t (exact-search t) in
-        let z : m % base-of t ≡ m % 4 = ap (λ (x : ℕ). m % x) b in
         candidate-row t sound j m (here .component) (here .letter) some (here .at) l ns set slot source
-        (omega (arith, long, enough l ns set)) (row-slot (m % 4) standing) (letter-slot (lettered-at (profile-of t .reading .fits) (m % base-of t) ns (map value l)) ns standing z (ready .letters .rows (m % base-of t) (rw b (omega arith))))
-        out (rw e at q) (rw e at n)
+        (omega (arith, long, enough l ns set)) (row-slot (m % 4) standing) of-letter out (rw e at q) (rw e at n)
 
-    -- where the row is whole its tally is the support
-    whole-support : (out : List ℕ) → length out ≡ 2072 → Row (prefix-starts t j m) ns l out → tally (marked? out) 0 1024 ≡ support (parts t j m) (sequences l ns)
-    whole-support out w row =
-        sym (marks-tally out (omega arith)) ∙ row-count ns l (set .adds) (set .few) (prefix-starts t j m) (prefix-long t j m) out (omega arith) row
+    -- the new marks, written or not, are as many as the support
+    pub kept-support : (let i = getD inside (j - 1) 0 % 16 in let x = row-slot (m % 4) standing in
+        tally (extended-marked? i ns x slot) 0 1024 ≡ support (parts t j m) (sequences l ns))
+    kept-support =
+        let e = inside-letter t sound inside (ready .placed) (j - 1) (here .component) (here .letter) (here .at) in
+        ap (λ (i : ℕ). tally (extended-marked? i ns (row-slot (m % 4) standing) slot) 0 1024) e
+        ∙ candidate-tally t sound j m (here .component) (here .letter) some (here .at) l ns set slot source (omega (arith, long, enough l ns set)) (row-slot (m % 4) standing) of-letter
         ∙ left-support t sound j m some (sequences l ns)
-
-    -- and it is that of the new marks, whether they are written or not
-    pub kept-support : (out : List ℕ) → (let i = getD inside (j - 1) 0 % 16 in let x = row-slot (m % 4) standing in
-        length out ≡ 2072 → Row (prefix-starts t j m) ns l out → Marked (extended-marked? i ns x slot) out 1024
-        → tally (extended-marked? i ns x slot) 0 1024 ≡ support (parts t j m) (sequences l ns))
-    kept-support out w row n = ?

@@ -8,17 +8,19 @@ use lib.ListN.{length}
 use Rattle.rules.proofs.Components.{components-at, components-length, components-some}
 use Rattle.rules.proofs.Spelling.{spell-more, length-spell}
 use Rattle.rules.specs.Letters.{value}
+use Rattle.rules.specs.Lists.{keep}
 use Rattle.rules.specs.Motif.{spell}
 use Rattle.rules.specs.Profile.{profile-of, base-of}
+use Rattle.rules.specs.Sequences.{sequences}
 use Rattle.rules.specs.Sound.{SoundSet, SoundTemplate}
 use Rattle.rules.specs.Support.{parts-in}
 use Rattle.rules.specs.Template.{components, deal}
 use Rattle.rules.specs.declared.Template.{Template}
-use Rattle.rows.specs.Flags.{kept, reached, last-by}
+use Rattle.rows.specs.Flags.{kept, reached, last-by, left?}
 use Rattle.matching.specs.Path.{prefix-starts, before-next}
 use Rattle.rows.specs.Prefix.{At}
-use Rattle.rows.specs.Set.{first-word, marked?, extended-at, extended-marked?, lettered-at, Filled, Marked, Row, Source}
-use Rattle.rows.proofs.ByFlags.{letter-row, row-same}
+use Rattle.rows.specs.Set.{first-word, sequence, marked?, tally, extended-at, extended-marked?, lettered-at, Filled, Marked, Row, Source}
+use Rattle.rows.proofs.ByFlags.{mark-same, letter-row, row-same, flags-tally}
 use Rattle.rows.proofs.Grow.{grow}
 use Rattle.rows.proofs.Last.{length-last, length-before-letter, length-reached}
 
@@ -57,3 +59,12 @@ module _ (t : Template) (sound : SoundTemplate t) (j m k i : ℕ) (some : 1 ≤ 
       row-same ns l (set .adds) (set .few) _ (prefix-starts t j m) out
       (letter-row ns l (set .adds) (set .few) (before-next reached t k i (j - 1) (m / base-of t)) (before-long t k i (j - 1) (m / base-of t)) row source wide (profile-of t .reading .fits) (m % base-of t) i letter of-letter out q n)
       (more reached)
+
+  -- and the new marks, written or not, are as many as the sequences in which a flag is left
+  pub candidate-tally : (l ns : List ℕ) → SoundSet l ns → (row : List ℕ) → Source (before-next reached t k i (j - 1) (m / base-of t)) ns l row
+      → first-word ns (length ns) ≤ length row → (letter : List ℕ) → Filled (λ _. true) (lettered-at (profile-of t .reading .fits) (m % base-of t) ns (map value l)) ns letter (length ns)
+      → tally (extended-marked? i ns letter row) 0 1024 ≡ length (keep (λ b. b) (map (λ s. left? (prefix-starts t j m s)) (sequences l ns)))
+  candidate-tally l ns set row source wide letter of-letter =
+      flags-tally ns l (set .adds) (set .few) (prefix-starts t j m) (prefix-long t j m) (extended-marked? i ns letter row)
+      (λ n h. mark-same ns l (set .adds) (set .few) (before-next reached t k i (j - 1) (m / base-of t)) (before-long t k i (j - 1) (m / base-of t)) row source wide (profile-of t .reading .fits) (m % base-of t) i letter of-letter n h
+      ∙ ap left? (more reached (sequence ns l n)))

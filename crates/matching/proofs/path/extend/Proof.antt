@@ -1,4 +1,4 @@
--- The slot below and the letter's row give the candidate's row, and its marks its support.
+-- The slot below and the letter's row give the candidate's row where it is made whole, and its marks, written or not, its support.
 use mathlib.Core.Path.{_∙_}
 use Prim.Native.Nat.{_%_}
 use native.Mathlib.Omega.{arith}
@@ -11,7 +11,6 @@ use Rattle.matching.proofs.path.extend.Statement.{statement}
 use Rattle.matching.proofs.path.extend.Tie as tie
 use Rattle.matching.proofs.path.extend.Reads as reads
 use Rattle.matching.proofs.path.extend.Lts as lts
-use Rattle.rows.proofs.set.count.Reads as count-reads
 use Rattle.rows.proofs.set.keep_all.Reads as keep-all-reads
 
 sub-below : tie.Need-sub-below
@@ -53,23 +52,20 @@ keep-all-requires c κs =
     let letter = row-long (a .number % 4) (a .standing .now) (omega (arith, p .1 .1 .1 .0 .letters .long)) in
     ((p .1 .0 .few, omega arith), (p .1 .1 .1 .0 .laid, (bounded, (omega (arith, long .0, enough (a .letters .now) (a .lengths .now) (p .1 .0)), omega (arith, long .0, letter), omega (arith, long .0, long .1)))))
 
-count-requires : tie.Need-count-requires
-count-requires c κs = search needs
-
 same-length : tie.Need-same-length
 same-length c = search needs
 
 returns : tie.Need-returns
 unfolding row-slot between
 returns c =
-    let b = c .before .before .before .before .before .before .before .before .before .before .before .before .before .before .before in
+    let b = c .before .before .before .before .before .before .before .before .before .before .before .before .before in
     let a = b .args in
     let p = b .pre in
-    let k = c .before .before .before .before .keep-all .ensures in
+    let k = c .before .before .keep-all .ensures in
     let deep = p .1 .1 .0 in
     let long = p .1 .1 .1 .1 .1 in
-    let row = kept-row (a .template) (p .0) (a .letters .now) (a .lengths .now) (p .1 .0) (a .size) (a .number) (deep .0) (deep .1) _ _ _ (a .slot .now) (p .1 .1 .1 .0) (p .1 .1 .1 .1 .0) (long .0) _ (k .1 .0) (k .0) in
-    (kept-support (a .template) (p .0) (a .letters .now) (a .lengths .now) (p .1 .0) (a .size) (a .number) (deep .0) (deep .1) _ _ _ (a .slot .now) (p .1 .1 .1 .0) (p .1 .1 .1 .1 .0) (long .0) _ (k .1 .1 ∙ long .1) row (c .count .ensures), (row, k .1 .1))
+    let all = kept-support (a .template) (p .0) (a .letters .now) (a .lengths .now) (p .1 .0) (a .size) (a .number) (deep .0) (deep .1) _ _ _ (a .slot .now) (p .1 .1 .1 .0) (p .1 .1 .1 .1 .0) (long .0) in
+    (omega (arith, all, k .0), ((λ h. k .1 .0 h ∙ all), ((λ h. kept-row (a .template) (p .0) (a .letters .now) (a .lengths .now) (p .1 .0) (a .size) (a .number) (deep .0) (deep .1) _ _ _ (a .slot .now) (p .1 .1 .1 .0) (p .1 .1 .1 .1 .0) (long .0) _ (k .1 .1 .1 .0 h) (k .1 .1 .0 h)), k .1 .1 .1 .1)))
 
 pub extend-spec : {M : Type 1} → statement M
 extend-spec =
@@ -85,6 +81,5 @@ extend-spec =
     part-keep-all-start
     part-keep-all-end
     keep-all-requires
-    count-requires
     same-length
     returns)

@@ -165,14 +165,14 @@ lead-all-requires c κs =
         (
           p .1 .1 .1 .1 .0,
           (
-            row-bounded _ _ (p .1 .0 .adds) (p .1 .0 .few) _ (prefix-long (s .args .template) _ _) _ (r .1 .0),
+            row-bounded _ _ (p .1 .0 .adds) (p .1 .0 .few) _ (prefix-long (s .args .template) _ _) _ (r .1 .1 .0 (omega arith)),
             (
               (
-                omega (arith, enough _ _ (p .1 .0), r .1 .1, q .before .loop .inv .3, o .1),
-                omega (arith, r .1 .1, q .before .loop .inv .3, o .1),
+                omega (arith, enough _ _ (p .1 .0), r .1 .1 .1, q .before .loop .inv .3, o .1),
+                omega (arith, r .1 .1 .1, q .before .loop .inv .3, o .1),
                 omega (arith, p .1 .0 .adds, o .2, ways-long q),
               ),
-              next-small t _ _ (p .1 .0) (s .args .motif) _ _ (q .before .loop .inv .5) (r .1 .0),
+              next-small t _ _ (p .1 .0) (s .args .motif) _ _ (q .before .loop .inv .5) (r .1 .1 .0 (omega arith)),
             ),
           ),
         ),
@@ -197,9 +197,9 @@ loop-again c =
       omega arith,
       omega (arith, t .less),
       rw z (next-letters t),
-      n .1 .1 ∙ q .before .loop .inv .3,
+      n .1 .1 .1 ∙ q .before .loop .inv .3,
       r .1 ∙ q .before .loop .inv .4,
-      rw z (next-led t _ _ (p .1 .0) (s .args .motif) _ _ (q .before .loop .inv .5) (n .1 .0) _ (r .0)),
+      rw z (next-led t _ _ (p .1 .0) (s .args .motif) _ _ (q .before .loop .inv .5) (n .1 .1 .0 (omega arith)) _ (r .0)),
     )
 
 same-length : tie.Need-same-length Inv-loop μ-loop
