@@ -73,3 +73,7 @@ module _ (letters lengths : List ℕ) (s : Search) (h : 1 ≤ s .place .letters)
             ∙ sym (exact-frequent (s .template) (exact-search (s .template)) (s .quorum) (sequences letters lengths) (s .place .letters - 1) (s .place .number / Letter-BASES) (omega arith))
             ∙ passes-some letters lengths s h)
       ]
+
+-- so a place of one letter is always a candidate
+pub passes-one : (letters lengths : List ℕ) (s : Search) → s .place .letters ≡ 1 → true ≡ passes? letters lengths s
+passes-one letters lengths s e = passes-by letters lengths s (omega (arith, e)) {found = 0} (λ h. absurd (omega (arith, e, h))) (rw (le-leb (s .place .letters) 1 (omega (arith, e))) refl)

@@ -117,32 +117,82 @@ pub fn check_passes(
     Checked::refuse_if(!through, Refusal::NotACandidate)
 }
 
-// 13, for a caller that goes on with no leg: the tables are made for it alone.
+// Whether the place of a search, one with letters, is a candidate, for a caller that goes on with no leg. The tables are made for it
+// alone, with one slot instead of a path.
+fn candidate_alone(letters: &[u8], lengths: &[u32], s: Search) -> bool
+    requires { ⌜ SoundSet (now letters) (now lengths) ⌝ }
+    requires { ⌜ SoundTemplate (s .template) ⌝ }
+    requires { ⌜ place-rule? (s .template) (s .place) ≡ true ⌝ }
+    requires { ⌜ 1 ≤ s .place .letters ⌝ }
+    ensures { λ r. ⌜ r ≡ passes? (now (letters .entry)) (now (lengths .entry)) s ⌝ }
+{
+    let place = s.place;
+    let size = place.letters;
+    let number = place.number;
+    let template = s.template;
+    let quorum = s.quorum;
+    let mut inside = [0u8; matching::LETTERS];
+    let mut firsts = [0u32; matching::ENDS];
+    let mut offsets = [0u32; matching::ENDS];
+    let mut standing = [0u64; matching::STANDING];
+    let mut slot = [0u64; matching::WORDS];
+    let mut work = [0u64; matching::WORDS];
+    let mut spare = [0u64; matching::WORDS];
+    tables::make(
+        template,
+        letters,
+        lengths,
+        &mut inside,
+        &mut firsts,
+        &mut offsets,
+        &mut standing,
+        &mut slot,
+    );
+    let found = path::shorter(
+        template,
+        size,
+        number,
+        &inside,
+        letters,
+        lengths,
+        &firsts,
+        &standing,
+        &mut slot,
+        &mut work,
+        &mut spare,
+    );
+    frequent(size, quorum, found)
+}
+
+// Whether the place of a search is the ended place or a candidate, the same as `passes` for a caller that goes on with no leg: the
+// ended place and a place of one letter need no table.
+fn passes_alone(letters: &[u8], lengths: &[u32], s: Search) -> bool
+    requires { ⌜ SoundSet (now letters) (now lengths) ⌝ }
+    requires { ⌜ SoundTemplate (s .template) ⌝ }
+    requires { ⌜ place-rule? (s .template) (s .place) ≡ true ⌝ }
+    ensures { λ r. ⌜ r ≡ passes? (now (letters .entry)) (now (lengths .entry)) s ⌝ }
+{
+    let place = s.place;
+    let size = place.letters;
+    let ended = place.number == 0;
+    if size == 0 {
+        return ended;
+    }
+    if size == 1 {
+        return true;
+    }
+    candidate_alone(letters, lengths, s)
+}
+
+// 13, for a caller that goes on with no leg.
 pub fn check_13(letters: &[u8], lengths: &[u32], s: Search) -> Checked
     requires { ⌜ SoundSet (now letters) (now lengths) ⌝ }
     requires { ⌜ SoundTemplate (s .template) ⌝ }
     requires { ⌜ place-rule? (s .template) (s .place) ≡ true ⌝ }
     ensures { λ r. ⌜ toldChecked r ≡ check13 (now (letters .entry)) (now (lengths .entry)) s ⌝ }
 {
-    let mut inside = [0u8; matching::LETTERS];
-    let mut firsts = [0u32; matching::ENDS];
-    let mut offsets = [0u32; matching::ENDS];
-    let mut standing = [0u64; matching::STANDING];
-    let mut rows = [0u64; matching::SLOTS];
-    let mut work = [0u64; matching::WORDS];
-    let mut spare = [0u64; matching::WORDS];
-    check_passes(
-        letters,
-        lengths,
-        s,
-        &mut inside,
-        &mut firsts,
-        &mut offsets,
-        &mut standing,
-        &mut rows,
-        &mut work,
-        &mut spare,
-    )
+    let alone = passes_alone(letters, lengths, s);
+    Checked::refuse_if(!alone, Refusal::NotACandidate)
 }
 
 // 1 to 4, 5, 23, 6, 7, 8, 12, 9: what a leg or a save checks of its search before 13.
