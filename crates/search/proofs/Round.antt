@@ -4,9 +4,10 @@ use mathlib.Core.Logic.{inl, inr}
 use mathlib.Core.Bool.{Bool, true, false, _&&_, false≢true}
 use mathlib.Core.List.{List, map}
 use Prim.Native.Nat.{ℕ, _+_, _^_, _≤_, _<_}
+use native.Mathlib.Decide.{decLt}
 use native.Mathlib.Omega.{arith}
 use lib.ListN.{length, set, drop, length-append, length-drop, length-map}
-use borrow.Author.Tests.{eqb-true, eqb-false}
+use borrow.Author.Tests.{eqb-true, eqb-false, leb-true, lt-leb}
 use lib.Dec.{eqb, leb}
 use Rattle.rules.specs.Calls.{moved, motif-parts, stretch, supports-of, weights-of}
 use Rattle.rules.specs.Legs.{Stop, leg}
@@ -85,14 +86,14 @@ module _ (letters lengths : List ℕ) (s : Search) (o : SoundSearch letters leng
       -- a step that lists its candidate if it is a motif: the row has its number, its support and its weighted support
       pub run-step : {motifs′ supports′ weights′ : List ℕ} {rows′ found : ℕ} (hit : Bool) → motif (walk-of letters lengths s) p ≡ hit → hit && eqb rows room ≡ false
           → room ≤ length motifs₀ → room ≤ length supports₀ → room ≤ length weights₀
-          → found ≡ support (parts (s .template) (p .letters) (p .number)) (sequences letters lengths)
+          → (hit ≡ true → found ≡ support (parts (s .template) (p .letters) (p .number)) (sequences letters lengths))
           → motifs′ ≡ if hit (set motifs rows (p .number)) motifs → supports′ ≡ if hit (set supports rows found) supports → weights′ ≡ if hit (set weights rows (weight (motif-parts s (p .number)) (sequences letters lengths))) weights
           → rows′ ≡ if hit (rows + 1) rows → Running motifs′ supports′ weights′ (steps + 1) rows′ q
       unfolding motif walk-in
       run-step {motifs′} {supports′} {weights′} {rows′} {found} true m k lm ls lw f em es ew er =
           let u : rows < room = omega (arith, r .follow .rows, eqb-false rows room k) in
           let d : p .letters ≡ size (s .template) = eqb-true _ _ (both _ _ .0 m .0) in
-          let g : found ≡ support (motif-parts s (p .number)) (sequences letters lengths) = rw d at f in
+          let g : found ≡ support (motif-parts s (p .number)) (sequences letters lengths) = rw d at (f refl) in
           rw er (run-lists m u (omega arith) (omega arith) (omega arith) em (rw g at es) ew)
       run-step false m k lm ls lw f em es ew er = rw (em, es, ew, er) (run-passes m)
 
@@ -139,11 +140,27 @@ pub next-is : (letters lengths : List ℕ) (s : Search) (depth : ℕ) (p : Place
     → next (four (frequent (s .template) (s .quorum) (sequences letters lengths)) depth) p ≡ q → next (walk-of letters lengths s) p ≡ q
 next-is letters lengths s depth p d e = rw (walk-four letters lengths s depth d) at e
 
--- a candidate is frequent if its support reaches the quorum
-pub frequent-is : (letters lengths : List ℕ) (s : Search) (p : Place) {found : ℕ} {good : Bool} → 1 ≤ p .letters → found ≡ support (parts (s .template) (p .letters) (p .number)) (sequences letters lengths)
+-- a candidate is frequent if its support reaches the quorum: what was found is at least that, and is that where it reaches the quorum
+reach-same : (quorum : ℕ) {found n : ℕ} → n ≤ found → (quorum ≤ found → found ≡ n) → leb quorum found ≡ leb quorum n
+reach-same quorum {found} {n} l e =
+    elim (decLt found quorum) [
+      | yes u ↦ lt-leb quorum found u ∙ sym (lt-leb quorum n (omega arith))
+      | no u ↦ ap (leb quorum) (e (omega arith))
+    ]
+
+pub frequent-is : (letters lengths : List ℕ) (s : Search) (p : Place) {found : ℕ} {good : Bool} → 1 ≤ p .letters
+    → support (parts (s .template) (p .letters) (p .number)) (sequences letters lengths) ≤ found
+    → (s .quorum ≤ found → found ≡ support (parts (s .template) (p .letters) (p .number)) (sequences letters lengths))
     → good ≡ leb (s .quorum) found → good ≡ frequent (s .template) (s .quorum) (sequences letters lengths) (p .letters) (p .number)
-frequent-is letters lengths s p h f g =
-    g ∙ rw f (sym (exact-frequent (s .template) (exact-search (s .template)) (s .quorum) (sequences letters lengths) (p .letters) (p .number) h))
+frequent-is letters lengths s p h l f g =
+    g ∙ reach-same (s .quorum) l f ∙ sym (exact-frequent (s .template) (exact-search (s .template)) (s .quorum) (sequences letters lengths) (p .letters) (p .number) h)
+
+-- a listed candidate reaches it, and so does one under which the search goes on
+pub hit-reaches : (a : Bool) {hit good : Bool} (quorum found : ℕ) → hit ≡ (a && good) → good ≡ leb quorum found → hit ≡ true → quorum ≤ found
+hit-reaches a {good = good} quorum found e g h = leb-true quorum found (sym g ∙ both a good .0 (sym e ∙ h) .1)
+
+pub down-reaches : (b : Bool) {good : Bool} (quorum found : ℕ) → good ≡ leb quorum found → good && b ≡ true → quorum ≤ found
+down-reaches b {good} quorum found g h = leb-true quorum found (sym g ∙ both good b .0 h .0)
 
 -- a motif that is not one too many has a row in each table
 pub row-left : (hit : Bool) (rows room : ℕ) (motifs supports weights : List ℕ) → hit && eqb rows room ≡ false → rows ≤ room → room ≡ room-of motifs supports weights → hit ≡ true

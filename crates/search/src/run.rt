@@ -166,7 +166,7 @@ fn keep(
     requires { ⌜ Inside template (now inside) ⌝ }
     requires { ⌜ Firsts (now lengths) (now firsts) ⌝ }
     requires { ⌜ Path template (now lengths) (now letters) (now slots) size number ⌝ }
-    requires { ⌜ Row (prefix-starts template size number) (now lengths) (now letters) (now work) ⌝ }
+    requires { ⌜ (down ≡ true → Row (prefix-starts template size number) (now lengths) (now letters) (now work)) ⌝ }
     requires { ⌜ (length (now slots) ≡ Template-LETTERS * Row-WORDS) × (length (now work) ≡ Row-WORDS) × (length (now spare) ≡ Row-WORDS) ⌝ }
     ensures { λ _. ⌜ (down ≡ true → Path template (now (lengths .entry)) (now (letters .entry)) (now (slots .exit)) (size + 1) (number * Letter-BASES)) ⌝ }
     ensures { λ _. ⌜ (down ≡ false → now (slots .exit) ≡ now (slots .entry)) ⌝ }
@@ -219,6 +219,7 @@ pub fn run(
 {
     let template = s.template;
     let quorum = s.quorum;
+    let reach = quorum as u32;
     let depth = template.letters() as u8;
     let room = least(motifs.len(), least(supports.len(), weights.len()));
     let bits = last_bits(template);
@@ -242,6 +243,7 @@ pub fn run(
             firsts,
             standing,
             slots,
+            reach,
             work,
         );
         let frequent = reaches(quorum, found);

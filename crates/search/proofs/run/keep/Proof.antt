@@ -15,7 +15,7 @@ push-requires c κs =
     let z = p .1 .1 .1 .1 .1 .1 .1 in
     let h = p .1 .1 .0 .1 (t .if1 .taken) in
     let d = p .1 .0 .deep in
-    (p .1 .0, (p .0, ((p .1 .1 .0 .0, h), (p .1 .1 .1 .0, (p .1 .1 .1 .1 .0, (p .1 .1 .1 .1 .1 .0, (p .1 .1 .1 .1 .1 .1 .0, (omega (arith, h, d, z .0), z .1, z .2))))))))
+    (p .1 .0, (p .0, ((p .1 .1 .0 .0, h), (p .1 .1 .1 .0, (p .1 .1 .1 .1 .0, (p .1 .1 .1 .1 .1 .0, (p .1 .1 .1 .1 .1 .1 .0 (t .if1 .taken), (omega (arith, h, d, z .0), z .1, z .2))))))))
 
 same-length : tie.Need-same-length
 same-length c = search needs

@@ -5,6 +5,7 @@ use mathlib.Core.List.{List}
 use mathlib.Core.Path.{_≡_, refl, sym, _∙_}
 use Prim.Native.Nat.{ℕ, _-_, _/_, _^_, _≤_, _<_}
 use native.Mathlib.Omega.{arith}
+use lib.Dec.{eqb}
 use lib.ListN.{length}
 use borrow.Author.Needs.{needs}
 use borrow.Author.Tests.{eqb-true}
@@ -21,13 +22,13 @@ use Rattle.matching.specs.Path.{Made}
 use Rattle.matching.specs.Weights.{prefix-of, Counted}
 use Rattle.search.specs.Told.{room-of}
 use Rattle.search.proofs.Follow.{follow-ended, follow-spent, follow-full}
-use Rattle.search.proofs.Round.{Running, run-start, run-depth, run-below, run-step, run-done, motif-is, next-is, frequent-is, row-left, run-lengths}
+use Rattle.search.proofs.Round.{Running, run-start, run-depth, run-below, run-step, run-done, motif-is, next-is, frequent-is, hit-reaches, down-reaches, row-left, run-lengths}
 use Rattle.search.proofs.Turn.{tables-still, none-counted, hit-whole, down-short, prefix-fits, counted-as, below-whole, made-whole, row-whole, made-next}
 use Rattle.search.proofs.run.run.Statement.{statement}
 use Rattle.search.proofs.run.run.Tie as tie
 
 abbrev Inv-loop : tie.InvT-loop
-Inv-loop letters lengths s budget motifs₀ supports₀ weights₀ inside firsts offsets standing slots₀ work₀ spare₀ ways₀ template quorum depth room bits j₀ m₀ steps₀ rows₀ counted₀ motifs supports weights slots work spare ways j m steps rows counted =
+Inv-loop letters lengths s budget motifs₀ supports₀ weights₀ inside firsts offsets standing slots₀ work₀ spare₀ ways₀ template quorum reach depth room bits j₀ m₀ steps₀ rows₀ counted₀ motifs supports weights slots work spare ways j m steps rows counted =
     (o : SoundSearch letters lengths s) × Running letters lengths s o budget room motifs₀ supports₀ weights₀ motifs supports weights steps rows (place j m)
     × (1 ≤ j → Made (s .template) lengths letters inside firsts offsets standing slots j m) × Counted (s .template) lengths letters counted ways
     × (depth ≡ size (s .template)) × (room ≡ room-of motifs₀ supports₀ weights₀)
@@ -35,7 +36,7 @@ Inv-loop letters lengths s budget motifs₀ supports₀ weights₀ inside firsts
     × (length slots ≡ length slots₀) × (length work ≡ length work₀) × (length spare ≡ length spare₀) × (length ways ≡ length ways₀)
 
 abbrev μ-loop : tie.MeasureT-loop
-μ-loop letters lengths s budget motifs₀ supports₀ weights₀ inside firsts offsets standing slots₀ work₀ spare₀ ways₀ template quorum depth room bits j₀ m₀ steps₀ rows₀ counted₀ motifs supports weights slots work spare ways j m steps rows counted =
+μ-loop letters lengths s budget motifs₀ supports₀ weights₀ inside firsts offsets standing slots₀ work₀ spare₀ ways₀ template quorum reach depth room bits j₀ m₀ steps₀ rows₀ counted₀ motifs supports weights slots work spare ways j m steps rows counted =
     budget - steps
 
 -- at the loop's test
@@ -77,13 +78,17 @@ module _ (d : tie.After-listed Inv-loop μ-loop) where
   less = omega (arith, top .loop .inv .1 .follow .steps, d .before .before .before .before .before .before .before .if1 .left)
 
   good : d .before .reaches .result ≡ frequent (s .template) (s .quorum) (sequences letters lengths) (top .loop .j) (top .loop .m)
-  good = frequent-is letters lengths s (place (top .loop .j) (top .loop .m)) some (supported .support .ensures .0) (d .before .reaches .ensures)
+  good = frequent-is letters lengths s (place (top .loop .j) (top .loop .m)) some (supported .support .ensures .0) (supported .support .ensures .1 .0) (d .before .reaches .ensures)
 
   listed : motif (walk-of letters lengths s) (place (top .loop .j) (top .loop .m)) ≡ d .listed .result
   listed = motif-is letters lengths s (place (top .loop .j) (top .loop .m)) _ _ _ (top .loop .inv .4) good (d .listed .ensures)
 
   whole : d .listed .result ≡ true → top .loop .j ≡ top .before .before .before .before .before .letters .result
   whole = hit-whole (top .loop .j) _ _ (d .listed .ensures)
+
+  -- and what was found of it reaches the quorum
+  hits : d .listed .result ≡ true → s .quorum ≤ supported .support .result
+  hits = hit-reaches (eqb (top .loop .j) (top .before .before .before .before .before .letters .result)) (s .quorum) _ (d .listed .ensures) (d .before .reaches .ensures)
 
 -- once it is known that there is room for it
 module _ (e : tie.Else2 Inv-loop μ-loop) where
@@ -102,6 +107,12 @@ judged w = w .before .before .before .before .before .before .before .before .be
 -- and where that is, from before the next place
 abbrev written : tie.After-slice-known15 Inv-loop μ-loop → tie.After-list Inv-loop μ-loop
 written k = k .before .before .before .before .before .before .before .before .before .before .before .before .before .before .before .before .before .before .before
+
+cast-reach : tie.Need-cast-reach Inv-loop μ-loop
+cast-reach c =
+    let a = c .before .before .before .before .before .before .before .before .before .before .before .before .before .before in
+    let o = search-sound (a .args .letters .now) (a .args .lengths .now) (a .args .s) (a .pre .0) in
+    omega (arith, o .most, o .set .few)
 
 letters-requires : tie.Need-letters-requires Inv-loop μ-loop
 letters-requires c κs = search needs
@@ -175,7 +186,7 @@ list-requires c κs =
     let l = top d in
     let i = l .loop .inv in
     let p = start l .pre in
-    let r = supported d .support .ensures .1 in (
+    let r = supported d .support .ensures .1 .1 in (
       i .0 .set,
       (
         i .0 .template,
@@ -187,7 +198,7 @@ list-requires c κs =
               left e,
               (
                 λ h. (i .4, below-whole (l .loop .j) (l .loop .m) (whole d h) (below l), prefixed l),
-                (λ h. made-whole (l .loop .j) (l .loop .m) (whole d h) (i .2 (some d)), (λ h. row-whole (s d .template) (l .loop .j) (l .loop .m) (whole d h) (r .0), i .3)),
+                (λ h. made-whole (l .loop .j) (l .loop .m) (whole d h) (i .2 (some d)), (λ h. row-whole (s d .template) (l .loop .j) (l .loop .m) (whole d h) (r .0 (hits d h)), i .3)),
               ),
             ),
           ),
@@ -208,8 +219,8 @@ keep-requires c κs =
     let i = l .loop .inv in
     let t = start l .pre .1 .0 in
     let m = i .2 (some d) in
-    let r = supported d .support .ensures .1 in
-    (i .0 .set, (i .0 .template, ((some d, down-short (l .loop .j) _ _ (d .before .reaches .result) (i .4)), (m .ready .placed, (m .ready .laid, (m .path, (r .0, (i .9 ∙ t .rows-long, r .1 ∙ i .10 ∙ t .work-long, w .list .ensures .1 .1 .1 .1 .1 .0 ∙ i .11 ∙ t .spare-long))))))))
+    let r = supported d .support .ensures .1 .1 in
+    (i .0 .set, (i .0 .template, ((some d, down-short (l .loop .j) _ _ (d .before .reaches .result) (i .4)), (m .ready .placed, (m .ready .laid, (m .path, ((λ h. r .0 (down-reaches _ (s d .quorum) _ (d .before .reaches .ensures) h)), (i .9 ∙ t .rows-long, r .1 ∙ i .10 ∙ t .work-long, w .list .ensures .1 .1 .1 .1 .1 .0 ∙ i .11 ∙ t .spare-long))))))))
 
 next-place-requires : tie.Need-next-place-requires Inv-loop μ-loop
 next-place-requires c κs =
@@ -233,7 +244,7 @@ loop-again c =
     let k = c .before .before .before .before .before .keep .ensures in
     let e = c .next-place .ensures _ (sym (good d)) in
     let n = run-step _ _ _ (i .0) _ _ _ _ _ (i .1) (some d) (less d) (next-is (letters d) (lengths d) (s d) _ (place (l .loop .j) (l .loop .m)) (i .4) e) _ (listed d) (w .before .before .before .before .before .before .before .before .if2 .left)
-    (omega (arith, i .5)) (omega (arith, i .5)) (omega (arith, i .5)) (v .0) (r .1 .0) (r .1 .1 .0) (r .1 .1 .1 .0) (r .0) in
+    (omega (arith, i .5)) (omega (arith, i .5)) (omega (arith, i .5)) (λ h. v .1 .0 (hits d h)) (r .1 .0) (r .1 .1 .0) (r .1 .1 .1 .0) (r .0) in
     let t = run-lengths _ _ _ (i .0) _ _ _ _ _ n (i .5) in (
       i .0,
       n,
@@ -245,7 +256,7 @@ loop-again c =
       t .1,
       t .2,
       k .1 .1 .0 ∙ i .9,
-      v .1 .1 ∙ i .10,
+      v .1 .1 .1 ∙ i .10,
       k .1 .1 .1 ∙ r .1 .1 .1 .1 .1 .0 ∙ i .11,
       r .1 .1 .1 .1 .1 .1 ∙ i .12,
     )
@@ -263,7 +274,7 @@ pub run-spec : {M : Type 1} → statement M
 run-spec =
     tie.close
     (tie.spec
-    Inv-loop μ-loop letters-requires cast-depth least-requires least-requires-2 last-bits-requires loop-holds
+    Inv-loop μ-loop cast-reach letters-requires cast-depth least-requires least-requires-2 last-bits-requires loop-holds
     stopped-requires (λ c. search needs) (λ c. search needs) (λ c. search needs) (λ c. search needs) (λ c. search needs) (λ c. search needs) (λ c. search needs) returns
     support-requires reaches-requires listed-requires
     stopped-requires-2 (λ c. search needs) (λ c. search needs) (λ c. search needs) (λ c. search needs) (λ c. search needs) (λ c. search needs) (λ c. search needs) returns-2
