@@ -1,4 +1,6 @@
--- The counts at which a word has a bit, added: a jump over trailing zeros passes only places that add nothing.
+-- The counts at which a word has a bit, added: a jump over trailing zeros passes only places that add nothing. And those of a row: what a
+-- part of it adds, one word or a stretch of them, and what comes after it add up to the whole; a stretch of empty words adds nothing.
+use mathlib.Core.Bool.{true, not}
 use mathlib.Core.List.{List, [], _∷_, map}
 use mathlib.Core.Path.{_≡_, refl, sym, ap, _∙_}
 use Prim.Native.Nat.{ℕ, zero, suc, _+_, _-_, _*_, _/_, _%_, _^_, _≤_, _<_, min}
@@ -6,16 +8,19 @@ use native.Mathlib.Decide.{decLt}
 use native.Mathlib.Nat.{add-zero, sub-zero, zero-add, pow-suc, div-lt-iff-lt-mul}
 use native.Mathlib.Omega.{arith}
 use lib.Count.{trailingZeros}
-use lib.ListN.{length, take, drop, getD, length-drop}
+use lib.ListN.{length, take, drop, getD, length-drop, List·getD-eq-default}
 use lib.Seq.{length-take-le, getD-take, getD-drop}
 use lib.Pow.{pow-pos, pow-mono, shr-shr, shr-le, shr-lt}
+use borrow.Author.Tests.{not-true}
 use Rattle.rules.proofs.Tables.{sum-append}
 use Rattle.rules.specs.Lists.{run, sum}
 use Rattle.rows.specs.Bits.{held}
-use Rattle.rows.specs.Flags.{masked-at, masked}
+use Rattle.rows.specs.Flags.{left?, masked-at, masked}
 use Rattle.rows.proofs.Back.{map-split}
-use Rattle.rows.proofs.Bits.{getD-held, digit-none}
+use Rattle.rows.proofs.Bits.{getD-held, held-at, digit-none}
+use Rattle.rows.proofs.Dark.{none-set}
 use Rattle.rows.proofs.Digits.{digit, digit-shr, digit-past}
+use Rattle.rows.proofs.Held.{length-held}
 use Rattle.rows.proofs.Zeros.{zeros-below, zeros-at}
 
 -- SUMS over a run of places
@@ -111,7 +116,7 @@ module _ (word : ℕ) (counts : List ℕ) where
       pub rest-next : rest / 2 ^ trailingZeros 64 rest / 2 ≡ word / 2 ^ (o + trailingZeros 64 rest + 1)
       rest-next = ap (λ (x : ℕ). x / 2 ^ trailingZeros 64 rest / 2) e ∙ shr-more o (trailingZeros 64 rest)
 
--- A ROW, word by word: what is left to add from word q on
+-- A ROW, part by part: what is left to add from word q on
 unfoldable pub row-left : List ℕ → List ℕ → ℕ → ℕ
 row-left row counts q = sum (map (masked-at (held row) counts) (run (64 * q) (length counts - 64 * q)))
 
@@ -144,6 +149,10 @@ below-pow (suc k) m w l h =
           below-pow k m w (omega arith) (λ b i j. h b i (omega arith)))
     ]
 
+-- the counts from word q up to place `to`
+abbrev pub part : List ℕ → ℕ → ℕ → List ℕ
+part counts q to = take (to - 64 * q) (drop (64 * q) counts)
+
 module _ (row counts : List ℕ) where
   pub row-all : 0 + row-left row counts 0 ≡ sum (masked (held row) counts)
   unfolding row-left masked
@@ -153,58 +162,120 @@ module _ (row counts : List ℕ) where
   unfolding row-left run sum
   row-end q h = let z : length counts - 64 * q ≡ 0 = omega arith in rw z
 
-  module _ (q : ℕ) {to : ℕ} (e : to ≡ min (64 * q + 64) (length counts)) (low : 64 * q ≤ length counts) where
-    -- the counts of word q
-    abbrev part : List ℕ
-    part = take (to - 64 * q) (drop (64 * q) counts)
-
-    part-length : length part ≡ to - 64 * q
+  -- A PART, from word q up to word e
+  module _ (q e : ℕ) {to : ℕ} (ends : to ≡ min (64 * e) (length counts)) (low : 64 * q ≤ length counts) (some : q ≤ e) where
+    pub part-length : length (part counts q to) ≡ to - 64 * q
     part-length = length-take-le (to - 64 * q) (drop (64 * q) counts) (rw length-drop (omega arith))
 
-    pub part-few : length part ≤ 64
-    part-few = omega (arith, part-length)
+    -- words that have the bits that the row has there
+    module _ (ws : List ℕ) (same : (i : ℕ) → i < 64 * (e - q) → getD (held ws) i 0 ≡ getD (held row) (64 * q + i) 0) where
+      part-at : (i : ℕ) → i < to - 64 * q → masked-at (held ws) (part counts q to) (0 + i) ≡ masked-at (held row) counts (64 * q + i)
+      unfolding masked-at
+      part-at i h =
+          let z : 0 + i ≡ i = omega arith in
+          rw (z, same i (omega arith), getD-take (to - 64 * q) (drop (64 * q) counts) i 0 h, getD-drop (64 * q) counts i 0)
 
-    part-at : (i : ℕ) → i < to - 64 * q → masked-at (held (getD row q 0 ∷ [])) part (0 + i) ≡ masked-at (held row) counts (64 * q + i)
-    unfolding masked-at
-    part-at i h =
-        let z : 0 + i ≡ i = omega arith in
+      -- mask its counts as the row does
+      pub part-masked : masked (held ws) (part counts q to) ≡ map (masked-at (held row) counts) (run (64 * q) (to - 64 * q))
+      unfolding masked
+      part-masked =
+          rw part-length
+          (run-like (masked-at (held ws) (part counts q to)) (masked-at (held row) counts) 0 (64 * q) (to - 64 * q) part-at)
+
+      part-sum : sum (masked (held ws) (part counts q to)) ≡ sum (map (masked-at (held row) counts) (run (64 * q) (to - 64 * q)))
+      part-sum = ap sum part-masked
+
+      rest-sum : sum (map (masked-at (held row) counts) (run (64 * q + (to - 64 * q)) (length counts - to))) ≡ row-left row counts e
+      unfolding row-left run sum
+      rest-sum =
+          elim (decLt (length counts) (64 * e)) [
+            | yes l ↦ (
+                let z : length counts - to ≡ 0 = omega arith in
+                let y : length counts - 64 * e ≡ 0 = omega arith in
+                rw (z, y))
+            | no n ↦ (
+                let z : length counts - to ≡ length counts - 64 * e = omega arith in
+                let y : 64 * q + (to - 64 * q) ≡ 64 * e = omega arith in
+                rw (z, y))
+          ]
+
+      pub part-next : row-left row counts q ≡ sum (masked (held ws) (part counts q to)) + row-left row counts e
+      unfolding row-left
+      part-next =
+          let z : length counts - 64 * q ≡ to - 64 * q + (length counts - to) = omega arith in
+          ap (λ (n : ℕ). sum (map (masked-at (held row) counts) (run (64 * q) n))) z
+          ∙ run-split (masked-at (held row) counts) (64 * q) (to - 64 * q) (length counts - to)
+          ∙ rw (part-sum, rest-sum)
+
+  -- ONE WORD
+  module _ (q : ℕ) {to : ℕ} (e : to ≡ min (64 * q + 64) (length counts)) (low : 64 * q ≤ length counts) where
+    word-ends : to ≡ min (64 * (q + 1)) (length counts)
+    word-ends = omega arith
+
+    word-length : length (part counts q to) ≡ to - 64 * q
+    word-length = part-length q (q + 1) word-ends low (omega arith)
+
+    pub word-few : length (part counts q to) ≤ 64
+    word-few = omega (arith, word-length)
+
+    word-same : (i : ℕ) → i < 64 * (q + 1 - q) → getD (held (getD row q 0 ∷ [])) i 0 ≡ getD (held row) (64 * q + i) 0
+    word-same i h =
         let c : q * 64 + i ≡ 64 * q + i = omega arith in
-        let b : getD (held row) (64 * q + i) 0 ≡ digit (getD row q 0) i = rw c at (getD-held row q i (omega arith)) in
-        rw (z, bit-at (getD row q 0) counts i (omega arith), b, getD-take (to - 64 * q) (drop (64 * q) counts) i 0 h, getD-drop (64 * q) counts i 0)
+        bit-at (getD row q 0) counts i (omega arith) ∙ sym (rw c at (getD-held row q i (omega arith)))
 
-    -- they are what the row has there
-    pub part-masked : masked (held (getD row q 0 ∷ [])) part ≡ map (masked-at (held row) counts) (run (64 * q) (to - 64 * q))
-    unfolding masked
-    part-masked = rw part-length (run-like (masked-at (held (getD row q 0 ∷ [])) part) (masked-at (held row) counts) 0 (64 * q) (to - 64 * q) part-at)
+    pub word-masked : masked (held (getD row q 0 ∷ [])) (part counts q to)
+        ≡ map (masked-at (held row) counts) (run (64 * q) (to - 64 * q))
+    word-masked = part-masked q (q + 1) word-ends low (omega arith) (getD row q 0 ∷ []) word-same
 
-    part-sum : sum (masked (held (getD row q 0 ∷ [])) part) ≡ sum (map (masked-at (held row) counts) (run (64 * q) (to - 64 * q)))
-    part-sum = ap sum part-masked
-
-    rest-sum : sum (map (masked-at (held row) counts) (run (64 * q + (to - 64 * q)) (length counts - to))) ≡ row-left row counts (q + 1)
-    unfolding row-left run sum
-    rest-sum =
-        elim (decLt (length counts) (64 * q + 64)) [
-          | yes l ↦ (
-              let z : length counts - to ≡ 0 = omega arith in
-              let y : length counts - 64 * (q + 1) ≡ 0 = omega arith in
-              rw (z, y))
-          | no n ↦ (
-              let z : length counts - to ≡ length counts - 64 * (q + 1) = omega arith in
-              let y : 64 * q + (to - 64 * q) ≡ 64 * (q + 1) = omega arith in
-              rw (z, y))
-        ]
-
-    pub row-next : row-left row counts q ≡ sum (masked (held (getD row q 0 ∷ [])) part) + row-left row counts (q + 1)
-    unfolding row-left
-    row-next =
-        let z : length counts - 64 * q ≡ to - 64 * q + (length counts - to) = omega arith in
-        ap (λ (n : ℕ). sum (map (masked-at (held row) counts) (run (64 * q) n))) z
-        ∙ run-split (masked-at (held row) counts) (64 * q) (to - 64 * q) (length counts - to)
-        ∙ rw (part-sum, rest-sum)
+    pub word-next : row-left row counts q ≡ sum (masked (held (getD row q 0 ∷ [])) (part counts q to)) + row-left row counts (q + 1)
+    word-next = part-next q (q + 1) word-ends low (omega arith) (getD row q 0 ∷ []) word-same
 
     -- and where the row has no bit past the last count, the word is no longer than they are
-    pub part-fits : getD row q 0 < 2 ^ 64 → ((p : ℕ) → length counts ≤ p → getD (held row) p 0 ≡ 0) → getD row q 0 < 2 ^ length part
-    part-fits h dark =
-        rw part-length (below-pow 64 (to - 64 * q) (getD row q 0) h (λ b i j.
+    pub word-fits : getD row q 0 < 2 ^ 64 → ((p : ℕ) → length counts ≤ p → getD (held row) p 0 ≡ 0)
+        → getD row q 0 < 2 ^ length (part counts q to)
+    word-fits h dark =
+        rw word-length (below-pow 64 (to - 64 * q) (getD row q 0) h (λ b i j.
         let c : q * 64 + b ≡ 64 * q + b = omega arith in
         sym (getD-held row q b j) ∙ rw c (dark (64 * q + b) (omega arith))))
+
+  -- A STRETCH of words, which has counts and no bit past them, as the row does
+  module _ (q e : ℕ) {to : ℕ} (ends : to ≡ min (64 * e) (length counts)) (low : 64 * q ≤ length counts)
+      (some : q ≤ e) (inside : e ≤ length row) where
+    abbrev stretch : List ℕ
+    stretch = take (e - q) (drop q row)
+
+    stretch-length : length stretch ≡ e - q
+    stretch-length = length-take-le (e - q) (drop q row) (rw length-drop (omega arith))
+
+    stretch-same : (i : ℕ) → i < 64 * (e - q) → getD (held stretch) i 0 ≡ getD (held row) (64 * q + i) 0
+    stretch-same i h =
+        let w : q + i / 64 ≡ (64 * q + i) / 64 = omega arith in
+        let b : i % 64 ≡ (64 * q + i) % 64 = omega arith in
+        held-at stretch i
+        ∙ ap (λ (v : ℕ). digit v (i % 64)) (getD-take (e - q) (drop q row) (i / 64) 0 (omega arith) ∙ getD-drop q row (i / 64) 0)
+        ∙ rw (w, b) (sym (held-at row (64 * q + i)))
+
+    pub stretch-next : row-left row counts q ≡ sum (masked (held stretch) (part counts q to)) + row-left row counts e
+    stretch-next = part-next q e ends low some stretch stretch-same
+
+    pub stretch-counts : 64 * length row ≤ length counts + 63
+        → (64 * length stretch ≤ length (part counts q to) + 63) × (length (part counts q to) ≤ 64 * length stretch)
+    stretch-counts h =
+        let n = part-length q e ends low some in
+        (omega (arith, n, stretch-length), omega (arith, n, stretch-length))
+
+    pub stretch-dark : ((p : ℕ) → length counts ≤ p → getD (held row) p 0 ≡ 0)
+        → (p : ℕ) → length (part counts q to) ≤ p → getD (held stretch) p 0 ≡ 0
+    stretch-dark dark p h =
+        elim (decLt p (64 * (e - q))) [
+          | yes l ↦ (stretch-same p l ∙ dark (64 * q + p) (omega (arith, part-length q e ends low some)))
+          | no n ↦ List·getD-eq-default (held stretch) 0 {n = p} (rw (length-held stretch, stretch-length) (omega arith))
+        ]
+
+-- EMPTY WORDS add nothing
+pub empty-sum : (row counts : List ℕ) → not (left? row) ≡ true → 0 ≡ sum (masked (held row) counts)
+unfolding masked
+empty-sum row counts e = sym (run-zeros (masked-at (held row) counts) 0 (length counts) (λ i _ _. off i))
+  where
+    off : (i : ℕ) → masked-at (held row) counts i ≡ 0
+    off i = unfold masked-at in rw (held-at row i, none-set row (not-true (left? row) e) (i / 64), digit-none (i % 64))

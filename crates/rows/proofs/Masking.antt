@@ -12,7 +12,7 @@ use Rattle.rules.specs.Lists.{run, over}
 use Rattle.rules.proofs.Over.{getD-map-run, length-map-run, map-one}
 use Rattle.rows.specs.Bits.{held}
 use Rattle.rows.specs.Flags.{masked-at, masked}
-use Rattle.rows.proofs.Adding.{part-masked}
+use Rattle.rows.proofs.Adding.{word-masked}
 use Rattle.rows.proofs.Back.{map-split}
 use Rattle.rows.proofs.Letters.{zero-bit}
 
@@ -55,7 +55,7 @@ module _ (row l : List ℕ) (from : ℕ) {to : ℕ} (whole : from % 64 ≡ 0) (i
   here =
       let z : 64 * (from / 64) ≡ from = omega arith in
       let g : to ≡ min (64 * (from / 64) + 64) (length l) = omega arith in
-      rw (rest) (rw z at (part-masked row l (from / 64) g (omega arith)))
+      rw (rest) (rw z at (word-masked row l (from / 64) g (omega arith)))
 
   after : drop (to - from) (drop from x) ≡ drop to l
   after = let z : from + (to - from) ≡ to = omega arith in ap (drop (to - from)) rest ∙ drop-drop (to - from) from l ∙ ap (λ (k : ℕ). drop k l) z

@@ -13,6 +13,9 @@ ghost use Rattle.rules.specs.Lists.{if, sum};
 ghost use Rattle.rows.specs.Bits.{held};
 ghost use Rattle.rows.specs.Flags.{Count-MOST, ago, recent, around, back, added, left?, masked};
 
+// The words of a stretch: so many of a long row are looked at together.
+const STRETCH: usize = 16;
+
 // The count, where the bit is 1, and else 0.
 fn when(bit: u64, count: u64) -> u64
     ensures { λ r. ⌜ r ≡ if (eqb bit 1) count 0 ⌝ }
@@ -171,8 +174,8 @@ fn add_word(word: u64, counts: &[u64]) -> u64
     total
 }
 
-// The sum of the counts of the places at which a row has a bit.
-pub fn add(row: &[u64], counts: &[u64]) -> u64
+// The sum of the counts of the places at which some words of a row have a bit, word by word.
+fn add_words(row: &[u64], counts: &[u64]) -> u64
     requires { ⌜ (64 * length (now row) ≤ length (now counts) + 63) × (length (now counts) ≤ 64 * length (now row)) ⌝ }
     requires { ⌜ ((p : ℕ) → length (now counts) ≤ p → getD (held (now row)) p 0 ≡ 0) ⌝ }
     requires { ⌜ sum (masked (held (now row)) (now counts)) < 2 ^ 64 ⌝ }
@@ -186,6 +189,44 @@ pub fn add(row: &[u64], counts: &[u64]) -> u64
         let to = least(from + 64, n);
         total += add_word(row[q], &counts[from..to]);
         q += 1;
+    }
+    total
+}
+
+// The same, at once where all the words are empty.
+fn add_stretch(row: &[u64], counts: &[u64]) -> u64
+    requires { ⌜ (64 * length (now row) ≤ length (now counts) + 63) × (length (now counts) ≤ 64 * length (now row)) ⌝ }
+    requires { ⌜ ((p : ℕ) → length (now counts) ≤ p → getD (held (now row)) p 0 ≡ 0) ⌝ }
+    requires { ⌜ sum (masked (held (now row)) (now counts)) < 2 ^ 64 ⌝ }
+    ensures { λ r. ⌜ r ≡ sum (masked (held (now (row .entry))) (now (counts .entry))) ⌝ }
+{
+    if empty(row) {
+        return 0;
+    }
+    add_words(row, counts)
+}
+
+// The sum of the counts of the places at which a row has a bit. In a long sequence most words are empty, and so are most stretches of
+// them: those are passed over.
+pub fn add(row: &[u64], counts: &[u64]) -> u64
+    requires { ⌜ (64 * length (now row) ≤ length (now counts) + 63) × (length (now counts) ≤ 64 * length (now row)) ⌝ }
+    requires { ⌜ ((p : ℕ) → length (now counts) ≤ p → getD (held (now row)) p 0 ≡ 0) ⌝ }
+    requires { ⌜ sum (masked (held (now row)) (now counts)) < 2 ^ 64 ⌝ }
+    ensures { λ r. ⌜ r ≡ sum (masked (held (now (row .entry))) (now (counts .entry))) ⌝ }
+{
+    let words = row.len();
+    if words <= STRETCH {
+        return add_words(row, counts);
+    }
+    let n = counts.len();
+    let mut total: u64 = 0;
+    let mut q = 0;
+    while q < words {
+        let end = least(q + STRETCH, words);
+        let from = 64 * q;
+        let to = least(64 * end, n);
+        total += add_stretch(&row[q..end], &counts[from..to]);
+        q = end;
     }
     total
 }
