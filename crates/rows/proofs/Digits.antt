@@ -1,10 +1,10 @@
 -- A binary digit of a number, and of what the bit operations and the shifts make.
 use mathlib.Core.Path.{_≡_, sym, ap, _∙_}
 use Prim.Native.Nat.{ℕ, suc, _+_, _-_, _*_, _/_, _%_, _^_, _≤_, _<_, min, max}
-use native.Mathlib.Nat.{max-zero, zero-max, div-eq-of-lt, mul-assoc}
+use native.Mathlib.Nat.{max-zero, zero-max, div-one, div-eq-of-lt, mul-assoc}
 use native.Mathlib.Decide.{decLt}
 use native.Mathlib.Omega.{arith}
-use lib.Bits.{bitAnd, bitOr, and-step, or-step, and-shr, or-shr, shifted-even}
+use lib.Bits.{bitAnd, bitOr, and-step, or-step, and-shr, or-shr, or-zero-r, shifted-even}
 use lib.Pow.{pow-mono, pow-add, shl-shr, shr-shr, field, mod-mod-pow}
 use Rattle.rows.specs.Words.{down, up}
 
@@ -90,6 +90,18 @@ module _ (i low high b : ℕ) (small : i < 64) (inside : b < 64) where
   unfolding down from-high
   down-high l h =
       digit-or (low / 2 ^ i) from-high b ∙ rw (from-high-in h, digit-shr low i b, digit-past 64 low (i + b) l (omega arith), zero-max)
+
+-- shifted down by none, the lower is as it was: of the upper nothing is left
+even : (k : ℕ) → (k * 2 * 2 ^ 63) % 2 ^ 64 ≡ 0
+even k = omega arith
+
+pub down-none : (low high : ℕ) → down 0 low high ≡ low
+unfolding down
+down-none low high =
+    let k = (high * 2) % 2 ^ 64 / 2 in
+    let e : (high * 2) % 2 ^ 64 ≡ k * 2 = omega arith in
+    let z : ((high * 2) % 2 ^ 64 * 2 ^ (63 - 0)) % 2 ^ 64 ≡ 0 = rw e (even k) in
+    rw (z, or-zero-r, div-one)
 
 -- and the upper shifted up by i
 module _ (i low high b : ℕ) (small : i < 64) (inside : b < 64) where

@@ -17,7 +17,7 @@ use Rattle.rows.specs.Bits.{held}
 use Rattle.rows.proofs.Gaps.{ago-in, ago-out}
 use Rattle.rows.specs.Rows.{behind, extended}
 use Rattle.rows.specs.Words.{down, up, extended-word, behind-word, either-word}
-use Rattle.rows.proofs.Digits.{digit}
+use Rattle.rows.proofs.Digits.{digit, down-none}
 use Rattle.rows.proofs.Bits.{held-at, extended-row, behind-row}
 use Rattle.rows.proofs.Joined.{left-held, joined-more, joined-all}
 
@@ -35,6 +35,10 @@ module _ (i : ℕ) (ls ws : List ℕ) where
   pub extended-is : (q : ℕ) {r : ℕ} → r ≡ down i (getD ls q 0) (getD ls (q + 1) 0) → bitAnd (getD ws q 0) r ≡ extended-word i ls ws q
   unfolding extended-word
   extended-is q e = rw e
+
+  -- the first of its part, for which nothing is shifted
+  pub extended-plain : i ≡ 0 → (q : ℕ) → bitAnd (getD ws q 0) (getD ls q 0) ≡ extended-word i ls ws q
+  extended-plain z q = extended-is q (rw z (sym (down-none (getD ls q 0) (getD ls (q + 1) 0))))
 
   -- no word comes after the last
   pub extended-last : (q : ℕ) {r : ℕ} → length ls ≤ q + 1 → r ≡ down i (getD ls q 0) 0 → bitAnd (getD ws q 0) r ≡ extended-word i ls ws q

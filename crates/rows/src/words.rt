@@ -89,12 +89,32 @@ pub fn set_letters(letter: u8, sequence: &[u8], out: &mut [u64])
     }
 }
 
+// The first `n` words of a row with the first letter of a part more, for which nothing is shifted, and all of them joined in one.
+fn keep_plain(row: &[u64], letters: &[u64], n: usize, out: &mut [u64]) -> u64
+    requires { ⌜ (length (now letters) ≡ length (now row)) × (length (now out) ≡ length (now row)) × (n < length (now row)) ⌝ }
+    ensures { λ r. ⌜ eqb r 0 ≡ not (left? (map (words.extended-word 0 (now (letters .entry)) (now (row .entry))) (run 0 n))) ⌝ }
+    ensures { λ _. ⌜ now (out .exit) ≡ over (words.extended-word 0 (now (letters .entry)) (now (row .entry))) n (now (out .entry)) ⌝ }
+{
+    let mut all: u64 = 0;
+    let mut q = 0;
+    while q < n {
+        let v = row[q] & letters[q];
+        out[q] = v;
+        all = all | v;
+        q += 1;
+    }
+    all
+}
+
 // The first `n` words of a row with one letter more, and all of them joined in one.
 fn keep_words(row: &[u64], letters: &[u64], i: usize, n: usize, out: &mut [u64]) -> u64
     requires { ⌜ (length (now letters) ≡ length (now row)) × (length (now out) ≡ length (now row)) × (n < length (now row)) × (i < 64) ⌝ }
     ensures { λ r. ⌜ eqb r 0 ≡ not (left? (map (words.extended-word i (now (letters .entry)) (now (row .entry))) (run 0 n))) ⌝ }
     ensures { λ _. ⌜ now (out .exit) ≡ over (words.extended-word i (now (letters .entry)) (now (row .entry))) n (now (out .entry)) ⌝ }
 {
+    if i == 0 {
+        return keep_plain(row, letters, n, out);
+    }
     let mut all: u64 = 0;
     let mut q = 0;
     while q < n {

@@ -1,13 +1,14 @@
--- A turn writes the next word, and joins it to those before: all of them are 0 if none has a bit left.
+-- A turn writes the next word, and joins it to those before: all of them are 0 if none has a bit left. Where nothing is shifted, the callee
+-- does so.
 use borrow.Author.Needs.{needs}
 use Rattle.rows.proofs.Turns.{extended-is}
-use mathlib.Core.Path.{_≡_}
-use Prim.Native.Nat.{_-_, _≤_, _<_}
+use mathlib.Core.Path.{_≡_, sym, ap, _∙_}
+use Prim.Native.Nat.{ℕ, _-_, _≤_, _<_}
 use lib.ListN.{length}
 use Rattle.rules.specs.Lists.{over, run}
 use Rattle.rules.proofs.Over.{over-none, over-put, over-end}
 use mathlib.Core.Bool.{not}
-use mathlib.Core.List.{map}
+use mathlib.Core.List.{List, map}
 use lib.Dec.{eqb}
 use Rattle.rows.specs.Flags.{left?}
 use Rattle.rows.specs.Words.{extended-word}
@@ -23,6 +24,21 @@ Inv-loop row letters i n out₀ all₀ q₀ out all q =
 
 abbrev μ-loop : tie.MeasureT-loop
 μ-loop row letters i n out₀ all₀ q₀ out all q = n - q
+
+keep-plain-requires : tie.Need-keep-plain-requires Inv-loop μ-loop
+keep-plain-requires c κs = search needs
+
+same-length : tie.Need-same-length Inv-loop μ-loop
+same-length c = search needs
+
+returns : tie.Need-returns Inv-loop μ-loop
+returns c =
+    let k = c .before .before .keep-plain in
+    let a = c .before .before .before .before .before .before .before .before .args in
+    let z : 0 ≡ a .i = sym (c .before .before .before .before .if1 .taken) in (
+      k .ensures .0 ∙ ap (λ (x : ℕ). not (left? (map (extended-word x (a .letters .now) (a .row .now)) (run 0 (a .n))))) z,
+      k .ensures .1 ∙ ap (λ (x : ℕ). over (extended-word x (a .letters .now) (a .row .now)) (a .n) (a .out .now)) z,
+    )
 
 loop-holds : tie.Need-loop-holds Inv-loop μ-loop
 loop-holds c = (search needs, search needs, search needs, search needs, search needs, joined-none _, over-none _ 0 _)
@@ -75,11 +91,11 @@ loop-again c =
       over-put _ _ _ (l .inv .6) (extended-is _ _ _ _ (c .down .ensures)) (search needs),
     )
 
-same-length : tie.Need-same-length Inv-loop μ-loop
-same-length c = search needs
+same-length-2 : tie.Need-same-length-2 Inv-loop μ-loop
+same-length-2 c = search needs
 
-returns : tie.Need-returns Inv-loop μ-loop
-returns c =
+returns-2 : tie.Need-returns-2 Inv-loop μ-loop
+returns-2 c =
     let l = c .before .loop in
     (joined-end _ _ _ (l .all) (l .inv .5) (search needs), over-end _ _ _ (l .inv .6) (search needs))
 
@@ -89,6 +105,9 @@ keep-words-spec =
     (tie.spec
     Inv-loop
     μ-loop
+    keep-plain-requires
+    same-length
+    returns
     loop-holds
     mul-v
     shared-slice-read-v
@@ -103,5 +122,5 @@ keep-words-spec =
     add-q
     loop-less
     loop-again
-    same-length
-    returns)
+    same-length-2
+    returns-2)
