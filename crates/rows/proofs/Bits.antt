@@ -16,7 +16,7 @@ use Rattle.rows.specs.Bits.{digits, held}
 use Rattle.rows.proofs.Held.{length-held}
 use Rattle.rows.proofs.Gaps.{ago-in, ago-out}
 use Rattle.rows.specs.Rows.{both-at, both, either-at, either, ahead-at, ahead, behind-at, behind, extended}
-use Rattle.rows.specs.Words.{down, extended-word, behind-word, either-word}
+use Rattle.rows.specs.Words.{down, extended-word, ahead-word, behind-word, either-word}
 use Rattle.rows.proofs.Digits.{digit, digit-and, digit-or, digit-shr, down-low, down-high, up-low, up-high}
 
 pub digit-none : (b : ℕ) → digit 0 b ≡ 0
@@ -85,6 +85,13 @@ module _ (i : ℕ) (small : i < 64) (ls : List ℕ) (fits : (q : ℕ) → getD l
             down-high i (getD ls q 0) (getD ls (q + 1) 0) b small h (fits q) (omega arith)
             ∙ sym (getD-held ls (q + 1) (b + i - 64) (omega arith)) ∙ ap (λ (x : ℕ). getD (held ls) x 0) e)
       ]
+
+  -- a row shifted down
+  pub ahead-row : held (map (ahead-word i ls) (run 0 (length ls))) ≡ ahead i (held ls)
+  unfolding ahead ahead-word ahead-at
+  ahead-row =
+      held-run (ahead-word i ls) (ahead-at i (held ls)) (length ls) (λ q b _ h. down-at q b h)
+      ∙ ap (λ (n : ℕ). map (ahead-at i (held ls)) (run 0 n)) (sym (length-held ls))
 
   -- a row with one letter more
   module _ (ws : List ℕ) (same : length ls ≡ length ws) where

@@ -32,6 +32,7 @@ pub mod Lowest
 pub mod Kept
 pub mod Possible
 pub mod Single
+pub mod Shifted
 pub mod Opened
 pub mod Marks
 pub mod Offsets

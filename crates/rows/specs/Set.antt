@@ -11,7 +11,7 @@ use Rattle.rules.specs.Lists.{if, sum}
 use Rattle.rules.specs.Sequences.{split, sequences}
 use Rattle.rows.specs.Bits.{Word-BITS, held}
 use Rattle.rows.specs.Flags.{bit, left?}
-use Rattle.rows.specs.Rows.{window, extended, lettered, padded}
+use Rattle.rows.specs.Rows.{ahead, window, extended, lettered, padded}
 
 -- the words of marks: sixteen
 abbrev pub Row-MARKS : ℕ
@@ -76,6 +76,13 @@ window-at d n ns row k = window d n (bits-at ns k row)
 -- A LETTER'S ROW: the bits of sequence k, of a buffer split by the lengths
 unfoldable pub lettered-at : (ℕ → ℕ → Bool) → ℕ → List ℕ → List ℕ → ℕ → List ℕ
 lettered-at f x ns buffer k = lettered f x (getD (split ns buffer) k []) (64 * words-of (getD ns k 0))
+
+-- A ROW SHIFTED DOWN, for a letter's place i in its component: the bits of sequence k, of any row and of a letter's
+unfoldable pub shifted-at : ℕ → List ℕ → List ℕ → ℕ → List ℕ
+shifted-at i ns row k = ahead i (bits-at ns k row)
+
+unfoldable pub lettered-on : ℕ → (ℕ → ℕ → Bool) → ℕ → List ℕ → List ℕ → ℕ → List ℕ
+lettered-on i f x ns buffer k = ahead i (lettered-at f x ns buffer k)
 
 -- a row whose first n sequences, as far as they are on, have the bits that g says
 pub record Filled (on : ℕ → Bool) (g : ℕ → List ℕ) (ns row : List ℕ) (n : ℕ) : Type 0 where

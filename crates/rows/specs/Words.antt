@@ -17,6 +17,10 @@ up b low high = bitOr ((high * 2 ^ b) % 2 ^ 64) (low / 2 / 2 ^ (63 - b))
 unfoldable pub extended-word : ℕ → List ℕ → List ℕ → ℕ → ℕ
 extended-word i ls ws q = bitAnd (getD ws q 0) (down i (getD ls q 0) (getD ls (q + 1) 0))
 
+-- word q of a row shifted down by i bits
+unfoldable pub ahead-word : ℕ → List ℕ → ℕ → ℕ
+ahead-word i ws q = down i (getD ws q 0) (getD ws (q + 1) 0)
+
 -- word q of a row shifted up by e words and b bits
 unfoldable pub behind-word : ℕ → ℕ → List ℕ → ℕ → ℕ
 behind-word e b ws q = up b (ago ws q (e + 1)) (ago ws q e)

@@ -3,6 +3,7 @@
 pub mod counts;
 pub mod gap;
 pub mod set;
+pub mod shift;
 pub mod words;
 
 use rules::SequenceSet;

@@ -9,7 +9,7 @@ ghost use lib.ListN.{length, replicate};
 ghost use Rattle.rules.specs.Lists.{run, over};
 ghost use Rattle.rows.specs.Flags.{bit, left?};
 ghost use Rattle.rows.specs.Bits.{held};
-ghost use Rattle.rows.specs.Rows.{either, behind, window, extended, lettered};
+ghost use Rattle.rows.specs.Rows.{either, ahead, behind, window, extended, lettered};
 ghost use Rattle.rows.specs.Words as words;
 
 // The 64 bits from bit `i` of two words on.
@@ -142,6 +142,32 @@ pub fn keep_letter(row: &[u64], letters: &[u64], i: usize, out: &mut [u64]) -> b
     let v = row[last] & down(i, letters[last], 0);
     out[last] = v;
     marked(all | v)
+}
+
+// The first `n` words of a row shifted down by `i` positions.
+fn down_words(row: &[u64], i: usize, n: usize, out: &mut [u64])
+    requires { ⌜ (length (now out) ≡ length (now row)) × (n < length (now row)) × (i < 64) ⌝ }
+    ensures { λ _. ⌜ now (out .exit) ≡ over (words.ahead-word i (now (row .entry))) n (now (out .entry)) ⌝ }
+{
+    let mut q = 0;
+    while q < n {
+        out[q] = down(i, row[q], row[q + 1]);
+        q += 1;
+    }
+}
+
+// A row shifted down by `i` positions: zeros come in at its end.
+pub fn shift_down(row: &[u64], i: usize, out: &mut [u64])
+    requires { ⌜ (length (now out) ≡ length (now row)) × (i < 64) ⌝ }
+    ensures { λ _. ⌜ held (now (out .exit)) ≡ ahead i (held (now (row .entry))) ⌝ }
+{
+    let n = out.len();
+    if n == 0 {
+        return;
+    }
+    let last = n - 1;
+    down_words(row, i, last, out);
+    out[last] = down(i, row[last], 0);
 }
 
 // The words past `e` of a row shifted up by `e` words and `i` bits.
