@@ -18,9 +18,10 @@ use Rattle.rules.specs.Sequences.{split}
 use Rattle.rules.specs.declared.Template.{Template}
 use Rattle.rows.specs.Flags.{bit}
 use Rattle.matching.specs.Path.{row-slot, Letters}
-use Rattle.rows.specs.Rows.{letter-at, lettered}
-use Rattle.rows.specs.Set.{Row-WORDS, words-of, lettered-at, Filled}
+use Rattle.rows.specs.Rows.{ahead, letter-at, lettered}
+use Rattle.rows.specs.Set.{Row-WORDS, words-of, shifted-at, lettered-at, lettered-on, Filled}
 use Rattle.rows.proofs.Sets.{between-kept, part-copied}
+use Rattle.rows.proofs.Shifted.{lettered-shifted}
 
 -- ONE LETTER
 letter-bytes : (x : ℕ) → x < 4 → (s : List ℕ) (p : ℕ) → letter-at eqb (letter x) s p ≡ letter-at eqb x (map value s) p
@@ -52,44 +53,79 @@ module _ (t : Template) (ns l : List ℕ) (x : ℕ) (h : x < 4) where
   unfolding lettered-at
   at-bytes k = rw (exact-fits t, split-values ns l k) (lettered-bytes x h (getD (split ns l) k []) (64 * words-of (getD ns k 0)))
 
-  filled-bytes : (row : List ℕ) (n : ℕ) → Filled (λ _. true) (lettered-at eqb (letter x) ns l) ns row n
-      → Filled (λ _. true) (lettered-at (profile-of t .reading .fits) x ns (map value l)) ns row n
-  filled-bytes row n q = record { same = λ k u e. q .same k u e ∙ at-bytes k }
+  on-bytes : (i k : ℕ) → lettered-on i eqb (letter x) ns l k ≡ lettered-on i (profile-of t .reading .fits) x ns (map value l) k
+  unfolding lettered-on
+  on-bytes i k = ap (ahead i) (at-bytes k)
+
+  filled-bytes : (i : ℕ) (row : List ℕ) (n : ℕ) → Filled (λ _. true) (lettered-on i eqb (letter x) ns l) ns row n
+      → Filled (λ _. true) (lettered-on i (profile-of t .reading .fits) x ns (map value l)) ns row n
+  filled-bytes i row n q = record { same = λ k u e. q .same k u e ∙ on-bytes i k }
 
 -- A SLOT, written by a callee
-pub slot-filled : (x : ℕ) (ns l standing : List ℕ) → x * Row-WORDS + Row-WORDS ≤ length standing → (ys : List ℕ) {b : ℕ} → b ≡ letter x
-    → length ys ≡ length (midOf (x * Row-WORDS) (x * Row-WORDS + Row-WORDS - x * Row-WORDS) standing)
-    → Filled (λ _. true) (lettered-at eqb b ns l) ns ys (length ns)
-    → (let out = putMid (x * Row-WORDS) (x * Row-WORDS + Row-WORDS - x * Row-WORDS) standing ys in
-    ((take (x * Row-WORDS) out ≡ take (x * Row-WORDS) standing) × (length out ≡ length standing))
-    × Filled (λ _. true) (lettered-at eqb (letter x) ns l) ns (row-slot x out) (length ns))
+pub slot-filled : (s : ℕ) (g : ℕ → List ℕ) (ns standing : List ℕ) → s * Row-WORDS + Row-WORDS ≤ length standing → (ys : List ℕ)
+    → length ys ≡ length (midOf (s * Row-WORDS) (s * Row-WORDS + Row-WORDS - s * Row-WORDS) standing)
+    → Filled (λ _. true) g ns ys (length ns)
+    → (let out = putMid (s * Row-WORDS) (s * Row-WORDS + Row-WORDS - s * Row-WORDS) standing ys in
+    ((take (s * Row-WORDS) out ≡ take (s * Row-WORDS) standing) × (length out ≡ length standing))
+    × Filled (λ _. true) g ns (row-slot s out) (length ns))
 unfolding row-slot
-slot-filled x ns l standing h ys e n f =
-    let r = part-copied (x * 2072) (x * 2072 + 2072) standing (omega arith) h ys {zs = ys} n refl in
-    ((r .0, r .1), rw (r .2, ← e) f)
+slot-filled s g ns standing h ys n f =
+    let r = part-copied (s * 2072) (s * 2072 + 2072) standing (omega arith) h ys {zs = ys} n refl in
+    ((r .0, r .1), rw (r .2) f)
+
+-- a slot written leaves those below it
+slot-same : (n k : ℕ) (x y : List ℕ) → k < n → take (n * Row-WORDS) y ≡ take (n * Row-WORDS) x → row-slot k y ≡ row-slot k x
+unfolding row-slot
+slot-same n k x y h left = between-kept (n * 2072) (k * 2072) (k * 2072 + 2072) x y (omega arith) (omega arith) left
+
+-- THE SLOTS OF ONE LETTER, from its row: those of the first n places are written, the first of them in slot a
+pub record Shifting (ns row : List ℕ) (a n : ℕ) (standing : List ℕ) : Type 0 where
+  pub rows : (i : ℕ) → i < n → Filled (λ _. true) (shifted-at i ns row) ns (row-slot (a + i) standing) (length ns)
+
+pub shifting-none : (ns row standing : List ℕ) (a n : ℕ) → n ≡ 0 → Shifting ns row a n standing
+shifting-none ns row standing a n z = record { rows = λ i h. absurd (omega arith) }
+
+pub shifting-more : (ns row : List ℕ) (a n : ℕ) (x y : List ℕ) → Shifting ns row a n x → take ((a + n) * Row-WORDS) y ≡ take ((a + n) * Row-WORDS) x
+    → Filled (λ _. true) (shifted-at n ns row) ns (row-slot (a + n) y) (length ns) → Shifting ns row a (n + 1) y
+shifting-more ns row a n x y q left here = record {
+  rows = λ i h.
+      elim (decLt i n) [
+        | yes u ↦ rw (slot-same (a + n) (a + i) x y (omega arith) left) (q .rows i u)
+        | no u ↦ (let z : n ≡ i = omega arith in rw (← z) here)
+      ];
+}
+
+-- all of them
+pub shifting-end : (ns row : List ℕ) (a n : ℕ) (standing : List ℕ) → 6 ≤ n → Shifting ns row a n standing
+    → (i : ℕ) → i < 6 → Filled (λ _. true) (shifted-at i ns row) ns (row-slot (a + i) standing) (length ns)
+shifting-end ns row a n standing e q i h = q .rows i (omega arith)
+
+-- which are those of the letter, if the row was its
+pub letter-shifted : (x i : ℕ) (ns l row out : List ℕ) {b : ℕ} → b ≡ letter x → Filled (λ _. true) (lettered-at eqb b ns l) ns row (length ns)
+    → Filled (λ _. true) (shifted-at i ns row) ns out (length ns) → Filled (λ _. true) (lettered-on i eqb (letter x) ns l) ns out (length ns)
+letter-shifted x i ns l row out e q s = lettered-shifted i eqb (letter x) ns l row out (rw e at q) s
 
 -- ALL SLOTS: those of the first n letters are written
 pub record Slotted (ns l : List ℕ) (n : ℕ) (standing : List ℕ) : Type 0 where
-  pub rows : (x : ℕ) → x < n → Filled (λ _. true) (lettered-at eqb (letter x) ns l) ns (row-slot x standing) (length ns)
+  pub rows : (x i : ℕ) → x < n → i < 6 → Filled (λ _. true) (lettered-on i eqb (letter x) ns l) ns (row-slot (x * 6 + i) standing) (length ns)
 
 pub slotted-none : (ns l standing : List ℕ) (n : ℕ) → n ≡ 0 → Slotted ns l n standing
-slotted-none ns l standing n z = record { rows = λ x h. absurd (omega arith) }
+slotted-none ns l standing n z = record { rows = λ x i h u. absurd (omega arith) }
 
-pub slotted-more : (ns l : List ℕ) (n : ℕ) (x y : List ℕ) → Slotted ns l n x → take (n * Row-WORDS) y ≡ take (n * Row-WORDS) x
-    → Filled (λ _. true) (lettered-at eqb (letter n) ns l) ns (row-slot n y) (length ns) → Slotted ns l (n + 1) y
+pub slotted-more : (ns l : List ℕ) (n : ℕ) (x y : List ℕ) → Slotted ns l n x → take (n * 6 * Row-WORDS) y ≡ take (n * 6 * Row-WORDS) x
+    → ((i : ℕ) → i < 6 → Filled (λ _. true) (lettered-on i eqb (letter n) ns l) ns (row-slot (n * 6 + i) y) (length ns)) → Slotted ns l (n + 1) y
 slotted-more ns l n x y q left here = record {
-  rows = λ k h.
+  rows = λ k i h u.
       elim (decLt k n) [
-        | yes u ↦ rw (same k u) (q .rows k u)
-        | no u ↦ (let z : n ≡ k = omega arith in rw (← z) here)
+        | yes v ↦ rw (slot-same (n * 6) (k * 6 + i) x y (omega arith) left) (q .rows k i v u)
+        | no v ↦ (let z : n ≡ k = omega arith in rw (← z) (here i u))
       ];
 }
-  where
-    same : (k : ℕ) → k < n → row-slot k y ≡ row-slot k x
-    same k h = unfold row-slot in between-kept (n * 2072) (k * 2072) (k * 2072 + 2072) x y (omega arith) (omega arith) left
 
-pub slotted-end : (t : Template) (ns l : List ℕ) (n : ℕ) (standing : List ℕ) → 4 ≤ n → 4 * Row-WORDS ≤ length standing → Slotted ns l n standing → Letters t ns l standing
+pub slotted-end : (t : Template) (ns l : List ℕ) (n : ℕ) (standing : List ℕ) → 4 ≤ n → 24 * Row-WORDS ≤ length standing → Slotted ns l n standing → Letters t ns l standing
 slotted-end t ns l n standing e h q = record {
   long = h;
-  rows = λ x u. let v : x < 4 = omega (arith, exact-base t (exact-search t)) in filled-bytes t ns l x v (row-slot x standing) (length ns) (q .rows x (omega arith));
+  rows = λ x i u v.
+      let w : x < 4 = omega (arith, exact-base t (exact-search t)) in
+      filled-bytes t ns l x w i (row-slot (x * 6 + i) standing) (length ns) (q .rows x i (omega arith) v);
 }

@@ -22,6 +22,7 @@ use Rattle.matching.specs.Path.{row-slot, prefix-starts, before-next, Sl
 use Rattle.rows.specs.Prefix.{At, letters-before}
 use Rattle.rows.specs.Set.{marked?, tally, extended-at, extended-marked?, lettered-at, Filled, Marked, Bounded, Row, Source}
 use Rattle.matching.proofs.Counted.{left-support}
+use Rattle.matching.proofs.Shifts.{whole-row}
 use Rattle.matching.proofs.Slots.{enough}
 use Rattle.matching.proofs.Steps.{small-letter, candidate-row, candidate-tally}
 
@@ -52,10 +53,6 @@ inside-letter t sound inside q d k i a = rw (q .same d k i a) (omega (arith, sma
 pub inside-component : (t : Template) → SoundTemplate t → (inside : List ℕ) → Inside t inside → (d k i : ℕ) → At (components t) d k i → getD inside d 0 / 16 ≡ k
 inside-component t sound inside q d k i a = rw (q .same d k i a) (omega (arith, small-letter t sound d k i a))
 
--- the slot of a letter, by its number
-letter-slot : (g : ℕ → List ℕ) (ns standing : List ℕ) {x y : ℕ} → x ≡ y → Filled (λ _. true) g ns (row-slot x standing) (length ns) → Filled (λ _. true) g ns (row-slot y standing) (length ns)
-letter-slot g ns standing e f = rw (← e) f
-
 module _ (t : Template) (sound : SoundTemplate t) (l ns : List ℕ) (set : SoundSet l ns) (j m : ℕ) (some : 1 ≤ j) (deep : j ≤ size t)
     (inside firsts standing slot : List ℕ) (ready : Ready t ns l inside firsts standing) (below : Slot t ns l slot (j - 1) (m / base-of t)) where
   here : Somewhere (components t) (j - 1)
@@ -68,26 +65,30 @@ module _ (t : Template) (sound : SoundTemplate t) (l ns : List ℕ) (set : Sound
   pub below-bounded : Bounded ns slot
   below-bounded = record { none = source .past }
 
-  -- the letter's own row
-  of-letter : Filled (λ _. true) (lettered-at (profile-of t .reading .fits) (m % base-of t) ns (map value l)) ns (row-slot (m % 4) standing) (length ns)
+  -- the letter's value is one of the letters
+  pub last-letter : m % 4 < base-of t
+  last-letter = rw (exact-base t (exact-search t)) (omega arith)
+
+  -- its own row
+  of-letter : Filled (λ _. true) (lettered-at (profile-of t .reading .fits) (m % base-of t) ns (map value l)) ns (row-slot (m % 4 * 6) standing) (length ns)
   of-letter =
       let b = exact-base t (exact-search t) in
       let z : m % base-of t ≡ m % 4 = ap (λ (x : ℕ). m % x) b in
-      letter-slot (lettered-at (profile-of t .reading .fits) (m % base-of t) ns (map value l)) ns standing z (ready .letters .rows (m % base-of t) (rw b (omega arith)))
+      whole-row t ns l standing (ready .letters) (m % base-of t) (rw b (omega arith)) z
 
   module _ (long : length slot ≡ 2072) where
-    pub kept-row : (out : List ℕ) → (let i = getD inside (j - 1) 0 % 16 in let x = row-slot (m % 4) standing in
+    pub kept-row : (out : List ℕ) → (let i = getD inside (j - 1) 0 % 16 in let x = row-slot (m % 4 * 6) standing in
         Filled (marked? slot) (extended-at i ns x slot) ns out (length ns) → Marked (extended-marked? i ns x slot) out 1024 → Row (prefix-starts t j m) ns l out)
     kept-row out q n =
         let e = inside-letter t sound inside (ready .placed) (j - 1) (here .component) (here .letter) (here .at) in
         candidate-row t sound j m (here .component) (here .letter) some (here .at) l ns set slot source
-        (omega (arith, long, enough l ns set)) (row-slot (m % 4) standing) of-letter out (rw e at q) (rw e at n)
+        (omega (arith, long, enough l ns set)) (row-slot (m % 4 * 6) standing) of-letter out (rw e at q) (rw e at n)
 
     -- the new marks, written or not, are as many as the support
-    pub kept-support : (let i = getD inside (j - 1) 0 % 16 in let x = row-slot (m % 4) standing in
+    pub kept-support : (let i = getD inside (j - 1) 0 % 16 in let x = row-slot (m % 4 * 6) standing in
         tally (extended-marked? i ns x slot) 0 1024 ≡ support (parts t j m) (sequences l ns))
     kept-support =
         let e = inside-letter t sound inside (ready .placed) (j - 1) (here .component) (here .letter) (here .at) in
-        ap (λ (i : ℕ). tally (extended-marked? i ns (row-slot (m % 4) standing) slot) 0 1024) e
-        ∙ candidate-tally t sound j m (here .component) (here .letter) some (here .at) l ns set slot source (omega (arith, long, enough l ns set)) (row-slot (m % 4) standing) of-letter
+        ap (λ (i : ℕ). tally (extended-marked? i ns (row-slot (m % 4 * 6) standing) slot) 0 1024) e
+        ∙ candidate-tally t sound j m (here .component) (here .letter) some (here .at) l ns set slot source (omega (arith, long, enough l ns set)) (row-slot (m % 4 * 6) standing) of-letter
         ∙ left-support t sound j m some (sequences l ns)

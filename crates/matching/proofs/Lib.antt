@@ -3,6 +3,7 @@ pub mod Slots
 pub mod Steps
 pub mod Counted
 pub mod Gapped
+pub mod Shifts
 pub mod Extend
 pub mod Push
 pub mod Replay

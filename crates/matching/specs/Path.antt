@@ -4,9 +4,11 @@ use mathlib.Core.Bool.{true}
 use mathlib.Core.List.{List, map}
 use mathlib.Core.Path.{_≡_}
 use Prim.Native.Nat.{ℕ, _+_, _-_, _*_, _/_, _^_, _≤_, _<_}
+use lib.Dec.{ltb}
 use lib.ListN.{length, getD}
 use Rattle.rules.specs.Letters.{value}
 use Rattle.rules.specs.Limits.{SequenceSet-SEQUENCES, Template-LETTERS, Letter-BASES}
+use Rattle.rules.specs.Lists.{if}
 use Rattle.rules.specs.Motif.{spell}
 use Rattle.rules.specs.Profile.{profile-of, base-of}
 use Rattle.rules.specs.Support.{parts}
@@ -14,7 +16,7 @@ use Rattle.rules.specs.Template.{none, size, components, distance}
 use Rattle.rules.specs.declared.Template.{Template}
 use Rattle.rows.specs.Flags.{reached, last-starts}
 use Rattle.rows.specs.Prefix.{At, before-letter}
-use Rattle.rows.specs.Set.{Row-WORDS, between, lettered-at, Firsts, Offsets, Filled, Source}
+use Rattle.rows.specs.Set.{Row-WORDS, between, lettered-on, Firsts, Offsets, Filled, Source}
 
 -- slot i of a table of rows
 unfoldable pub row-slot : ℕ → List ℕ → List ℕ
@@ -44,10 +46,21 @@ pub record Inside (t : Template) (inside : List ℕ) : Type 0 where
   pub long : size t ≤ length inside
   pub same : (d k i : ℕ) → At (components t) d k i → getD inside d 0 ≡ inside-code k i
 
--- the letters' rows, a slot for each letter
+-- the letters' rows, kept shifted for the first six places of a component, a slot for each letter and each of these places: a candidate
+-- then costs one AND for each word. For a later place a letter's row is shifted as it is used. The code has the number as `SHIFTS`
+abbrev pub Letter-SHIFTS : ℕ
+Letter-SHIFTS = 6
+
 pub record Letters (t : Template) (ns l standing : List ℕ) : Type 0 where
-  pub long : Letter-BASES * Row-WORDS ≤ length standing
-  pub rows : (x : ℕ) → x < base-of t → Filled (λ _. true) (lettered-at (profile-of t .reading .fits) x ns (map value l)) ns (row-slot x standing) (length ns)
+  pub long : Letter-SHIFTS * Letter-BASES * Row-WORDS ≤ length standing
+  pub rows : (x i : ℕ) → x < base-of t → i < Letter-SHIFTS → Filled (λ _. true) (lettered-on i (profile-of t .reading .fits) x ns (map value l)) ns (row-slot (x * Letter-SHIFTS + i) standing) (length ns)
+
+-- which slot letter x is taken from for place i of its component, and how far its row is shifted as it is used
+unfoldable pub used-slot : ℕ → ℕ → ℕ
+used-slot x i = if (ltb i Letter-SHIFTS) (x * Letter-SHIFTS + i) (x * Letter-SHIFTS)
+
+unfoldable pub used-shift : ℕ → ℕ
+used-shift i = if (ltb i Letter-SHIFTS) 0 i
 
 -- all of it
 pub record Ready (t : Template) (ns l inside firsts standing : List ℕ) : Type 0 where
@@ -67,7 +80,7 @@ pub record Tables (inside firsts offsets standing rows work spare : List ℕ) : 
   pub inside-long : length inside ≡ Template-LETTERS
   pub firsts-long : length firsts ≡ SequenceSet-SEQUENCES + 1
   pub offsets-long : length offsets ≡ SequenceSet-SEQUENCES + 1
-  pub standing-long : length standing ≡ Letter-BASES * Row-WORDS
+  pub standing-long : length standing ≡ Letter-SHIFTS * Letter-BASES * Row-WORDS
   pub rows-long : length rows ≡ Template-LETTERS * Row-WORDS
   pub work-long : length work ≡ Row-WORDS
   pub spare-long : length spare ≡ Row-WORDS

@@ -9,13 +9,17 @@ use rules::SequenceSet;
 use rules::Template;
 
 // The words of a row, and how long the tables are that a caller lends: a place for each letter of a motif; where each sequence begins,
-// and where the last one ends; a row for each letter; and a slot for each prefix of a path.
+// and where the last one ends; SHIFTS rows for each letter; and a slot for each prefix of a path.
 pub const WORDS: usize = rows::WORDS;
 
 pub const LETTERS: usize = Template::LETTERS as usize;
 
 pub const ENDS: usize = SequenceSet::SEQUENCES + 1;
 
-pub const STANDING: usize = Letter::BASES as usize * WORDS;
+// A letter's row is kept shifted for each of the first six places of a component: a candidate that ends there costs one AND for each
+// word. For a later place it is shifted as it is used, which costs as much again.
+pub const SHIFTS: usize = 6;
+
+pub const STANDING: usize = SHIFTS * Letter::BASES as usize * WORDS;
 
 pub const SLOTS: usize = LETTERS * WORDS;

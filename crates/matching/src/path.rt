@@ -1,4 +1,5 @@
 // The path of a search: the rows of the prefixes of its place, kept from step to step.
+use super::tables;
 use rows::WORDS;
 use rows::gap;
 use rows::set;
@@ -47,10 +48,11 @@ fn extend(
 {
     let below = size as usize - 1;
     let x = (number % Letter::BASES) as usize;
-    let b = x * WORDS;
-    let f = b + WORDS;
     let i = (inside[below] % PLACES) as usize;
-    set::keep_all(lengths, firsts, slot, &standing[b..f], i, quorum, work)
+    let b = tables::slot_of(x, i) * WORDS;
+    let f = b + WORDS;
+    let by = tables::shift_of(i);
+    set::keep_all(lengths, firsts, slot, &standing[b..f], by, quorum, work)
 }
 
 // The same for a candidate whose path stands in the slots.

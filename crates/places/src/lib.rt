@@ -64,6 +64,7 @@ fn passes(
         offsets,
         standing,
         rows,
+        work,
     );
     let found = path::replay(
         template,
@@ -147,6 +148,7 @@ fn candidate_alone(letters: &[u8], lengths: &[u32], s: Search) -> bool
         &mut offsets,
         &mut standing,
         &mut slot,
+        &mut work,
     );
     let found = path::shorter(
         template,

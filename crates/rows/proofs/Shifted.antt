@@ -5,7 +5,6 @@ use mathlib.Core.List.{List, [], map}
 use mathlib.Core.Path.{_≡_, refl, sym, ap, _∙_}
 use Prim.Native.Nat.{ℕ, _+_, _^_, _≤_, _<_}
 use native.Mathlib.Decide.{decLt}
-use native.Mathlib.Nat.{zero-add}
 use native.Mathlib.Omega.{arith}
 use lib.ListN.{length, getD, set, List·getD-eq-default}
 use lib.Seq.{ext-getD}
@@ -14,7 +13,7 @@ use Rattle.rules.proofs.Over.{getD-map-run, length-map-run, over-put, over-all}
 use Rattle.rows.specs.Bits.{held}
 use Rattle.rows.specs.Flags.{left?}
 use Rattle.rows.specs.Rows.{both, ahead-at, ahead, extended}
-use Rattle.rows.specs.Set.{first-word, between, bits-at, marked?, extended-at, extended-marked?, shifted-at, lettered-at, lettered-on, Filled, Marked, Bounded}
+use Rattle.rows.specs.Set.{first-word, between, bits-at, marked?, extended-at, extended-marked?, shifted-at, lettered-at, lettered-on, Filled, Bounded}
 use Rattle.rows.specs.Words.{down, ahead-word}
 use Rattle.rows.proofs.Bits.{ahead-row}
 use Rattle.rows.proofs.Sets.{bits-are-at}
@@ -64,6 +63,12 @@ ahead-none ks =
 pub lettered-first : (f : ℕ → ℕ → Bool) (x : ℕ) (ns l : List ℕ) (k : ℕ) → lettered-on 0 f x ns l k ≡ lettered-at f x ns l k
 unfolding lettered-on
 lettered-first f x ns l k = ahead-none (lettered-at f x ns l k)
+
+-- the row of a letter, shifted
+pub lettered-shifted : (i : ℕ) (f : ℕ → ℕ → Bool) (x : ℕ) (ns l row out : List ℕ) → Filled (λ _. true) (lettered-at f x ns l) ns row (length ns)
+    → Filled (λ _. true) (shifted-at i ns row) ns out (length ns) → Filled (λ _. true) (lettered-on i f x ns l) ns out (length ns)
+unfolding shifted-at lettered-on
+lettered-shifted i f x ns l row out q s = record { same = λ k h e. s .same k h e ∙ ap (ahead i) (q .same k h e) }
 
 -- a letter's row shifted already
 extended-ahead : (i : ℕ) (ls ks : List ℕ) → extended 0 (ahead i ls) ks ≡ extended i ls ks

@@ -21,10 +21,13 @@ slice-aggregate-make-4 c = search needs
 slice-aggregate-make-5 : tie.Need-slice-aggregate-make-5
 slice-aggregate-make-5 c = search needs
 
+slice-aggregate-make-6 : tie.Need-slice-aggregate-make-6
+slice-aggregate-make-6 c = search needs
+
 make-requires : tie.Need-make-requires
 make-requires c κs =
-    let p = c .before .before .before .before .before .before .before .before .before .pre in
-    (p .1 .0, (p .0, (p .1 .0 .deep, omega (arith, p .0 .few), omega (arith, p .0 .few), omega arith, omega arith)))
+    let p = c .before .before .before .before .before .before .before .before .before .before .pre in
+    (p .1 .0, (p .0, (p .1 .0 .deep, omega (arith, p .0 .few), omega (arith, p .0 .few), omega arith, omega arith, omega arith)))
 
 slice-aggregate-shorter : tie.Need-slice-aggregate-shorter
 slice-aggregate-shorter c = search needs
@@ -46,18 +49,18 @@ slice-aggregate-shorter-6 c = search needs
 
 shorter-requires : tie.Need-shorter-requires
 shorter-requires c κs =
-    let b = c .before .before .before .before .before .before .before .before .before .before .before .before .before .before .before .before .before .before .before .before .before in
+    let b = c .before .before .before .before .before .before .before .before .before .before .before .before .before .before .before .before .before .before .before .before .before .before .before in
     let p = b .pre in
     let a = b .args .s in
-    let m = c .before .before .before .before .before .before .before .before .before .before .before .make .ensures in
-    (p .1 .0, (p .0, ((p .1 .1 .1, rule-deep (a .template) (a .place) (p .1 .1 .0), rule-below (a .template) (a .place) (p .1 .1 .0)), (m .0, (m .1 .1 .0, (m .1 .1 .1 .4, omega arith, omega arith))))))
+    let m = c .before .before .before .before .before .before .before .before .before .before .before .before .make .ensures in
+    (p .1 .0, (p .0, ((p .1 .1 .1, rule-deep (a .template) (a .place) (p .1 .1 .0), rule-below (a .template) (a .place) (p .1 .1 .0)), (m .0, (m .1 .1 .0, (m .1 .1 .1 .4, m .1 .1 .1 .5, omega arith))))))
 
 frequent-requires : tie.Need-frequent-requires
 frequent-requires c κs = search needs
 
 returns : tie.Need-returns
 returns c =
-    let b = c .before .before .before .before .before .before .before .before .before .before .before .before .before .before .before .before .before .before .before .before .before .before .before .before .before .before in
+    let b = c .before .before .before .before .before .before .before .before .before .before .before .before .before .before .before .before .before .before .before .before .before .before .before .before .before .before .before .before in
     passes-by (b .args .letters .now) (b .args .lengths .now) (b .args .s) (b .pre .1 .1 .1) (c .before .before .before .before .shorter .ensures) (c .frequent .ensures)
 
 pub candidate-alone-spec : {M : Type 1} → statement M
@@ -69,6 +72,7 @@ candidate-alone-spec =
     slice-aggregate-make-3
     slice-aggregate-make-4
     slice-aggregate-make-5
+    slice-aggregate-make-6
     make-requires
     slice-aggregate-shorter
     slice-aggregate-shorter-2

@@ -11,20 +11,21 @@ returns c = (passes-none _ _ _ (c .if1 .taken), (c .before .before .before .befo
 
 make-requires : tie.Need-make-requires
 make-requires c κs =
-    let b = c .before .before .before .before .before .before .before .before .before .before .before .before .before .before .before .before .before in
+    let b = c .before .before .before .before .before .before .before .before .before .before .before .before .before .before .before .before .before .before in
     let p = b .pre in
     let t = p .1 .1 .1 in
-    (p .1 .0, (p .0, (omega (arith, t .inside-long, p .1 .0 .deep), omega (arith, t .firsts-long, p .0 .few), omega (arith, t .offsets-long, p .0 .few), omega (arith, t .standing-long), omega (arith, t .rows-long))))
+    (p .1 .0, (p .0, (omega (arith, t .inside-long, p .1 .0 .deep), omega (arith, t .firsts-long, p .0 .few), omega (arith, t .offsets-long, p .0 .few), omega (arith, t .standing-long), omega (arith, t .rows-long), t .work-long)))
 
 replay-requires : tie.Need-replay-requires
 replay-requires c κs =
-    let b = c .before .before .before .before .before .before .before .before .before .before .before .before .before .before .before .before .before .before .before .before .before .before .before .before .before .before .before .before .before .before .before .before .before .before in
+    let b = c .before .before .before .before .before .before .before .before .before .before .before .before .before .before .before .before .before .before .before .before .before .before .before .before .before .before .before .before .before .before .before .before .before .before .before .before .before in
     let p = b .pre in
     let t = p .1 .1 .1 in
     let a = b .args .s in
-    let m = c .before .before .before .before .before .before .before .before .before .before .before .before .before .before .before .before .make .ensures in
+    let m = c .before .before .before .before .before .before .before .before .before .before .before .before .before .before .before .before .before .before .make .ensures in
+    let n = m .1 .1 .1 in
     let deep = rule-deep (a .template) (a .place) (p .1 .1 .0) in
-    (p .1 .0, (p .0, ((omega (arith, c .before .before .before .before .before .before .before .before .before .before .before .before .before .before .before .before .before .before .before .before .before .before .before .if1 .left), deep, rule-below (a .template) (a .place) (p .1 .1 .0)), (m .0, (m .1 .1 .0, (omega (arith, deep, m .1 .1 .1 .4, t .rows-long, p .1 .0 .deep), t .work-long, t .spare-long))))))
+    (p .1 .0, (p .0, ((omega (arith, c .before .before .before .before .before .before .before .before .before .before .before .before .before .before .before .before .before .before .before .before .before .before .before .before .before .before .if1 .left), deep, rule-below (a .template) (a .place) (p .1 .1 .0)), (m .0, (m .1 .1 .0, (omega (arith, deep, n .4, t .rows-long, p .1 .0 .deep), n .5 ∙ t .work-long, t .spare-long))))))
 
 frequent-requires : tie.Need-frequent-requires
 frequent-requires c κs = search needs
@@ -52,13 +53,13 @@ same-length-7 c = search needs
 
 returns-2 : tie.Need-returns-2
 returns-2 c =
-    let b = c .before .before .before .before .before .before .before .before .before .before .before .before .before .before .before .before .before .before .before .before .before .before .before .before .before .before .before .before .before .before .before .before .before .before .before .before .before .before .before .before .before .before in
+    let b = c .before .before .before .before .before .before .before .before .before .before .before .before .before .before .before .before .before .before .before .before .before .before .before .before .before .before .before .before .before .before .before .before .before .before .before .before .before .before .before .before .before .before .before .before .before in
     let p = b .pre in
     let t = p .1 .1 .1 in
-    let m = c .before .before .before .before .before .before .before .before .before .before .before .before .before .before .before .before .before .before .before .before .before .before .before .before .make .ensures in
+    let m = c .before .before .before .before .before .before .before .before .before .before .before .before .before .before .before .before .before .before .before .before .before .before .before .before .before .before .make .ensures in
     let r = c .before .before .before .before .before .before .before .replay .ensures in
     let n = m .1 .1 .1 in (
-      passes-by (b .args .letters .now) (b .args .lengths .now) (b .args .s) (omega (arith, c .before .before .before .before .before .before .before .before .before .before .before .before .before .before .before .before .before .before .before .before .before .before .before .before .before .before .before .before .before .before .before .if1 .left)) (r .0) (c .frequent .ensures),
+      passes-by (b .args .letters .now) (b .args .lengths .now) (b .args .s) (omega (arith, c .before .before .before .before .before .before .before .before .before .before .before .before .before .before .before .before .before .before .before .before .before .before .before .before .before .before .before .before .before .before .before .before .before .before .if1 .left)) (r .0) (c .frequent .ensures),
       (
         record {
           inside-long = n .0 ∙ t .inside-long;
@@ -66,7 +67,7 @@ returns-2 c =
           offsets-long = n .2 ∙ t .offsets-long;
           standing-long = n .3 ∙ t .standing-long;
           rows-long = r .1 .1 .0 ∙ n .4 ∙ t .rows-long;
-          work-long = r .1 .1 .1 ∙ t .work-long;
+          work-long = r .1 .1 .1 ∙ n .5 ∙ t .work-long;
           spare-long = r .1 .1 .2 ∙ t .spare-long;
         },
         λ h. record { ready = m .0; laid = m .1 .0; path = r .1 .0 },
