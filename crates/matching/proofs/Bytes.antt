@@ -96,8 +96,8 @@ shifting-more ns row a n x y q left here = record {
 }
 
 -- all of them
-pub shifting-end : (ns row : List ℕ) (a n : ℕ) (standing : List ℕ) → 6 ≤ n → Shifting ns row a n standing
-    → (i : ℕ) → i < 6 → Filled (λ _. true) (shifted-at i ns row) ns (row-slot (a + i) standing) (length ns)
+pub shifting-end : (ns row : List ℕ) (a n : ℕ) (standing : List ℕ) → 4 ≤ n → Shifting ns row a n standing
+    → (i : ℕ) → i < 4 → Filled (λ _. true) (shifted-at i ns row) ns (row-slot (a + i) standing) (length ns)
 shifting-end ns row a n standing e q i h = q .rows i (omega arith)
 
 -- which are those of the letter, if the row was its
@@ -107,25 +107,25 @@ letter-shifted x i ns l row out e q s = lettered-shifted i eqb (letter x) ns l r
 
 -- ALL SLOTS: those of the first n letters are written
 pub record Slotted (ns l : List ℕ) (n : ℕ) (standing : List ℕ) : Type 0 where
-  pub rows : (x i : ℕ) → x < n → i < 6 → Filled (λ _. true) (lettered-on i eqb (letter x) ns l) ns (row-slot (x * 6 + i) standing) (length ns)
+  pub rows : (x i : ℕ) → x < n → i < 4 → Filled (λ _. true) (lettered-on i eqb (letter x) ns l) ns (row-slot (x * 4 + i) standing) (length ns)
 
 pub slotted-none : (ns l standing : List ℕ) (n : ℕ) → n ≡ 0 → Slotted ns l n standing
 slotted-none ns l standing n z = record { rows = λ x i h u. absurd (omega arith) }
 
-pub slotted-more : (ns l : List ℕ) (n : ℕ) (x y : List ℕ) → Slotted ns l n x → take (n * 6 * Row-WORDS) y ≡ take (n * 6 * Row-WORDS) x
-    → ((i : ℕ) → i < 6 → Filled (λ _. true) (lettered-on i eqb (letter n) ns l) ns (row-slot (n * 6 + i) y) (length ns)) → Slotted ns l (n + 1) y
+pub slotted-more : (ns l : List ℕ) (n : ℕ) (x y : List ℕ) → Slotted ns l n x → take (n * 4 * Row-WORDS) y ≡ take (n * 4 * Row-WORDS) x
+    → ((i : ℕ) → i < 4 → Filled (λ _. true) (lettered-on i eqb (letter n) ns l) ns (row-slot (n * 4 + i) y) (length ns)) → Slotted ns l (n + 1) y
 slotted-more ns l n x y q left here = record {
   rows = λ k i h u.
       elim (decLt k n) [
-        | yes v ↦ rw (slot-same (n * 6) (k * 6 + i) x y (omega arith) left) (q .rows k i v u)
+        | yes v ↦ rw (slot-same (n * 4) (k * 4 + i) x y (omega arith) left) (q .rows k i v u)
         | no v ↦ (let z : n ≡ k = omega arith in rw (← z) (here i u))
       ];
 }
 
-pub slotted-end : (t : Template) (ns l : List ℕ) (n : ℕ) (standing : List ℕ) → 4 ≤ n → 24 * Row-WORDS ≤ length standing → Slotted ns l n standing → Letters t ns l standing
+pub slotted-end : (t : Template) (ns l : List ℕ) (n : ℕ) (standing : List ℕ) → 4 ≤ n → 16 * Row-WORDS ≤ length standing → Slotted ns l n standing → Letters t ns l standing
 slotted-end t ns l n standing e h q = record {
   long = h;
   rows = λ x i u v.
       let w : x < 4 = omega (arith, exact-base t (exact-search t)) in
-      filled-bytes t ns l x w i (row-slot (x * 6 + i) standing) (length ns) (q .rows x i (omega arith) v);
+      filled-bytes t ns l x w i (row-slot (x * 4 + i) standing) (length ns) (q .rows x i (omega arith) v);
 }

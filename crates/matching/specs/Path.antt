@@ -46,10 +46,10 @@ pub record Inside (t : Template) (inside : List ℕ) : Type 0 where
   pub long : size t ≤ length inside
   pub same : (d k i : ℕ) → At (components t) d k i → getD inside d 0 ≡ inside-code k i
 
--- the letters' rows, kept shifted for the first six places of a component, a slot for each letter and each of these places: a candidate
+-- the letters' rows, kept shifted for the first four places of a component, a slot for each letter and each of these places: a candidate
 -- then costs one AND for each word. For a later place a letter's row is shifted as it is used. The code has the number as `SHIFTS`
 abbrev pub Letter-SHIFTS : ℕ
-Letter-SHIFTS = 6
+Letter-SHIFTS = 4
 
 pub record Letters (t : Template) (ns l standing : List ℕ) : Type 0 where
   pub long : Letter-SHIFTS * Letter-BASES * Row-WORDS ≤ length standing

@@ -16,9 +16,9 @@ pub const LETTERS: usize = Template::LETTERS as usize;
 
 pub const ENDS: usize = SequenceSet::SEQUENCES + 1;
 
-// A letter's row is kept shifted for each of the first six places of a component: a candidate that ends there costs one AND for each
-// word. For a later place it is shifted as it is used, which costs as much again.
-pub const SHIFTS: usize = 6;
+// A letter's row is kept shifted for each of the first four places of a component: a candidate that ends there costs one AND for each
+// word. For a later place it is shifted as it is used, which costs as much again. More of them would not fit the stack that a call may use.
+pub const SHIFTS: usize = 4;
 
 pub const STANDING: usize = SHIFTS * Letter::BASES as usize * WORDS;
 

@@ -237,16 +237,7 @@ pub fn keep_all(
         if possible < quorum {
             return possible;
         }
-        let kept = keep_sequences(
-            w,
-            lengths,
-            firsts,
-            row,
-            letter,
-            i,
-            possible - quorum,
-            out,
-        );
+        let kept = keep_sequences(w, lengths, firsts, row, letter, i, possible - quorum, out);
         out[w] = kept.left;
         possible -= kept.lost;
         w += 1;

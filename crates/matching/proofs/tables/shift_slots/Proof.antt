@@ -11,10 +11,10 @@ use Rattle.matching.proofs.tables.shift_slots.Tie as tie
 
 abbrev Inv-loop : tie.InvT-loop
 Inv-loop x lengths firsts row standing₀ first i₀ standing i =
-    (i ≤ 6) × (length standing ≡ length standing₀) × (take (x * 6 * 2072) standing ≡ take (x * 6 * 2072) standing₀) × Shifting lengths row (x * 6) i standing
+    (i ≤ 4) × (length standing ≡ length standing₀) × (take (x * 4 * 2072) standing ≡ take (x * 4 * 2072) standing₀) × Shifting lengths row (x * 4) i standing
 
 abbrev μ-loop : tie.MeasureT-loop
-μ-loop x lengths firsts row standing₀ first i₀ standing i = 6 - i
+μ-loop x lengths firsts row standing₀ first i₀ standing i = 4 - i
 
 mul-first : tie.Need-mul-first Inv-loop μ-loop
 mul-first c = search needs
@@ -47,8 +47,8 @@ loop-again c =
     let o = c .before .before .shift-slot .ensures in (
       search needs,
       o .0 .1 ∙ l .inv .1,
-      take-less (a .x * 6 * 2072) ((a .x * 6 + l .i) * 2072) (l .standing) _ (omega arith) (o .0 .0) ∙ l .inv .2,
-      shifting-more (a .lengths .now) (a .row .now) (a .x * 6) (l .i) (l .standing) _ (l .inv .3) (o .0 .0) (o .1),
+      take-less (a .x * 4 * 2072) ((a .x * 4 + l .i) * 2072) (l .standing) _ (omega arith) (o .0 .0) ∙ l .inv .2,
+      shifting-more (a .lengths .now) (a .row .now) (a .x * 4) (l .i) (l .standing) _ (l .inv .3) (o .0 .0) (o .1),
     )
 
 same-length : tie.Need-same-length Inv-loop μ-loop

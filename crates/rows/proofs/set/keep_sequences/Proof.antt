@@ -189,8 +189,8 @@ loop-again c =
     let x = extended-is-at _ _ (n .inside) (n .begins) (n .ends) (s .args .i) (s .args .letter .now) (s .args .row .now) in (
       e .0 .1 ∙ l .inv .0,
       going-turn (s .args .i) (s .args .lengths .now) (s .args .letter .now) (s .args .row .now) (s .args .w) fits (s .args .out .now) (l .out) (l .rest) (l .left) (l .lost) (l .inv .1) (omega (arith, some)) (s .args .firsts .now) (s .pre .1 .1 .0) (s .pre .1 .0) (s .pre .0 .0) _ (kept-from _ _ (n .begins) (e .0 .0))
-      (sym (bits-are-at _ _ (n .inside) (n .begins) (n .ends) _) ∙ e .1 .0 ∙ x)
-      (c .before .one .ensures) (mark-left _ _ _ _ _ (n .marked) (e .1 .1) x) (c .none .ensures),
+          (sym (bits-are-at _ _ (n .inside) (n .begins) (n .ends) _) ∙ e .1 .0 ∙ x)
+          (c .before .one .ensures) (mark-left _ _ _ _ _ (n .marked) (e .1 .1) x) (c .none .ensures),
     )
 
 same-length-2 : tie.Need-same-length-2 Inv-loop μ-loop
