@@ -70,25 +70,25 @@ module _ (t : Template) (sound : SoundTemplate t) (l ns : List ℕ) (set : Sound
   last-letter = rw (exact-base t (exact-search t)) (omega arith)
 
   -- its own row
-  of-letter : Filled (λ _. true) (lettered-at (profile-of t .reading .fits) (m % base-of t) ns (map value l)) ns (row-slot (m % 4 * 4) standing) (length ns)
+  of-letter : Filled (λ _. true) (lettered-at (profile-of t .reading .fits) (m % base-of t) ns (map value l)) ns (row-slot (m % 4) standing) (length ns)
   of-letter =
       let b = exact-base t (exact-search t) in
       let z : m % base-of t ≡ m % 4 = ap (λ (x : ℕ). m % x) b in
       whole-row t ns l standing (ready .letters) (m % base-of t) (rw b (omega arith)) z
 
   module _ (long : length slot ≡ 2072) where
-    pub kept-row : (out : List ℕ) → (let i = getD inside (j - 1) 0 % 16 in let x = row-slot (m % 4 * 4) standing in
+    pub kept-row : (out : List ℕ) → (let i = getD inside (j - 1) 0 % 16 in let x = row-slot (m % 4) standing in
         Filled (marked? slot) (extended-at i ns x slot) ns out (length ns) → Marked (extended-marked? i ns x slot) out 1024 → Row (prefix-starts t j m) ns l out)
     kept-row out q n =
         let e = inside-letter t sound inside (ready .placed) (j - 1) (here .component) (here .letter) (here .at) in
         candidate-row t sound j m (here .component) (here .letter) some (here .at) l ns set slot source
-        (omega (arith, long, enough l ns set)) (row-slot (m % 4 * 4) standing) of-letter out (rw e at q) (rw e at n)
+        (omega (arith, long, enough l ns set)) (row-slot (m % 4) standing) of-letter out (rw e at q) (rw e at n)
 
     -- the new marks, written or not, are as many as the support
-    pub kept-support : (let i = getD inside (j - 1) 0 % 16 in let x = row-slot (m % 4 * 4) standing in
+    pub kept-support : (let i = getD inside (j - 1) 0 % 16 in let x = row-slot (m % 4) standing in
         tally (extended-marked? i ns x slot) 0 1024 ≡ support (parts t j m) (sequences l ns))
     kept-support =
         let e = inside-letter t sound inside (ready .placed) (j - 1) (here .component) (here .letter) (here .at) in
-        ap (λ (i : ℕ). tally (extended-marked? i ns (row-slot (m % 4 * 4) standing) slot) 0 1024) e
-        ∙ candidate-tally t sound j m (here .component) (here .letter) some (here .at) l ns set slot source (omega (arith, long, enough l ns set)) (row-slot (m % 4 * 4) standing) of-letter
+        ap (λ (i : ℕ). tally (extended-marked? i ns (row-slot (m % 4) standing) slot) 0 1024) e
+        ∙ candidate-tally t sound j m (here .component) (here .letter) some (here .at) l ns set slot source (omega (arith, long, enough l ns set)) (row-slot (m % 4) standing) of-letter
         ∙ left-support t sound j m some (sequences l ns)

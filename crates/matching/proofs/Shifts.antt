@@ -15,60 +15,61 @@ use Rattle.rows.specs.Rows.{ahead}
 use Rattle.rows.specs.Set.{bits-at, marked?, tally, extended-at, extended-marked?, lettered-at, lettered-on, Filled, Marked, Bounded}
 use Rattle.rows.proofs.Tally.{tally-same}
 use Rattle.rows.proofs.Shifted.{lettered-first, near-at, near-marked?}
-use Rattle.matching.specs.Path.{row-slot, Letters, used-slot, used-shift}
+use Rattle.matching.specs.Path.{row-slot, kept-places, Letters, used-slot, used-shift}
 
 -- WHICH SLOT, and how far it is shifted
-pub slot-near : (x i : ℕ) → i < 4 → x * 4 + i ≡ used-slot x i
+pub slot-near : (n x i : ℕ) → i < n → i * 4 + x ≡ used-slot n x i
 unfolding used-slot
-slot-near x i h = rw (lt-ltb i 4 h)
+slot-near n x i h = rw (lt-ltb i n h)
 
-pub slot-far : (x i : ℕ) → 4 ≤ i → x * 4 ≡ used-slot x i
+pub slot-far : (n x i : ℕ) → n ≤ i → x ≡ used-slot n x i
 unfolding used-slot
-slot-far x i h = rw (le-ltb i 4 h)
+slot-far n x i h = rw (le-ltb i n h)
 
-pub shift-near : (i : ℕ) → i < 4 → 0 ≡ used-shift i
+pub shift-near : (n i : ℕ) → i < n → 0 ≡ used-shift n i
 unfolding used-shift
-shift-near i h = rw (lt-ltb i 4 h)
+shift-near n i h = rw (lt-ltb i n h)
 
-pub shift-far : (i : ℕ) → 4 ≤ i → i ≡ used-shift i
+pub shift-far : (n i : ℕ) → n ≤ i → i ≡ used-shift n i
 unfolding used-shift
-shift-far i h = rw (le-ltb i 4 h)
+shift-far n i h = rw (le-ltb i n h)
 
 module _ (t : Template) (ns l standing : List ℕ) (letters : Letters t ns l standing) (x : ℕ) (small : x < base-of t) where
   -- the letter's row as it is
-  pub whole-row : {y : ℕ} → x ≡ y → Filled (λ _. true) (lettered-at (profile-of t .reading .fits) x ns (map value l)) ns (row-slot (y * 4) standing) (length ns)
+  pub whole-row : {y : ℕ} → x ≡ y → Filled (λ _. true) (lettered-at (profile-of t .reading .fits) x ns (map value l)) ns (row-slot y standing) (length ns)
   whole-row {y} e =
-      let z : x * 4 + 0 ≡ y * 4 = omega arith in
-      record { same = λ k h o. (rw z at (letters .rows x 0 small (omega arith) .same k h o)) ∙ lettered-first (profile-of t .reading .fits) x ns (map value l) k }
+      let z : 0 * 4 + x ≡ y = omega arith in
+      let some : 0 < kept-places standing = omega (arith, letters .long) in
+      record { same = λ k h o. (rw z at (letters .rows x 0 small some .same k h o)) ∙ lettered-first (profile-of t .reading .fits) x ns (map value l) k }
 
   -- and shifted
-  shifted-row : (i : ℕ) → i < 4 → (k : ℕ) → k < length ns → bits-at ns k (row-slot (x * 4 + i) standing) ≡ ahead i (bits-at ns k (row-slot (x * 4) standing))
+  shifted-row : (i : ℕ) → i < kept-places standing → (k : ℕ) → k < length ns → bits-at ns k (row-slot (i * 4 + x) standing) ≡ ahead i (bits-at ns k (row-slot x standing))
   unfolding lettered-on
   shifted-row i u k h = letters .rows x i small u .same k h refl ∙ ap (ahead i) (sym (whole-row refl .same k h refl))
 
   -- ONE LETTER MORE, from the slot and by the shift that the code takes
-  module _ (slot : List ℕ) (bounded : Bounded ns slot) (i : ℕ) {s b : ℕ} (from : s ≡ used-slot x i) (by : b ≡ used-shift i) where
-    pub used-at : (k : ℕ) → k < length ns → extended-at b ns (row-slot s standing) slot k ≡ extended-at i ns (row-slot (x * 4) standing) slot k
+  module _ (slot : List ℕ) (bounded : Bounded ns slot) (i : ℕ) {n s b : ℕ} (kept : n ≡ kept-places standing) (from : s ≡ used-slot n x i) (by : b ≡ used-shift n i) where
+    pub used-at : (k : ℕ) → k < length ns → extended-at b ns (row-slot s standing) slot k ≡ extended-at i ns (row-slot x standing) slot k
     used-at k h =
-        elim (decLt i 4) [
-          | yes u ↦ rw (from, by, ← (slot-near x i u), ← (shift-near i u)) (near-at ns slot bounded i (row-slot (x * 4) standing) (row-slot (x * 4 + i) standing) (shifted-row i u) k h)
-          | no u ↦ rw (from, by, ← (slot-far x i (omega arith)), ← (shift-far i (omega arith)))
+        elim (decLt i n) [
+          | yes u ↦ rw (from, by, ← (slot-near n x i u), ← (shift-near n i u)) (near-at ns slot bounded i (row-slot x standing) (row-slot (i * 4 + x) standing) (shifted-row i (rw kept at u)) k h)
+          | no u ↦ rw (from, by, ← (slot-far n x i (omega arith)), ← (shift-far n i (omega arith)))
         ]
 
-    pub used-marked? : (k : ℕ) → k < 1024 → extended-marked? b ns (row-slot s standing) slot k ≡ extended-marked? i ns (row-slot (x * 4) standing) slot k
+    pub used-marked? : (k : ℕ) → k < 1024 → extended-marked? b ns (row-slot s standing) slot k ≡ extended-marked? i ns (row-slot x standing) slot k
     used-marked? k h =
-        elim (decLt i 4) [
-          | yes u ↦ rw (from, by, ← (slot-near x i u), ← (shift-near i u)) (near-marked? ns slot bounded i (row-slot (x * 4) standing) (row-slot (x * 4 + i) standing) (shifted-row i u) k h)
-          | no u ↦ rw (from, by, ← (slot-far x i (omega arith)), ← (shift-far i (omega arith)))
+        elim (decLt i n) [
+          | yes u ↦ rw (from, by, ← (slot-near n x i u), ← (shift-near n i u)) (near-marked? ns slot bounded i (row-slot x standing) (row-slot (i * 4 + x) standing) (shifted-row i (rw kept at u)) k h)
+          | no u ↦ rw (from, by, ← (slot-far n x i (omega arith)), ← (shift-far n i (omega arith)))
         ]
 
     pub used-filled : (out : List ℕ) → Filled (marked? slot) (extended-at b ns (row-slot s standing) slot) ns out (length ns)
-        → Filled (marked? slot) (extended-at i ns (row-slot (x * 4) standing) slot) ns out (length ns)
+        → Filled (marked? slot) (extended-at i ns (row-slot x standing) slot) ns out (length ns)
     used-filled out q = record { same = λ k h e. q .same k h e ∙ used-at k h }
 
     pub used-marked : (out : List ℕ) → Marked (extended-marked? b ns (row-slot s standing) slot) out 1024
-        → Marked (extended-marked? i ns (row-slot (x * 4) standing) slot) out 1024
+        → Marked (extended-marked? i ns (row-slot x standing) slot) out 1024
     used-marked out q = record { same = λ k h. q .same k h ∙ used-marked? k h }
 
-    pub used-tally : tally (extended-marked? b ns (row-slot s standing) slot) 0 1024 ≡ tally (extended-marked? i ns (row-slot (x * 4) standing) slot) 0 1024
-    used-tally = tally-same (extended-marked? i ns (row-slot (x * 4) standing) slot) (extended-marked? b ns (row-slot s standing) slot) 0 1024 (λ k l u. used-marked? k (omega arith))
+    pub used-tally : tally (extended-marked? b ns (row-slot s standing) slot) 0 1024 ≡ tally (extended-marked? i ns (row-slot x standing) slot) 0 1024
+    used-tally = tally-same (extended-marked? i ns (row-slot x standing) slot) (extended-marked? b ns (row-slot s standing) slot) 0 1024 (λ k l u. used-marked? k (omega arith))

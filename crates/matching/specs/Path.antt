@@ -46,21 +46,27 @@ pub record Inside (t : Template) (inside : List ℕ) : Type 0 where
   pub long : size t ≤ length inside
   pub same : (d k i : ℕ) → At (components t) d k i → getD inside d 0 ≡ inside-code k i
 
--- the letters' rows, kept shifted for the first four places of a component, a slot for each letter and each of these places: a candidate
--- then costs one AND for each word. For a later place a letter's row is shifted as it is used. The code has the number as `SHIFTS`
+-- the letters' rows, kept shifted for the first places of a component, a slot for each letter and each of these places, place by place: a
+-- candidate then costs one AND for each word. For a later place a letter's row is shifted as it is used. They are kept for as many places
+-- as the table has room for, at least one
+abbrev pub kept-places : List ℕ → ℕ
+kept-places standing = length standing / (Letter-BASES * Row-WORDS)
+
+-- and at most four, as in a leg. The code has the number as `SHIFTS`
 abbrev pub Letter-SHIFTS : ℕ
 Letter-SHIFTS = 4
 
 pub record Letters (t : Template) (ns l standing : List ℕ) : Type 0 where
-  pub long : Letter-SHIFTS * Letter-BASES * Row-WORDS ≤ length standing
-  pub rows : (x i : ℕ) → x < base-of t → i < Letter-SHIFTS → Filled (λ _. true) (lettered-on i (profile-of t .reading .fits) x ns (map value l)) ns (row-slot (x * Letter-SHIFTS + i) standing) (length ns)
+  pub long : Letter-BASES * Row-WORDS ≤ length standing
+  pub rows : (x i : ℕ) → x < base-of t → i < kept-places standing → Filled (λ _. true) (lettered-on i (profile-of t .reading .fits) x ns (map value l)) ns (row-slot (i * Letter-BASES + x) standing) (length ns)
 
--- which slot letter x is taken from for place i of its component, and how far its row is shifted as it is used
-unfoldable pub used-slot : ℕ → ℕ → ℕ
-used-slot x i = if (ltb i Letter-SHIFTS) (x * Letter-SHIFTS + i) (x * Letter-SHIFTS)
+-- which slot letter x is taken from for place i of its component, where the rows for n places are kept, and how far its row is shifted as
+-- it is used
+unfoldable pub used-slot : ℕ → ℕ → ℕ → ℕ
+used-slot n x i = if (ltb i n) (i * Letter-BASES + x) x
 
-unfoldable pub used-shift : ℕ → ℕ
-used-shift i = if (ltb i Letter-SHIFTS) 0 i
+unfoldable pub used-shift : ℕ → ℕ → ℕ
+used-shift n i = if (ltb i n) 0 i
 
 -- all of it
 pub record Ready (t : Template) (ns l inside firsts standing : List ℕ) : Type 0 where

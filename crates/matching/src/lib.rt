@@ -9,17 +9,23 @@ use rules::SequenceSet;
 use rules::Template;
 
 // The words of a row, and how long the tables are that a caller lends: a place for each letter of a motif; where each sequence begins,
-// and where the last one ends; SHIFTS rows for each letter; and a slot for each prefix of a path.
+// and where the last one ends; from one to SHIFTS rows for each letter; and a slot for each prefix of a path.
 pub const WORDS: usize = rows::WORDS;
 
 pub const LETTERS: usize = Template::LETTERS as usize;
 
 pub const ENDS: usize = SequenceSet::SEQUENCES + 1;
 
-// A letter's row is kept shifted for each of the first four places of a component: a candidate that ends there costs one AND for each
-// word. For a later place it is shifted as it is used, which costs as much again. More of them would not fit the stack that a call may use.
+// A row for each letter.
+pub const BASES: usize = Letter::BASES as usize;
+
+pub const ROWS: usize = BASES * WORDS;
+
+// A letter's row is kept shifted for each of the first places of a component: a candidate that ends there costs one AND for each word.
+// For a later place it is shifted as it is used, which costs as much again. They are kept for as many places as the table that is lent
+// has room for, at least one: in a leg for the first four, as more of them would not fit the stack that a call may use.
 pub const SHIFTS: usize = 4;
 
-pub const STANDING: usize = SHIFTS * Letter::BASES as usize * WORDS;
+pub const STANDING: usize = SHIFTS * ROWS;
 
 pub const SLOTS: usize = LETTERS * WORDS;

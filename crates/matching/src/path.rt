@@ -49,9 +49,10 @@ fn extend(
     let below = size as usize - 1;
     let x = (number % Letter::BASES) as usize;
     let i = (inside[below] % PLACES) as usize;
-    let b = tables::slot_of(x, i) * WORDS;
+    let n = tables::kept(standing);
+    let b = tables::slot_of(n, x, i) * WORDS;
     let f = b + WORDS;
-    let by = tables::shift_of(i);
+    let by = tables::shift_of(n, i);
     set::keep_all(lengths, firsts, slot, &standing[b..f], by, quorum, work)
 }
 

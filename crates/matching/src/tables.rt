@@ -1,15 +1,17 @@
 // What a search's candidates are examined with, made once: which component each letter of a motif belongs to, where each sequence's
 // words begin, the letters' rows, and the first slot of the path.
-use super::SHIFTS;
+use super::BASES;
+use super::ROWS;
 use super::path::PLACES;
 use rows::WORDS;
 use rows::set;
 use rows::shift;
+use rows::words;
 use rules::Letter;
 use rules::Template;
 ghost use mathlib.Core.Bool.{true};
 ghost use mathlib.Core.Path.{_≡_};
-ghost use Prim.Native.Nat.{ℕ, _+_, _*_, _≤_, _<_};
+ghost use Prim.Native.Nat.{ℕ, _+_, _*_, _/_, _%_, _≤_, _<_};
 ghost use lib.Dec.{eqb};
 ghost use lib.ListN.{length, take, getD};
 ghost use Rattle.rules.specs.Letters.{letter};
@@ -17,8 +19,8 @@ ghost use Rattle.rules.specs.Limits.{Letter-BASES, Template-LENGTH, Template-CO
 ghost use Rattle.rules.specs.Lists as lists;
 ghost use Rattle.rules.specs.Sound.{SoundSet, SoundTemplate};
 ghost use Rattle.rules.specs.Template as templates;
-ghost use Rattle.matching.specs.Path.{Letter-SHIFTS, used-slot, used-shift, row-slot, inside-code, Path, Inside, Letters, Ready};
-ghost use Rattle.rows.specs.Set.{Row-WORDS, first-word, Firsts, Offsets, shifted-at, lettered-on, Filled};
+ghost use Rattle.matching.specs.Path.{Letter-SHIFTS, kept-places, used-slot, used-shift, row-slot, inside-code, Path, Inside, Letters, Ready};
+ghost use Rattle.rows.specs.Set.{Row-WORDS, first-word, Firsts, Offsets, shifted-at, lettered-at, Filled};
 
 // The places of the `n` letters of component `k`, the first of which is letter `from` of a motif.
 fn place_component(k: u8, n: u8, from: usize, inside: &mut [u8])
@@ -54,6 +56,57 @@ fn place_letters(template: Template, inside: &mut [u8])
     }
 }
 
+// For how many of the first places of a component the letters' rows are kept shifted: as many as the table has room for.
+pub fn kept(standing: &[u64]) -> usize
+    ensures { λ r. ⌜ r ≡ kept-places (now (standing .entry)) ⌝ }
+{
+    standing.len() / ROWS
+}
+
+// The row of the letter with the value `x`, in its slot for the first place of a component.
+fn letter_slot(
+    x: u64,
+    letters: &[u8],
+    lengths: &[u32],
+    firsts: &[u32],
+    offsets: &[u32],
+    standing: &mut [u64],
+)
+    requires { ⌜ SoundSet (now letters) (now lengths) ⌝ }
+    requires { ⌜ Firsts (now lengths) (now firsts) ⌝ }
+    requires { ⌜ Offsets (now lengths) (now offsets) ⌝ }
+    requires { ⌜ (x < Letter-BASES) × (Letter-BASES * Row-WORDS ≤ length (now standing)) ⌝ }
+    ensures { λ _. ⌜ (take (x * Row-WORDS) (now (standing .exit)) ≡ take (x * Row-WORDS) (now (standing .entry))) × (length (now (standing .exit)) ≡ length (now (standing .entry))) ⌝ }
+    ensures { λ _. ⌜ Filled (λ _. true) (lettered-at eqb (letter x) (now (lengths .entry)) (now (letters .entry))) (now (lengths .entry)) (row-slot x (now (standing .exit))) (length (now (lengths .entry))) ⌝ }
+{
+    let byte = Letter::byte(x);
+    let a = x as usize * WORDS;
+    let e = a + WORDS;
+    set::letter_row(byte, letters, lengths, firsts, offsets, &mut standing[a..e]);
+}
+
+// The rows of all letters, in their slots for the first place of a component.
+fn letter_slots(
+    letters: &[u8],
+    lengths: &[u32],
+    firsts: &[u32],
+    offsets: &[u32],
+    standing: &mut [u64],
+)
+    requires { ⌜ SoundSet (now letters) (now lengths) ⌝ }
+    requires { ⌜ Firsts (now lengths) (now firsts) ⌝ }
+    requires { ⌜ Offsets (now lengths) (now offsets) ⌝ }
+    requires { ⌜ Letter-BASES * Row-WORDS ≤ length (now standing) ⌝ }
+    ensures { λ _. ⌜ length (now (standing .exit)) ≡ length (now (standing .entry)) ⌝ }
+    ensures { λ _. ⌜ ((x : ℕ) → x < Letter-BASES → Filled (λ _. true) (lettered-at eqb (letter x) (now (lengths .entry)) (now (letters .entry))) (now (lengths .entry)) (row-slot x (now (standing .exit))) (length (now (lengths .entry)))) ⌝ }
+{
+    let mut x = 0;
+    while x < Letter::BASES {
+        letter_slot(x, letters, lengths, firsts, offsets, standing);
+        x += 1;
+    }
+}
+
 // A letter's row shifted for place `i` of a component, in slot `s`.
 fn shift_slot(
     s: usize,
@@ -65,7 +118,7 @@ fn shift_slot(
 )
     requires { ⌜ Firsts (now lengths) (now firsts) ⌝ }
     requires { ⌜ (first-word (now lengths) (length (now lengths)) ≤ Row-WORDS) × (length (now row) ≡ Row-WORDS) ⌝ }
-    requires { ⌜ (i < Letter-SHIFTS) × (s < Letter-SHIFTS * Letter-BASES) × (Letter-SHIFTS * Letter-BASES * Row-WORDS ≤ length (now standing)) ⌝ }
+    requires { ⌜ (i < Letter-SHIFTS) × (s * Row-WORDS + Row-WORDS ≤ length (now standing)) ⌝ }
     ensures { λ _. ⌜ (take (s * Row-WORDS) (now (standing .exit)) ≡ take (s * Row-WORDS) (now (standing .entry))) × (length (now (standing .exit)) ≡ length (now (standing .entry))) ⌝ }
     ensures { λ _. ⌜ Filled (λ _. true) (shifted-at i (now (lengths .entry)) (now (row .entry))) (now (lengths .entry)) (row-slot s (now (standing .exit))) (length (now (lengths .entry))) ⌝ }
 {
@@ -74,46 +127,22 @@ fn shift_slot(
     shift::shift_all(i, lengths, firsts, row, &mut standing[a..e]);
 }
 
-// The slots of the letter with the value `x`, from its row: one for each of the first places of a component.
-fn shift_slots(x: usize, lengths: &[u32], firsts: &[u32], row: &[u64], standing: &mut [u64])
+// Slot `s`, past those for the first place, from that of its letter for the first place. `work` is lent for the letter's row.
+fn later_slot(s: usize, lengths: &[u32], firsts: &[u32], work: &mut [u64], standing: &mut [u64])
     requires { ⌜ Firsts (now lengths) (now firsts) ⌝ }
-    requires { ⌜ (first-word (now lengths) (length (now lengths)) ≤ Row-WORDS) × (length (now row) ≡ Row-WORDS) ⌝ }
-    requires { ⌜ (x < Letter-BASES) × (Letter-SHIFTS * Letter-BASES * Row-WORDS ≤ length (now standing)) ⌝ }
-    ensures { λ _. ⌜ (take (x * Letter-SHIFTS * Row-WORDS) (now (standing .exit)) ≡ take (x * Letter-SHIFTS * Row-WORDS) (now (standing .entry))) × (length (now (standing .exit)) ≡ length (now (standing .entry))) ⌝ }
-    ensures { λ _. ⌜ ((i : ℕ) → i < Letter-SHIFTS → Filled (λ _. true) (shifted-at i (now (lengths .entry)) (now (row .entry))) (now (lengths .entry)) (row-slot (x * Letter-SHIFTS + i) (now (standing .exit))) (length (now (lengths .entry)))) ⌝ }
+    requires { ⌜ (first-word (now lengths) (length (now lengths)) ≤ Row-WORDS) × (length (now work) ≡ Row-WORDS) ⌝ }
+    requires { ⌜ (Letter-BASES ≤ s) × (s < Letter-SHIFTS * Letter-BASES) × (s * Row-WORDS + Row-WORDS ≤ length (now standing)) ⌝ }
+    ensures { λ _. ⌜ (take (s * Row-WORDS) (now (standing .exit)) ≡ take (s * Row-WORDS) (now (standing .entry))) × (length (now (standing .exit)) ≡ length (now (standing .entry))) × (length (now (work .exit)) ≡ length (now (work .entry))) ⌝ }
+    ensures { λ _. ⌜ Filled (λ _. true) (shifted-at (s / Letter-BASES) (now (lengths .entry)) (row-slot (s % Letter-BASES) (now (standing .entry)))) (now (lengths .entry)) (row-slot s (now (standing .exit))) (length (now (lengths .entry))) ⌝ }
 {
-    let first = x * SHIFTS;
-    let mut i = 0;
-    while i < SHIFTS {
-        shift_slot(first + i, i, lengths, firsts, row, standing);
-        i += 1;
-    }
+    let a = s % BASES * WORDS;
+    let e = a + WORDS;
+    words::copy(&standing[a..e], work);
+    shift_slot(s, s / BASES, lengths, firsts, work, standing);
 }
 
-// The rows of the letter with the value `x`, in its slots. `work` is lent for its row as it is.
-fn letter_slots(
-    x: u64,
-    letters: &[u8],
-    lengths: &[u32],
-    firsts: &[u32],
-    offsets: &[u32],
-    work: &mut [u64],
-    standing: &mut [u64],
-)
-    requires { ⌜ SoundSet (now letters) (now lengths) ⌝ }
-    requires { ⌜ Firsts (now lengths) (now firsts) ⌝ }
-    requires { ⌜ Offsets (now lengths) (now offsets) ⌝ }
-    requires { ⌜ (x < Letter-BASES) × (length (now work) ≡ Row-WORDS) × (Letter-SHIFTS * Letter-BASES * Row-WORDS ≤ length (now standing)) ⌝ }
-    ensures { λ _. ⌜ (take (x * Letter-SHIFTS * Row-WORDS) (now (standing .exit)) ≡ take (x * Letter-SHIFTS * Row-WORDS) (now (standing .entry))) × (length (now (standing .exit)) ≡ length (now (standing .entry))) × (length (now (work .exit)) ≡ length (now (work .entry))) ⌝ }
-    ensures { λ _. ⌜ ((i : ℕ) → i < Letter-SHIFTS → Filled (λ _. true) (lettered-on i eqb (letter x) (now (lengths .entry)) (now (letters .entry))) (now (lengths .entry)) (row-slot (x * Letter-SHIFTS + i) (now (standing .exit))) (length (now (lengths .entry)))) ⌝ }
-{
-    let byte = Letter::byte(x);
-    let value = x as usize;
-    set::letter_row(byte, letters, lengths, firsts, offsets, work);
-    shift_slots(value, lengths, firsts, work, standing);
-}
-
-// The rows of all letters. The template says nothing to the code: its letters are the four.
+// The rows of all letters, for as many places as the table has room for, place by place. `work` is lent for a letter's row. The template
+// says nothing to the code: its letters are the four.
 fn letter_rows(
     template: Template,
     letters: &[u8],
@@ -126,35 +155,34 @@ fn letter_rows(
     requires { ⌜ SoundSet (now letters) (now lengths) ⌝ }
     requires { ⌜ Firsts (now lengths) (now firsts) ⌝ }
     requires { ⌜ Offsets (now lengths) (now offsets) ⌝ }
-    requires { ⌜ (length (now work) ≡ Row-WORDS) × (Letter-SHIFTS * Letter-BASES * Row-WORDS ≤ length (now standing)) ⌝ }
+    requires { ⌜ (length (now work) ≡ Row-WORDS) × (Letter-BASES * Row-WORDS ≤ length (now standing)) × (length (now standing) ≤ Letter-SHIFTS * Letter-BASES * Row-WORDS) ⌝ }
     ensures { λ _. ⌜ Letters template (now (lengths .entry)) (now (letters .entry)) (now (standing .exit)) ⌝ }
     ensures { λ _. ⌜ (length (now (standing .exit)) ≡ length (now (standing .entry))) × (length (now (work .exit)) ≡ length (now (work .entry))) ⌝ }
 {
-    let mut x = 0;
-    while x < Letter::BASES {
-        letter_slots(x, letters, lengths, firsts, offsets, work, standing);
-        x += 1;
+    letter_slots(letters, lengths, firsts, offsets, standing);
+    let n = kept(standing);
+    let end = n * BASES;
+    let mut s = BASES;
+    while s < end {
+        later_slot(s, lengths, firsts, work, standing);
+        s += 1;
     }
 }
 
-// The slot that the letter with the value `x` is taken from for place `i` of its component: that of its row shifted so far, where it is
-// kept, and else that of the row as it is.
-pub fn slot_of(x: usize, i: usize) -> usize
-    requires { ⌜ x < Letter-BASES ⌝ }
-    ensures { λ r. ⌜ (r ≡ used-slot x i) × (r < Letter-SHIFTS * Letter-BASES) ⌝ }
+// The slot that the letter with the value `x` is taken from for place `i` of its component, where the rows for `n` places are kept: that
+// of its row shifted so far, where it is kept, and else that of the row as it is.
+pub fn slot_of(n: usize, x: usize, i: usize) -> usize
+    requires { ⌜ (1 ≤ n) × (x < Letter-BASES) × (i < 16) ⌝ }
+    ensures { λ r. ⌜ (r ≡ used-slot n x i) × (r < n * Letter-BASES) ⌝ }
 {
-    if i < SHIFTS {
-        x * SHIFTS + i
-    } else {
-        x * SHIFTS
-    }
+    if i < n { i * BASES + x } else { x }
 }
 
 // How far the row in that slot is shifted as it is used.
-pub fn shift_of(i: usize) -> usize
-    ensures { λ r. ⌜ (r ≡ used-shift i) × (r ≤ i) ⌝ }
+pub fn shift_of(n: usize, i: usize) -> usize
+    ensures { λ r. ⌜ (r ≡ used-shift n i) × (r ≤ i) ⌝ }
 {
-    if i < SHIFTS { 0 } else { i }
+    if i < n { 0 } else { i }
 }
 
 // The path to the first candidates, those of one letter: its slot has every mark and every bit.
@@ -169,7 +197,7 @@ fn first_slot(template: Template, letters: &[u8], lengths: &[u32], rows: &mut [u
     set::begin(n, &mut rows[..WORDS]);
 }
 
-// All of it. `work` is lent for a row.
+// All of it. `work` is lent for a row. The letters' rows are kept for as many places as `standing` has room for, at least one.
 pub fn make(
     template: Template,
     letters: &[u8],
@@ -183,7 +211,7 @@ pub fn make(
 )
     requires { ⌜ SoundTemplate template ⌝ }
     requires { ⌜ SoundSet (now letters) (now lengths) ⌝ }
-    requires { ⌜ (templates.size template ≤ length (now inside)) × (length (now lengths) < length (now firsts)) × (length (now lengths) < length (now offsets)) × (Letter-SHIFTS * Letter-BASES * Row-WORDS ≤ length (now standing)) × (Row-WORDS ≤ length (now rows)) × (length (now work) ≡ Row-WORDS) ⌝ }
+    requires { ⌜ (templates.size template ≤ length (now inside)) × (length (now lengths) < length (now firsts)) × (length (now lengths) < length (now offsets)) × (Letter-BASES * Row-WORDS ≤ length (now standing)) × (length (now standing) ≤ Letter-SHIFTS * Letter-BASES * Row-WORDS) × (Row-WORDS ≤ length (now rows)) × (length (now work) ≡ Row-WORDS) ⌝ }
     ensures { λ _. ⌜ Ready template (now (lengths .entry)) (now (letters .entry)) (now (inside .exit)) (now (firsts .exit)) (now (standing .exit)) ⌝ }
     ensures { λ _. ⌜ Offsets (now (lengths .entry)) (now (offsets .exit)) ⌝ }
     ensures { λ _. ⌜ Path template (now (lengths .entry)) (now (letters .entry)) (now (rows .exit)) 1 0 ⌝ }

@@ -119,7 +119,7 @@ pub fn check_passes(
 }
 
 // Whether the place of a search, one with letters, is a candidate, for a caller that goes on with no leg. The tables are made for it
-// alone, with one slot instead of a path.
+// alone, with one slot instead of a path, and one row for each letter, which is shifted as it is used.
 fn candidate_alone(letters: &[u8], lengths: &[u32], s: Search) -> bool
     requires { ⌜ SoundSet (now letters) (now lengths) ⌝ }
     requires { ⌜ SoundTemplate (s .template) ⌝ }
@@ -135,7 +135,7 @@ fn candidate_alone(letters: &[u8], lengths: &[u32], s: Search) -> bool
     let mut inside = [0u8; matching::LETTERS];
     let mut firsts = [0u32; matching::ENDS];
     let mut offsets = [0u32; matching::ENDS];
-    let mut standing = [0u64; matching::STANDING];
+    let mut standing = [0u64; matching::ROWS];
     let mut slot = [0u64; matching::WORDS];
     let mut work = [0u64; matching::WORDS];
     let mut spare = [0u64; matching::WORDS];

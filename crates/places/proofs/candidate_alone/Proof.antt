@@ -27,7 +27,7 @@ slice-aggregate-make-6 c = search needs
 make-requires : tie.Need-make-requires
 make-requires c κs =
     let p = c .before .before .before .before .before .before .before .before .before .before .pre in
-    (p .1 .0, (p .0, (p .1 .0 .deep, omega (arith, p .0 .few), omega (arith, p .0 .few), omega arith, omega arith, omega arith)))
+    (p .1 .0, (p .0, (p .1 .0 .deep, omega (arith, p .0 .few), omega (arith, p .0 .few), omega arith, omega arith, omega arith, omega arith)))
 
 slice-aggregate-shorter : tie.Need-slice-aggregate-shorter
 slice-aggregate-shorter c = search needs

@@ -14,7 +14,7 @@ make-requires c κs =
     let b = c .before .before .before .before .before .before .before .before .before .before .before .before .before .before .before .before .before .before in
     let p = b .pre in
     let t = p .1 .1 .1 in
-    (p .1 .0, (p .0, (omega (arith, t .inside-long, p .1 .0 .deep), omega (arith, t .firsts-long, p .0 .few), omega (arith, t .offsets-long, p .0 .few), omega (arith, t .standing-long), omega (arith, t .rows-long), t .work-long)))
+    (p .1 .0, (p .0, (omega (arith, t .inside-long, p .1 .0 .deep), omega (arith, t .firsts-long, p .0 .few), omega (arith, t .offsets-long, p .0 .few), omega (arith, t .standing-long), omega (arith, t .standing-long), omega (arith, t .rows-long), t .work-long)))
 
 replay-requires : tie.Need-replay-requires
 replay-requires c κs =

@@ -21,6 +21,9 @@ shared-slice-read-i c = search needs
 cast-i : tie.Need-cast-i
 cast-i c = search needs
 
+kept-requires : tie.Need-kept-requires
+kept-requires c κs = search needs
+
 slot-of-requires : tie.Need-slot-of-requires
 slot-of-requires c κs = search needs
 
@@ -34,7 +37,9 @@ shift-of-requires : tie.Need-shift-of-requires
 shift-of-requires c κs = search needs
 
 mul-keep-all : tie.Need-mul-keep-all
-mul-keep-all c = search needs
+mul-keep-all c =
+    let b = c .before .before .before .before .before .before .before .before .before .before .before in
+    omega (arith, c .before .slot-of .ensures .1, c .before .before .kept .ensures, b .good .1 .1 .1 .1 .1 .1 .1 .0)
 
 sub-keep-all : tie.Need-sub-keep-all
 sub-keep-all c = search needs
@@ -48,14 +53,15 @@ part-keep-all-end c = search needs
 keep-all-requires : tie.Need-keep-all-requires
 unfolding row-slot between
 keep-all-requires c κs =
-    let b = c .before .before .before .before .before .before .before .before .before .before .before .before in
+    let b = c .before .before .before .before .before .before .before .before .before .before .before .before .before in
     let a = b .args in
     let p = b .pre in
     let deep = p .1 .1 .0 in
     let long = p .1 .1 .1 .1 .1 in
     let from = c .before .before .before .slot-of in
+    let n = c .before .before .before .before .kept .ensures in
     let bounded = below-bounded (a .template) (p .0) (a .letters .now) (a .lengths .now) (p .1 .0) (a .size) (a .number) (deep .0) (deep .1) _ _ _ (a .slot .now) (p .1 .1 .1 .0) (p .1 .1 .1 .1 .0) in
-    let letter = row-long (from .result) (a .standing .now) (omega (arith, from .ensures .1, p .1 .1 .1 .0 .letters .long)) in
+    let letter = row-long (from .result) (a .standing .now) (omega (arith, from .ensures .1, n, p .1 .1 .1 .0 .letters .long)) in
     ((p .1 .0 .few, omega (arith, c .before .before .shift-of .ensures .1)), (p .1 .1 .1 .0 .laid, (bounded, (omega (arith, long .0, enough (a .letters .now) (a .lengths .now) (p .1 .0)), omega (arith, long .0, letter), omega (arith, long .0, long .1)))))
 
 same-length : tie.Need-same-length
@@ -64,7 +70,7 @@ same-length c = search needs
 returns : tie.Need-returns
 unfolding row-slot between
 returns c =
-    let b = c .before .before .before .before .before .before .before .before .before .before .before .before .before .before .before in
+    let b = c .before .before .before .before .before .before .before .before .before .before .before .before .before .before .before .before in
     let a = b .args in
     let p = b .pre in
     let k = c .before .before .keep-all .ensures in
@@ -73,11 +79,12 @@ returns c =
     let ready = p .1 .1 .1 .0 in
     let from = c .before .before .before .before .before .before .slot-of .ensures .0 in
     let by = c .before .before .before .before .before .shift-of .ensures .0 in
+    let n = c .before .before .before .before .before .before .before .kept .ensures in
     let i = getD (a .inside .now) (a .size - 1) 0 % 16 in
     let bounded = below-bounded (a .template) (p .0) (a .letters .now) (a .lengths .now) (p .1 .0) (a .size) (a .number) (deep .0) (deep .1) _ _ _ (a .slot .now) ready (p .1 .1 .1 .1 .0) in
     let small = last-letter (a .template) (p .0) (a .letters .now) (a .lengths .now) (p .1 .0) (a .size) (a .number) (deep .0) (deep .1) _ _ _ (a .slot .now) ready (p .1 .1 .1 .1 .0) in
-    let all = used-tally (a .template) (a .lengths .now) (a .letters .now) (a .standing .now) (ready .letters) (a .number % 4) small (a .slot .now) bounded i from by ∙ kept-support (a .template) (p .0) (a .letters .now) (a .lengths .now) (p .1 .0) (a .size) (a .number) (deep .0) (deep .1) _ _ _ (a .slot .now) ready (p .1 .1 .1 .1 .0) (long .0) in
-    (omega (arith, all, k .0), ((λ h. k .1 .0 h ∙ all), ((λ h. kept-row (a .template) (p .0) (a .letters .now) (a .lengths .now) (p .1 .0) (a .size) (a .number) (deep .0) (deep .1) _ _ _ (a .slot .now) ready (p .1 .1 .1 .1 .0) (long .0) _ (used-filled (a .template) (a .lengths .now) (a .letters .now) (a .standing .now) (ready .letters) (a .number % 4) small (a .slot .now) bounded i from by _ (k .1 .1 .1 .0 h)) (used-marked (a .template) (a .lengths .now) (a .letters .now) (a .standing .now) (ready .letters) (a .number % 4) small (a .slot .now) bounded i from by _ (k .1 .1 .0 h))), k .1 .1 .1 .1)))
+    let all = used-tally (a .template) (a .lengths .now) (a .letters .now) (a .standing .now) (ready .letters) (a .number % 4) small (a .slot .now) bounded i n from by ∙ kept-support (a .template) (p .0) (a .letters .now) (a .lengths .now) (p .1 .0) (a .size) (a .number) (deep .0) (deep .1) _ _ _ (a .slot .now) ready (p .1 .1 .1 .1 .0) (long .0) in
+    (omega (arith, all, k .0), ((λ h. k .1 .0 h ∙ all), ((λ h. kept-row (a .template) (p .0) (a .letters .now) (a .lengths .now) (p .1 .0) (a .size) (a .number) (deep .0) (deep .1) _ _ _ (a .slot .now) ready (p .1 .1 .1 .1 .0) (long .0) _ (used-filled (a .template) (a .lengths .now) (a .letters .now) (a .standing .now) (ready .letters) (a .number % 4) small (a .slot .now) bounded i n from by _ (k .1 .1 .1 .0 h)) (used-marked (a .template) (a .lengths .now) (a .letters .now) (a .standing .now) (ready .letters) (a .number % 4) small (a .slot .now) bounded i n from by _ (k .1 .1 .0 h))), k .1 .1 .1 .1)))
 
 pub extend-spec : {M : Type 1} → statement M
 extend-spec =
@@ -86,6 +93,7 @@ extend-spec =
     sub-below
     shared-slice-read-i
     cast-i
+    kept-requires
     slot-of-requires
     mul-b
     add-f

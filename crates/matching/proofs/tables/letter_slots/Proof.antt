@@ -1,49 +1,58 @@
--- The letter's row is made first, and each of its slots is that row shifted.
+-- Each turn writes the slot of one letter, past those of the letters before it.
 use borrow.Author.Needs.{needs}
+use mathlib.Core.Path.{_≡_, refl, _∙_}
+use Prim.Native.Nat.{_-_, _≤_}
 use native.Mathlib.Omega.{arith}
-use Rattle.matching.proofs.Bytes.{letter-shifted}
-use Rattle.matching.proofs.Slots.{enough}
+use lib.ListN.{length}
+use Rattle.matching.proofs.Bytes.{Whole, whole-none, whole-more, whole-end}
 use Rattle.matching.proofs.tables.letter_slots.Statement.{statement}
 use Rattle.matching.proofs.tables.letter_slots.Tie as tie
 
-byte-requires : tie.Need-byte-requires
-byte-requires c κs = search needs
+abbrev Inv-loop : tie.InvT-loop
+Inv-loop letters lengths firsts offsets standing₀ x₀ standing x = (x ≤ 4) × (length standing ≡ length standing₀) × Whole lengths letters x standing
 
-letter-row-requires : tie.Need-letter-row-requires
-letter-row-requires c κs =
-    let s = c .before .before .before .before .before .before .before .before in
-    let a = s .args in
-    let p = s .pre in
-    (p .0 .adds, (p .1 .0, (p .1 .1 .0, omega (arith, p .1 .1 .1 .1, enough (a .letters .now) (a .lengths .now) (p .0)))))
+abbrev μ-loop : tie.MeasureT-loop
+μ-loop letters lengths firsts offsets standing₀ x₀ standing x = 4 - x
 
-shift-slots-requires : tie.Need-shift-slots-requires
-shift-slots-requires c κs =
-    let s = c .before .before .before .before .before .before .before .before .before .before .before .before .before in
-    let a = s .args in
-    let p = s .pre in
-    let w = c .before .before .before .before .letter-row .ensures in
-    (p .1 .0, ((enough (a .letters .now) (a .lengths .now) (p .0), omega (arith, w .1, p .1 .1 .1 .1)), (p .1 .1 .1 .0, p .1 .1 .1 .2)))
+loop-holds : tie.Need-loop-holds Inv-loop μ-loop
+loop-holds c = (omega arith, refl, whole-none _ _ _ _ refl)
 
-same-length : tie.Need-same-length
+letter-slot-requires : tie.Need-letter-slot-requires Inv-loop μ-loop
+letter-slot-requires c κs =
+    let p = c .before .before .before .before .before .before .before .before .pre in
+    let l = c .before .before .loop in
+    (p .0, (p .1 .0, (p .1 .1 .0, (c .before .loop-test .taken, omega (arith, l .inv .1, p .1 .1 .1)))))
+
+add-x : tie.Need-add-x Inv-loop μ-loop
+add-x c = search needs
+
+loop-less : tie.Need-loop-less Inv-loop μ-loop
+loop-less c = search needs
+
+loop-again : tie.Need-loop-again Inv-loop μ-loop
+loop-again c =
+    let a = c .before .before .before .before .before .before .before .before .before .before .before .args in
+    let l = c .before .before .before .before .before .loop in
+    let o = c .before .before .letter-slot .ensures in
+    (search needs, o .0 .1 ∙ l .inv .1, whole-more (a .lengths .now) (a .letters .now) (l .x) (l .standing) _ (l .inv .2) (o .0 .0) (o .1))
+
+same-length : tie.Need-same-length Inv-loop μ-loop
 same-length c = search needs
 
-same-length-2 : tie.Need-same-length-2
-same-length-2 c = search needs
-
-returns : tie.Need-returns
+returns : tie.Need-returns Inv-loop μ-loop
 returns c =
-    let a = c .before .before .before .before .before .before .before .before .before .before .before .before .before .before .before .before .args in
-    let w = c .before .before .before .before .before .before .before .letter-row .ensures in
-    let o = c .before .before .shift-slots .ensures in
-    ((o .0 .0, o .0 .1, w .1), λ i h. letter-shifted (a .x) i (a .lengths .now) (a .letters .now) _ _ (c .before .before .before .before .before .before .before .before .before .byte .ensures) (w .0) (o .1 i h))
+    let l = c .before .loop in (l .inv .1, whole-end _ _ (l .x) _ (omega (arith, c .loop-test .left)) (l .inv .2))
 
 pub letter-slots-spec : {M : Type 1} → statement M
 letter-slots-spec =
     tie.close
     (tie.spec
-    byte-requires
-    letter-row-requires
-    shift-slots-requires
+    Inv-loop
+    μ-loop
+    loop-holds
+    letter-slot-requires
+    add-x
+    loop-less
+    loop-again
     same-length
-    same-length-2
     returns)

@@ -17,12 +17,12 @@ letter-rows-requires : tie.Need-letter-rows-requires
 letter-rows-requires c κs =
     let p = c .before .before .before .before .before .before .before .before .before .before .before .before .before .before .before .before .before .before .before .before .before .before .before .pre in
     let o = c .before .before .before .before .before .before .before .before .lay-out .ensures in
-    (p .1 .0, (o .0, (o .1 .0, (p .1 .1 .5, p .1 .1 .3))))
+    (p .1 .0, (o .0, (o .1 .0, (p .1 .1 .6, p .1 .1 .3, p .1 .1 .4))))
 
 first-slot-requires : tie.Need-first-slot-requires
 first-slot-requires c κs =
     let p = c .before .before .before .before .before .before .before .before .before .before .before .before .before .before .before .before .before .before .before .before .before .before .before .before .before .before .before .before .before .pre in
-    (p .0, (p .1 .0, p .1 .1 .4))
+    (p .0, (p .1 .0, p .1 .1 .5))
 
 same-length : tie.Need-same-length
 same-length c = c .before .before .before .before .before .before .before .before .before .before .before .before .before .before .before .before .before .before .before .before .before .before .place-letters .ensures .1

@@ -30,7 +30,7 @@ shift-all-requires c κs =
     let s = c .before .before .before .before .before in
     let a = s .args in
     let p = s .pre in
-    let n = mid-len (a .s * 2072) (a .s * 2072 + 2072) (a .standing .now) (omega (arith, p .1 .1 .1, p .1 .1 .2)) in
+    let n = mid-len (a .s * 2072) (a .s * 2072 + 2072) (a .standing .now) (p .1 .1 .1) in
     (omega (arith, p .1 .1 .0), (p .0, (omega (arith, p .1 .0 .0, p .1 .0 .1), omega (arith, n, p .1 .0 .0))))
 
 same-length : tie.Need-same-length
@@ -42,7 +42,7 @@ returns c =
     let a = s .args in
     let p = s .pre in
     let o = c .before .before .shift-all .ensures in
-    slot-filled (a .s) _ (a .lengths .now) (a .standing .now) (omega (arith, p .1 .1 .1, p .1 .1 .2)) _ (o .1) (o .0)
+    slot-filled (a .s) _ (a .lengths .now) (a .standing .now) (p .1 .1 .1) _ (o .1) (o .0)
 
 pub shift-slot-spec : {M : Type 1} → statement M
 shift-slot-spec =
