@@ -15,7 +15,7 @@
 
 /* The thread's stack, in bytes, as the header has it, and how much of it may be used: what is left is for a caller's own frames. */
 #define STACK 1572864
-#define LIMIT (STACK - 131072)
+#define LIMIT (STACK - 65536)
 
 /* Not 0, with which tables are cleared, and no number of a call's: where it is written, it does not show. */
 #define PATTERN UINT64_C(0xb5a7c3d1e9f58b6d)
