@@ -1,4 +1,4 @@
--- The row that a letter is added with: for one of the first places of a component it is kept shifted and used as it is, for a later one the
+-- The row that a letter is added with: for one of the places that the rows are kept for it is shifted already and used as it is, for a later one the
 -- letter's own row is shifted as it is used. Either way it is one letter more, as with the letter's own row.
 use mathlib.Core.Bool.{true}
 use mathlib.Core.List.{List, map}

@@ -1,6 +1,6 @@
 -- What is shifted into the slot is the row of its letter for the first place, which is copied first.
 use borrow.Author.Needs.{needs}
-use Prim.Native.Nat.{_+_, _*_, _/_, _%_}
+use Prim.Native.Nat.{_/_, _%_}
 use native.Mathlib.Omega.{arith}
 use Rattle.matching.specs.Path.{row-slot}
 use Rattle.rows.specs.Set.{between}

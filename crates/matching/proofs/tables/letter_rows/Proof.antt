@@ -1,7 +1,7 @@
 -- The slots for the first place come first, and each turn writes one slot, past those that stand.
 use borrow.Author.Needs.{needs}
 use mathlib.Core.Path.{_≡_, refl, _∙_}
-use Prim.Native.Nat.{_-_, _*_, _≤_}
+use Prim.Native.Nat.{_-_, _≤_}
 use native.Mathlib.Omega.{arith}
 use lib.ListN.{length}
 use Rattle.matching.proofs.Bytes.{Slotted, slotted-first, slotted-more, slotted-end}
