@@ -1,6 +1,6 @@
 #!/bin/sh
 # The stack that calls use, from C: stack.c runs each on a thread with little of it, and prints a table: a row for each call, with
-# the bytes that were used. A function of the header that has no row in it was not run, and fails too.
+# the bytes that were used. A function of the header that has no row in it where it is refused, or none where it is not, fails too.
 set -eu
 cd "$(dirname "$0")/.."
 # shellcheck source=examples/build.sh
@@ -18,10 +18,16 @@ tells() { # COMMAND..
         exit 1
     fi
     for name in ${names:-tulfasheq_}; do
-        grep -q "^$name .* [0-9][0-9]*\$" "$work/out" || {
-            echo "tests/stack.sh: $name was not run"
-            exit 1
-        }
+        rows=$(grep "^$name .* [0-9][0-9]*\$" "$work/out" || true)
+        for run in refused answered; do
+            case $run in
+            refused) printf '%s\n' "$rows" | grep -q ' refused' ;;
+            answered) printf '%s\n' "$rows" | grep "^$name " | grep -q -v ' refused' ;;
+            esac || {
+                echo "tests/stack.sh: $name was not run, $run"
+                exit 1
+            }
+        done
     done
 }
 

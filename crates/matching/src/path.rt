@@ -8,7 +8,7 @@ use rules::Template;
 ghost use mathlib.Core.Path.{_≡_};
 ghost use Prim.Native.Nat.{ℕ, _+_, _-_, _*_, _/_, _^_, _≤_, _<_};
 ghost use lib.ListN.{length};
-ghost use Rattle.rules.specs.Limits.{Letter-BASES};
+ghost use Rattle.rules.specs.Limits.{SequenceSet-SEQUENCES, Letter-BASES};
 ghost use Rattle.rules.specs.Profile.{base-of};
 ghost use Rattle.rules.specs.Sequences.{sequences};
 ghost use Rattle.rules.specs.Sound.{SoundSet, SoundTemplate};
@@ -110,12 +110,12 @@ fn open_slot(
     slot: &mut [u64],
 )
     requires { ⌜ SoundTemplate template ⌝ }
-    requires { ⌜ (1 ≤ component) × (component < template .count) × (length (now lengths) ≤ 1024) ⌝ }
+    requires { ⌜ (1 ≤ component) × (component < template .count) × (length (now lengths) ≤ SequenceSet-SEQUENCES) ⌝ }
     requires { ⌜ Firsts (now lengths) (now firsts) ⌝ }
     requires { ⌜ Bounded (now lengths) (now row) ⌝ }
     requires { ⌜ (first-word (now lengths) (length (now lengths)) ≤ Row-WORDS) × (length (now row) ≡ Row-WORDS) × (length (now spare) ≡ Row-WORDS) × (length (now slot) ≡ Row-WORDS) ⌝ }
     ensures { λ _. ⌜ (length (now (slot .exit)) ≡ length (now (slot .entry))) × (length (now (spare .exit)) ≡ length (now (spare .entry))) ⌝ }
-    ensures { λ _. ⌜ Marked (marked? (now (row .entry))) (now (slot .exit)) 1024 ⌝ }
+    ensures { λ _. ⌜ Marked (marked? (now (row .entry))) (now (slot .exit)) SequenceSet-SEQUENCES ⌝ }
     ensures { λ _. ⌜ Filled (marked? (now (row .entry))) (window-at (gap-near template component) (templates.span (gap-near template component) (gap-far template component)) (now (lengths .entry)) (now (row .entry))) (now (lengths .entry)) (now (slot .exit)) (length (now (lengths .entry))) ⌝ }
 {
     let components = template.components();

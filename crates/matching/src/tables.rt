@@ -16,7 +16,6 @@ ghost use lib.Dec.{eqb};
 ghost use lib.ListN.{length, take, getD};
 ghost use Rattle.rules.specs.Letters.{letter};
 ghost use Rattle.rules.specs.Limits.{Letter-BASES, Template-LENGTH, Template-COMPONENTS};
-ghost use Rattle.rules.specs.Lists as lists;
 ghost use Rattle.rules.specs.Sound.{SoundSet, SoundTemplate};
 ghost use Rattle.rules.specs.Template as templates;
 ghost use Rattle.matching.specs.Path.{Letter-SHIFTS, kept-places, used-slot, used-shift, row-slot, inside-code, Path, Inside, Letters, Ready};

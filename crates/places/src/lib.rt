@@ -83,7 +83,7 @@ fn passes(
 }
 
 // 13: a place that the search does not pass through.
-pub fn check_passes(
+fn check_passes(
     letters: &[u8],
     lengths: &[u32],
     s: Search,

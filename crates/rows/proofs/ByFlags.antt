@@ -3,17 +3,12 @@
 use mathlib.Core.Bool.{Bool, true, false, false≢true}
 use mathlib.Core.List.{List, [], _∷_, map}
 use mathlib.Core.Path.{_≡_, refl, sym, ap, _∙_}
-use Prim.Native.Nat.{ℕ, zero, suc, _+_, _-_, _*_, _/_, _%_, _≤_, _<_}
+use Prim.Native.Nat.{ℕ, zero, suc, _+_, _-_, _*_, _≤_, _<_}
 use native.Mathlib.Decide.{decLt}
-use native.Mathlib.Nat.{zero-add}
 use native.Mathlib.Omega.{arith}
-use lib.Dec.{eqb}
 use lib.ListN.{length, take, drop, getD, List·getD-map, List·getD-eq-default, length-map}
 use borrow.Rule.Slice.PartMut.{mid-len}
-use borrow.Author.Tests.{eq-eqb, eqb-true}
-use lib.Seq.{ext-getD, getD-take, length-take-le}
 use Rattle.rules.proofs.Bound.{split-lengths, split-count}
-use Rattle.rules.proofs.Over.{getD-map-run, length-map-run}
 use Rattle.rules.specs.Letters.{value}
 use Rattle.rules.specs.Lists.{if, run, keep, sum}
 use Rattle.rules.specs.Sequences.{split, sequences}
@@ -27,7 +22,7 @@ use Rattle.rows.proofs.Digits.{digit}
 use Rattle.rows.proofs.Held.{length-held}
 use Rattle.rows.proofs.Link.{padded-in, length-padded, left-padded, extended-flags, window-flags}
 use Rattle.rows.proofs.Sets.{first-most}
-use Rattle.rows.proofs.Tally.{tally-sum, marks-tally}
+use Rattle.rows.proofs.Tally.{tally-sum}
 
 room : (n : ℕ) → n ≤ 64 * words-of n
 unfolding words-of
@@ -197,7 +192,3 @@ module _ (ns l : List ℕ) (adds : sum ns ≡ length l) (few : length ns ≤ 102
   flags-tally h q =
       tally-sum h (mark-of F (sequences l ns)) 0 1024 (λ k a u. ap bit (q k (omega arith)))
       ∙ marks-sum F (nothing-left ns l adds few (F []) (same [])) (sequences l ns) 1024 (unfold sequences in rw split-count few)
-
-  -- and so are those of a row
-  pub row-count : (row : List ℕ) → 16 ≤ length row → Row F ns l row → sum (held (take 16 row)) ≡ length (keep (λ b. b) (map (λ s. left? (F s)) (sequences l ns)))
-  row-count row wide is = marks-tally row wide ∙ flags-tally (marked? row) (is .marks-are)

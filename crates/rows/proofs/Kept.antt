@@ -2,13 +2,13 @@
 -- mark or has lost it; the tallies of both marks differ by those that are lost. Further on no more marks can be left than there were.
 use mathlib.Core.Bool.{Bool, true, false, not}
 use mathlib.Core.List.{List, [], _∷_}
-use mathlib.Core.Path.{_≡_, refl, sym, ap, _∙_}
-use Prim.Native.Nat.{ℕ, _+_, _-_, _*_, _%_, _^_, _≤_, _<_, min}
+use mathlib.Core.Path.{_≡_, refl, ap, _∙_}
+use Prim.Native.Nat.{ℕ, _+_, _-_, _*_, _%_, _^_, _≤_, _<_}
 use native.Mathlib.Omega.{arith}
 use lib.Bits.{bitAnd, bitOr}
 use lib.Count.{trailingZeros}
 use lib.Dec.{eqb}
-use lib.ListN.{length, take, getD}
+use lib.ListN.{take, getD}
 use Rattle.rows.specs.Bits.{held}
 use Rattle.rows.specs.Flags.{bit}
 use Rattle.rows.specs.Set.{Row-MARKS, first-word, bits-at, marked?, Bounded, Firsts, tally, extended-at, extended-marked?}

@@ -1,7 +1,7 @@
 -- A walk over the set digits of a word of marks that takes the lowest one off in each turn: what is left has those from some place on, so
 -- the sequences up to its lowest set digit have no mark, and the one there has.
-use mathlib.Core.Bool.{Bool, true, false}
-use mathlib.Core.List.{List, [], _∷_}
+use mathlib.Core.Bool.{true, false}
+use mathlib.Core.List.{List}
 use mathlib.Core.Path.{_≡_, refl, sym, ap, _∙_}
 use Prim.Native.Nat.{ℕ, _+_, _-_, _*_, _^_, _≤_, _<_}
 use native.Mathlib.Decide.{decLt}

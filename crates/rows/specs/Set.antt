@@ -17,8 +17,8 @@ use Rattle.rows.specs.Rows.{ahead, window, extended, lettered, padded}
 abbrev pub Row-MARKS : ℕ
 Row-MARKS = SequenceSet-SEQUENCES / Word-BITS
 
--- and those of a row in all: 2,048, for every sequence may leave up to 63 bits of its last word unused, and 24 behind them that no
--- sequence uses
+-- and those of a row in all, 2,072: every sequence may leave up to 63 bits of its last word unused, and 24 words behind all of them are
+-- no sequence's
 abbrev pub Row-UNUSED : ℕ
 Row-UNUSED = 24
 

@@ -255,7 +255,7 @@ pub fn copy_to(row: &[u64], n: usize, a: usize, to: &mut [u64])
 }
 
 // How many sequences are marked.
-pub fn count(row: &[u64]) -> u32
+fn count(row: &[u64]) -> u32
     requires { ⌜ Row-MARKS ≤ length (now row) ⌝ }
     ensures { λ r. ⌜ r ≡ lists.sum (held (take Row-MARKS (now (row .entry)))) ⌝ }
 {

@@ -4,17 +4,22 @@
 //! shifted by the letter's place in its component; a gap is opened once for a
 //! prefix that ends a component. The rows of the path are kept until the walk
 //! leaves it, and only sequences that a prefix is marked in are looked at for
-//! what lies under it.
+//! what lies under it, as long as enough of them can be left. The letters' rows
+//! are kept shifted for the first places of a component.
 
 use crate::walk::{Examine, Place, Search};
-use crate::words::{letter_rows, open, open_word, shifted, Row, Span};
+use crate::words::{letter_rows, open, open_word, shifted, shifted_rows, Row, Span};
+
+/// So many words of a row are passed over at once where they are empty.
+const STRETCH: usize = 16;
 
 pub struct Bits<'a> {
     search: &'a Search,
     spans: Vec<Span>,
     /// Whether every sequence has one word.
     short: bool,
-    letters: [Vec<u64>; 4],
+    /// The letters' rows, each shifted for the first places of a component.
+    letters: [Vec<Vec<u64>>; 4],
     /// The component of each letter of a motif, and its place in it.
     inside: Vec<(usize, usize)>,
     /// The rows of the prefixes of the last candidate, by their letters; and how
@@ -49,7 +54,7 @@ impl<'a> Bits<'a> {
         opened[0] = full;
         Bits {
             search,
-            letters: letter_rows(&search.set, words),
+            letters: letter_rows(&search.set, words).map(|row| shifted_rows(&row, &spans)),
             short: spans.iter().all(|span| span.end() - span.begin() == 1),
             spans,
             rows: (0..=inside.len()).map(|_| row()).collect(),
@@ -64,7 +69,7 @@ impl<'a> Bits<'a> {
     }
 
     /// The row of a prefix from the one before, and its support.
-    fn extend(&mut self, letters: usize, letter: u64) -> u32 {
+    fn extend(&mut self, letters: usize, letter: u64, quorum: u32) -> u32 {
         let (component, i) = self.inside[letters - 1];
         let (before, from_here) = self.rows.split_at_mut(letters);
         let from = match i {
@@ -72,9 +77,10 @@ impl<'a> Bits<'a> {
             _ => &before[letters - 1],
         };
         let (to, letter) = (&mut from_here[0], &self.letters[letter as usize & 3]);
+        let (letter, i) = letter.get(i).map_or((&letter[0], i), |letter| (letter, 0));
         match self.short {
-            true => to.keep_short(from, letter, i),
-            false => to.keep(from, letter, i, &self.spans),
+            true => to.keep_short(from, letter, i, quorum),
+            false => to.keep(from, letter, i, &self.spans, quorum),
         }
     }
 
@@ -168,7 +174,12 @@ impl Examine for Bits<'_> {
             if letters > self.stand {
                 self.open(letters - 1);
             }
-            support = self.extend(letters, place.number >> (2 * (place.letters - letters)));
+            let quorum = match letters == place.letters {
+                true => self.search.quorum as u32,
+                false => 0,
+            };
+            let letter = place.number >> (2 * (place.letters - letters));
+            support = self.extend(letters, letter, quorum);
         }
         self.stand = place.letters;
         support
@@ -186,12 +197,17 @@ impl Examine for Bits<'_> {
         let mut sum = 0;
         for span in row.marked().map(|sequence| self.spans[sequence]) {
             let (begin, end) = (span.begin(), span.end());
-            let ways = self.ways[64 * begin..64 * end].chunks_exact(64);
-            for (word, ways) in row.words[begin..end].iter().zip(ways) {
-                let mut bits = *word;
-                while bits != 0 {
-                    sum += ways[bits.trailing_zeros() as usize];
-                    bits &= bits - 1;
+            let ways = self.ways[64 * begin..64 * end].chunks(64 * STRETCH);
+            for (words, ways) in row.words[begin..end].chunks(STRETCH).zip(ways) {
+                if words.len() == STRETCH && words.iter().fold(0, |all, word| all | word) == 0 {
+                    continue;
+                }
+                for (word, ways) in words.iter().zip(ways.chunks_exact(64)) {
+                    let mut bits = *word;
+                    while bits != 0 {
+                        sum += ways[bits.trailing_zeros() as usize];
+                        bits &= bits - 1;
+                    }
                 }
             }
         }

@@ -23,7 +23,7 @@ impl<'a> Leg<'a> {
 }
 
 /// A leg of the library, of bits and of positions. Each makes what it works in
-/// afresh: the library some 1.1 MiB on the stack, all of it cleared; bits its
+/// afresh: the library some 1.3 MiB on the stack, all of it cleared; bits its
 /// rows and its counts, as long as the set's sequences; positions its text, its
 /// lists and the counts beside them.
 pub fn legs<'a>(search: &'a Search, place: Place, budget: u64, room: usize) -> Vec<Leg<'a>> {

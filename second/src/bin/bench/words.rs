@@ -63,31 +63,55 @@ impl Row {
         })
     }
 
+    /// How many sequences have a mark.
+    fn count(&self) -> u32 {
+        self.marks.iter().map(|marks| marks.count_ones()).sum()
+    }
+
     /// One letter more, the `i`-th of its component: those bits of a row at
-    /// which the letter's own has one `i` places on. How many sequences have one.
-    pub fn keep(&mut self, from: &Row, letter: &[u64], i: usize, spans: &[Span]) -> u32 {
-        let mut count = 0;
+    /// which the letter's own has one `i` places on. How many sequences have one;
+    /// or, once fewer than the quorum can, how many still can, and then the row
+    /// is not whole.
+    pub fn keep(
+        &mut self,
+        from: &Row,
+        letter: &[u64],
+        i: usize,
+        spans: &[Span],
+        quorum: u32,
+    ) -> u32 {
+        let mut possible = from.count();
         let n = self.words.len();
         let (row, letter, out) = (&from.words[..n], &letter[..n], &mut self.words[..n]);
         let marks = from.marks.iter().zip(&mut self.marks);
         for ((bits, left), spans) in marks.zip(spans.chunks(64)) {
-            *left = kept(*bits, |bit| {
-                let (begin, end) = (spans[bit].begin(), spans[bit].end());
-                if end - begin == 1 {
-                    out[begin] = row[begin] & letter[begin] >> i;
-                    return out[begin];
+            let (mut bits, mut found) = (*bits, 0);
+            while bits != 0 {
+                if possible < quorum {
+                    return possible;
                 }
-                let (row, letter) = (&row[begin..end], &letter[begin..end]);
-                keep(row, letter, i, &mut out[begin..end])
-            });
-            count += left.count_ones();
+                let bit = bits.trailing_zeros() as usize;
+                bits &= bits - 1;
+                let (begin, end) = (spans[bit].begin(), spans[bit].end());
+                let all = if end - begin == 1 {
+                    out[begin] = row[begin] & letter[begin] >> i;
+                    out[begin]
+                } else {
+                    let (row, letter) = (&row[begin..end], &letter[begin..end]);
+                    keep(row, letter, i, &mut out[begin..end])
+                };
+                found |= u64::from(all != 0) << bit;
+                possible -= u32::from(all == 0);
+            }
+            *left = found;
         }
-        count
+        possible
     }
 
-    /// The same where every sequence has one word.
-    pub fn keep_short(&mut self, from: &Row, letter: &[u64], i: usize) -> u32 {
-        let mut count = 0;
+    /// The same where every sequence has one word. The quorum is looked at for
+    /// each word of marks.
+    pub fn keep_short(&mut self, from: &Row, letter: &[u64], i: usize, quorum: u32) -> u32 {
+        let mut possible = from.count();
         let n = self.words.len();
         let (row, letter, out) = (&from.words[..n], &letter[..n], &mut self.words[..n]);
         let marks = from.marks.iter().zip(&mut self.marks);
@@ -95,27 +119,22 @@ impl Row {
             .chunks(64)
             .zip(letter.chunks(64))
             .zip(out.chunks_mut(64));
-        for ((bits, left), ((row, letter), out)) in marks.zip(rows) {
-            *left = kept(*bits, |bit| {
+        for ((all, left), ((row, letter), out)) in marks.zip(rows) {
+            if possible < quorum {
+                return possible;
+            }
+            let (mut bits, mut found) = (*all, 0);
+            while bits != 0 {
+                let bit = bits.trailing_zeros() as usize;
+                bits &= bits - 1;
                 out[bit] = row[bit] & letter[bit] >> i;
-                out[bit]
-            });
-            count += left.count_ones();
+                found |= u64::from(out[bit] != 0) << bit;
+            }
+            *left = found;
+            possible -= all.count_ones() - found.count_ones();
         }
-        count
+        possible
     }
-}
-
-/// Those bits of a word of marks whose sequences answer a word that is not 0.
-#[inline(always)]
-fn kept(mut bits: u64, mut word: impl FnMut(usize) -> u64) -> u64 {
-    let mut found = 0;
-    while bits != 0 {
-        let bit = bits.trailing_zeros();
-        bits &= bits - 1;
-        found |= u64::from(word(bit as usize) != 0) << bit;
-    }
-    found
 }
 
 /// One letter more in a sequence of several words, and all of them joined.
@@ -218,6 +237,23 @@ pub fn letter_rows(set: &Set, words: usize) -> [Vec<u64>; 4] {
         }
     }
     rows
+}
+
+/// A letter's row shifted for each of the first four places of a component, each
+/// sequence's words for themselves.
+pub fn shifted_rows(row: &[u64], spans: &[Span]) -> Vec<Vec<u64>> {
+    let shifted = |i: usize| {
+        let mut out = row.to_vec();
+        for span in spans.iter().filter(|_| i > 0) {
+            let words = &mut out[span.begin()..span.end()];
+            for at in 0..words.len() {
+                let high = words.get(at + 1).map_or(0, |high| high << (64 - i));
+                words[at] = words[at] >> i | high;
+            }
+        }
+        out
+    };
+    (0..4).map(shifted).collect()
 }
 
 /// The lowest bits of eight bytes, the first in the lowest.

@@ -1,7 +1,7 @@
 -- From component to component: the row of the prefix that ends one keeps the counts before it where the prefix stands, which are its
 -- ways; with the gap after it opened they are the counts before the next one.
 use mathlib.Core.List.{List}
-use mathlib.Core.Path.{_≡_, refl, ap, _∙_}
+use mathlib.Core.Path.{_≡_, refl, _∙_}
 use Prim.Native.Nat.{ℕ, _+_, _-_, _/_, _^_, _≤_}
 use native.Mathlib.Omega.{arith}
 use lib.ListN.{length}

@@ -8,7 +8,7 @@ use lib.ListN.{length}
 use Rattle.rules.specs.Lists.{over, run}
 use Rattle.rules.proofs.Over.{over-none, over-put, over-end}
 use mathlib.Core.Bool.{not}
-use mathlib.Core.List.{List, map}
+use mathlib.Core.List.{map}
 use lib.Dec.{eqb}
 use Rattle.rows.specs.Flags.{left?}
 use Rattle.rows.specs.Words.{extended-word}
