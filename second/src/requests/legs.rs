@@ -43,7 +43,7 @@ pub fn save_and_restore(set: &Rc<Set>, value: Value, random: &mut Random) -> [Re
 
 /// How much each leg of a relay may use.
 #[derive(Clone, Copy)]
-enum Grants {
+pub enum Grants {
     /// One step and one row, always.
     Single,
     /// Budgets and rooms from nothing to a few.
@@ -71,7 +71,13 @@ impl Grants {
 
 /// A new search and its legs until one ends, or at most so many; each leg
 /// starts from what the restore of the one before gave.
-fn relay(set: Set, value: Value, most: usize, grants: Grants, random: &mut Random) -> Vec<Request> {
+pub fn relay(
+    set: Set,
+    value: Value,
+    most: usize,
+    grants: Grants,
+    random: &mut Random,
+) -> Vec<Request> {
     let set = Rc::new(set);
     let begin = Request::new(Kind::Begin, &set, value);
     let begun = Answer::expected(&begin);

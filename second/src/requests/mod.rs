@@ -14,6 +14,7 @@ pub mod random;
 mod recoveries;
 pub mod request;
 mod saves;
+mod words;
 
 use answer::{Answer, REFUSED};
 use random::Random;
@@ -24,12 +25,17 @@ use std::ops::RangeInclusive;
 /// A group of requests: its name, its seed, and what makes it.
 pub type Group = (&'static str, u64, fn(&mut Random) -> Vec<Request>);
 
-pub const GROUPS: [Group; 20] = [
+pub const GROUPS: [Group; 21] = [
     ("new searches", 101, begins::requests),
     (
         "legs laid end to end, saved and restored between",
         102,
         legs::relays,
+    ),
+    (
+        "legs where words of 64 letters or sequences end",
+        129,
+        words::requests,
     ),
     ("legs and saves of forged searches", 103, forgeries::any),
     (

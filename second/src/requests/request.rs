@@ -104,7 +104,7 @@ impl Value {
 
     /// A trailing T's number is odd at both bits, so the digits of a place
     /// are told as letters, the first letter the highest.
-    fn place_letters(&self) -> String {
+    pub fn place_letters(&self) -> String {
         (0..self.place.min(32))
             .rev()
             .map(|digit| b"ACGT"[(self.number >> (2 * digit)) as usize & 3] as char)
