@@ -11,19 +11,20 @@ use lib.ListN.{length, take, drop, getD, replicate, getD-replicate, length-appen
 use lib.Pow.{pow-pos, ones-lt, ones-split, high}
 use lib.Seq.{getD-take, getD-drop, take-at, length-take-le}
 use borrow.Author.Tests.{lt-ltb, le-ltb}
+use Rattle.rules.proofs.Components.{components-length, components-some}
 use Rattle.rules.specs.Sound.{SoundSet, SoundTemplate}
 use Rattle.rules.specs.declared.Template.{Template}
 use Rattle.rows.specs.Bits.{held}
 use Rattle.rows.specs.Flags.{reached}
-use Rattle.matching.specs.Path.{row-slot, before-next, Path}
-use Rattle.rows.specs.Prefix.{before-letter}
+use Rattle.matching.specs.Path.{row-slot, before-next, Slot}
+use Rattle.rows.specs.Prefix.{letters-before, before-letter}
 use Rattle.rows.specs.Set.{Row-MARKS, Row-WORDS, words-of, first-word, between, bits-at, marked?, Marked, sequence, Source}
 use Rattle.rows.proofs.Bits.{held-at}
 use Rattle.rows.proofs.ByFlags.{long, left-past}
 use Rattle.rows.proofs.Digits.{digit}
 use Rattle.rows.proofs.Offsets.{words-room}
 use Rattle.rows.proofs.Sets.{first-past, first-most}
-use Rattle.matching.proofs.Slots.{enough, begun}
+use Rattle.matching.proofs.Slots.{enough, slot-at}
 use Rattle.matching.proofs.Steps.{before-long}
 
 -- EVERY DIGIT of a word that is all ones
@@ -83,7 +84,14 @@ module _ (l ns : List ℕ) (sound : SoundSet l ns) (row : List ℕ) (marks : Mar
     begin = λ k u e p v. ones-bits k u p v ∙ sym (ap (λ (ks : List ℕ). getD ks p 0) (one-way t (sequence ns l k)) ∙ getD-replicate (length (sequence ns l k)) p 1 0 v);
   }
 
--- IN THE TABLE: its first words
+  -- it is that of the prefix with no letters
+  pub first-slot : (t : Template) → SoundTemplate t → Slot t ns l row 0 0
+  unfolding letters-before
+  first-slot t good =
+      let n = components-length t (good .few) in
+      slot-at t ns l row 0 0 0 0 (record { there = omega (arith, n, good .some); inside = components-some good 0 (omega (arith, n, good .some)); counted = refl }) (first-source t)
+
+-- IN A TABLE it is made of the first words
 module _ (rows : List ℕ) (room : Row-WORDS ≤ length rows) where
   pub slot-long : length (take Row-WORDS rows) ≡ Row-WORDS
   slot-long = length-take-le Row-WORDS rows room
@@ -92,12 +100,6 @@ module _ (rows : List ℕ) (room : Row-WORDS ≤ length rows) where
     pub table-long : length (ys ++ drop Row-WORDS rows) ≡ length rows
     table-long = length-append ys (drop Row-WORDS rows) ∙ rw (length-drop Row-WORDS rows, same, slot-long) (omega arith)
 
-    slot-is : row-slot 0 (ys ++ drop Row-WORDS rows) ≡ ys
+    pub slot-is : row-slot 0 (ys ++ drop Row-WORDS rows) ≡ ys
     unfolding row-slot between
     slot-is = take-at ys (drop Row-WORDS rows) 2072 (same ∙ slot-long)
-
-    pub first-path : (t : Template) → SoundTemplate t → (l ns : List ℕ) → SoundSet l ns → Marked (λ k. ltb k (length ns)) ys 1024
-        → ((q : ℕ) → Row-MARKS ≤ q → q < length (take Row-WORDS rows) → getD ys q 0 ≡ 2 ^ 64 - 1)
-        → Path t ns l (ys ++ drop Row-WORDS rows) 1 0
-    first-path t good l ns sound marks words =
-        begun t good ns l (ys ++ drop Row-WORDS rows) (rw slot-is (first-source l ns sound ys marks (λ q h u. words q h (omega (arith, slot-long))) t))

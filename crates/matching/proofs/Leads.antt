@@ -1,4 +1,5 @@
--- The counts of the set, sequence after sequence: a turn writes those of one, and leaves those before and after it.
+-- The counts of the set, sequence after sequence: a turn writes those of one, and leaves those before and after it. What is said of those
+-- that are written is said of what the opened row keeps of them.
 use mathlib.Core.Bool.{Bool, true, false, false≢true}
 use mathlib.Core.List.{List, [], _∷_}
 use mathlib.Core.Path.{_≡_, refl, sym, ap, _∙_}
@@ -12,8 +13,8 @@ use Rattle.rules.specs.Lists.{sum}
 use Rattle.rows.specs.Bits.{held}
 use Rattle.rows.specs.Flags.{added, masked}
 use Rattle.rows.specs.Set.{Row-MARKS, words-of, first-word, between, marked?, Bounded}
-use Rattle.matching.specs.Weights.{counts-at, kept-counts}
-use Rattle.rows.proofs.Sets.{first-next, between-kept, bits-are-at, part-copied}
+use Rattle.matching.specs.Weights.{counts-at, kept-counts, begun, begun-counts}
+use Rattle.rows.proofs.Sets.{first-next, between-kept, bits-are-at, part-written}
 
 not-both : (b : Bool) {A : Type 0} → b ≡ false → b ≡ true → A
 not-both b e f = absurd (false≢true (sym e ∙ f))
@@ -60,6 +61,11 @@ module _ (ns : List ℕ) (k : ℕ) (h : k < length ns) {a e : ℕ} (begins : a �
   pub counts-lie : (a ≤ e) × (e ≤ sum ns)
   counts-lie = (omega (arith, begins, ends, offset-next ns k h), omega (arith, ends, offset-all ns (k + 1)))
 
+  pub begun-are-at : (first : Bool) {from to : ℕ} → from ≡ first-word ns k → to ≡ first-word ns (k + 1) → (row x : List ℕ)
+      → masked (held (between from to row)) (begun first (between a e x)) ≡ begun-counts first ns row x k
+  unfolding begun-counts
+  begun-are-at first starts stops row x = rw (bits-are-at ns k h starts stops row, counts-are-at x)
+
   pub counts-many : e - a ≡ getD ns k 0
   counts-many = omega (arith, begins, ends, offset-next ns k h)
 
@@ -80,9 +86,13 @@ pub kept-same : (ns row x y : List ℕ) (k : ℕ) → counts-at ns k y ≡ count
 unfolding kept-counts
 kept-same ns row x y k e = rw e
 
+pub begun-same : (first : Bool) (ns row x y : List ℕ) (k : ℕ) → counts-at ns k y ≡ counts-at ns k x → begun-counts first ns row y k ≡ begun-counts first ns row x k
+unfolding begun-counts
+begun-same first ns row x y k e = rw e
+
 -- what a gap of n distances, the least of them d, makes of those
-abbrev pub led-at : ℕ → ℕ → List ℕ → List ℕ → List ℕ → ℕ → List ℕ
-led-at d n ns row x k = added d (d + n - 1) (kept-counts ns row x k)
+abbrev pub led-at : Bool → ℕ → ℕ → List ℕ → List ℕ → List ℕ → ℕ → List ℕ
+led-at first d n ns row x k = added d (d + n - 1) (begun-counts first ns row x k)
 
 -- WHAT A TURN LEAVES
 between-later : (e b f : ℕ) (x y : List ℕ) → e ≤ b → drop e y ≡ drop e x → between b f y ≡ between b f x
@@ -93,17 +103,17 @@ between-later e b f x y h q = ap (take (f - b)) (sym (from y) ∙ ap (drop (b - 
     from l = let z : e + (b - e) ≡ b = omega arith in drop-drop (b - e) e l ∙ ap (λ (n : ℕ). drop n l) z
 
 -- the sequences from a up to k written as far as they are on, and all others as they were
-pub record Led (on : ℕ → Bool) (g : ℕ → List ℕ) (ns : List ℕ) (a k : ℕ) (x y : List ℕ) : Type 0 where
-  pub same : (m : ℕ) → a ≤ m → m < k → on m ≡ true → counts-at ns m y ≡ g m
+pub record Led (on : ℕ → Bool) (g : ℕ → List ℕ) (ns opened : List ℕ) (a k : ℕ) (x y : List ℕ) : Type 0 where
+  pub same : (m : ℕ) → a ≤ m → m < k → on m ≡ true → kept-counts ns opened y m ≡ g m
   pub earlier : (m : ℕ) → m < a → m < length ns → counts-at ns m y ≡ counts-at ns m x
   pub later : (m : ℕ) → k ≤ m → m < length ns → counts-at ns m y ≡ counts-at ns m x
 
-module _ (on : ℕ → Bool) (g : ℕ → List ℕ) (ns : List ℕ) (a k : ℕ) (x : List ℕ) where
-  pub led-none : k ≤ a → Led on g ns a k x x
+module _ (on : ℕ → Bool) (g : ℕ → List ℕ) (ns opened : List ℕ) (a k : ℕ) (x : List ℕ) where
+  pub led-none : k ≤ a → Led on g ns opened a k x x
   led-none h = record { same = λ m l u e. absurd (omega arith); earlier = λ m l u. refl; later = λ m l u. refl }
 
-  module _ (y : List ℕ) (before : Led on g ns a k x y) (at : ℕ) (skip : (m : ℕ) → k ≤ m → m < at → on m ≡ false) where
-    pub led-end : (m : ℕ) → a ≤ m → m < at → on m ≡ true → counts-at ns m y ≡ g m
+  module _ (y : List ℕ) (before : Led on g ns opened a k x y) (at : ℕ) (skip : (m : ℕ) → k ≤ m → m < at → on m ≡ false) where
+    pub led-end : (m : ℕ) → a ≤ m → m < at → on m ≡ true → kept-counts ns opened y m ≡ g m
     led-end m l u e =
         elim (decLt m k) [
           | yes b ↦ before .same m l b e
@@ -123,20 +133,22 @@ module _ (on : ℕ → Bool) (g : ℕ → List ℕ) (ns : List ℕ) (a k : ℕ) 
       left-back m l =
           between-later e (sum (take m ns)) (sum (take m ns) + getD ns m 0) y z (omega (arith, ends, offset-least ns (at + 1) m (omega arith))) back
 
-      pub led-turn : between b e z ≡ g at → Led on g ns a (at + 1) x z
-      led-turn here = record {
+      pub led-turn : {from to : ℕ} → from ≡ first-word ns at → to ≡ first-word ns (at + 1) → masked (held (between from to opened)) (between b e z) ≡ g at
+          → Led on g ns opened a (at + 1) x z
+      led-turn starts stops here = record {
         same = λ m l u f.
             elim (decLt m at) [
-              | yes s ↦ left-front m s ∙ led-end m l s f
-              | no s ↦ (let q : at ≡ m = omega arith in rw (← q) (sym (counts-are-at ns at inside begins ends z) ∙ here))
+              | yes s ↦ kept-same ns opened y z m (left-front m s) ∙ led-end m l s f
+              | no s ↦ (let q : at ≡ m = omega arith in rw (← q) (sym (kept-are-at ns at inside begins ends starts stops opened z) ∙ here))
             ];
         earlier = λ m l u. left-front m (omega arith) ∙ before .earlier m l u;
         later = λ m l u. left-back m (omega arith) ∙ before .later m (omega arith) u;
       }
 
 -- the sequences of one word of marks led, those of the words before it having been
-module _ (d n : ℕ) (ns row x y : List ℕ) (w : ℕ) (bounded : Bounded ns row) (top : w < Row-MARKS) (before : Led (marked? row) (led-at d n ns row x) ns 0 (w * 64) x y) (z : List ℕ)
-    (here : (m : ℕ) → w * 64 ≤ m → m < w * 64 + 64 → marked? row m ≡ true → counts-at ns m z ≡ led-at d n ns row y m)
+module _ (first : Bool) (d n : ℕ) (ns row opened x y : List ℕ) (w : ℕ) (bounded : Bounded ns row) (top : w < Row-MARKS)
+    (before : Led (marked? row) (led-at first d n ns row x) ns opened 0 (w * 64) x y) (z : List ℕ)
+    (here : (m : ℕ) → w * 64 ≤ m → m < w * 64 + 64 → marked? row m ≡ true → kept-counts ns opened z m ≡ led-at first d n ns row y m)
     (earlier : (m : ℕ) → m < w * 64 → m < length ns → counts-at ns m z ≡ counts-at ns m y)
     (later : (m : ℕ) → w * 64 + 64 ≤ m → m < length ns → counts-at ns m z ≡ counts-at ns m y) where
   -- a sequence that has a mark is one of the set
@@ -147,12 +159,12 @@ module _ (d n : ℕ) (ns row x y : List ℕ) (w : ℕ) (bounded : Bounded ns row
         | no l ↦ not-both (marked? row m) (bounded .none m (omega arith) (omega arith)) e
       ]
 
-  pub led-word : Led (marked? row) (led-at d n ns row x) ns 0 ((w + 1) * 64) x z
+  pub led-word : Led (marked? row) (led-at first d n ns row x) ns opened 0 ((w + 1) * 64) x z
   led-word = record {
     same = λ m l u e.
         elim (decLt m (w * 64)) [
-          | yes s ↦ earlier m s (there m (omega arith) e) ∙ before .same m l s e
-          | no s ↦ here m (omega arith) (omega arith) e ∙ ap (added d (d + n - 1)) (kept-same ns row x y m (before .later m (omega arith) (there m (omega arith) e)))
+          | yes s ↦ kept-same ns opened y z m (earlier m s (there m (omega arith) e)) ∙ before .same m l s e
+          | no s ↦ here m (omega arith) (omega arith) e ∙ ap (added d (d + n - 1)) (begun-same first ns row x y m (before .later m (omega arith) (there m (omega arith) e)))
         ];
     earlier = λ m l u. absurd (omega arith);
     later = λ m l u. later m (omega arith) u ∙ before .later m (omega arith) u;
@@ -160,23 +172,22 @@ module _ (d n : ℕ) (ns row x y : List ℕ) (w : ℕ) (bounded : Bounded ns row
 
 -- A PART OF THE COUNTS, written by two callees, one after the other
 module _ (a e : ℕ) (l ys : List ℕ) (h : a ≤ e) (g : e ≤ length l) (n : length ys ≡ length (midOf a (e - a) l)) where
-  pub part-first : {zs : List ℕ} → ys ≡ zs → midOf a (e - a) (putMid a (e - a) l ys) ≡ zs
+  pub part-first : midOf a (e - a) (putMid a (e - a) l ys) ≡ ys
   unfolding between
-  part-first f = part-copied a e l h g ys n f .2
+  part-first = part-written a e l h g ys n .2
 
-  pub part-led : (vs : List ℕ) {zs : List ℕ} (f : List ℕ → List ℕ) → ys ≡ zs → length vs ≡ length (midOf a (e - a) (putMid a (e - a) l ys))
-      → vs ≡ f (midOf a (e - a) (putMid a (e - a) l ys))
+  pub part-led : (vs : List ℕ) → length vs ≡ length (midOf a (e - a) (putMid a (e - a) l ys))
       → ((take a (putMid a (e - a) (putMid a (e - a) l ys) vs) ≡ take a l) × (drop e (putMid a (e - a) (putMid a (e - a) l ys) vs) ≡ drop e l)
       × (length (putMid a (e - a) (putMid a (e - a) l ys) vs) ≡ length l))
-      × (between a e (putMid a (e - a) (putMid a (e - a) l ys) vs) ≡ f zs)
-  part-led vs f q m v =
-      let p = part-copied a e l h g ys n q in
+      × (between a e (putMid a (e - a) (putMid a (e - a) l ys) vs) ≡ vs)
+  part-led vs m =
+      let p = part-written a e l h g ys n in
       let g2 : e ≤ length (putMid a (e - a) l ys) = omega (arith, p .1) in
-      let r = part-copied a e (putMid a (e - a) l ys) h g2 vs m v in (
+      let r = part-written a e (putMid a (e - a) l ys) h g2 vs m in (
         (
           r .0 ∙ p .0,
           drop-put a e (putMid a (e - a) l ys) vs h g2 (m ∙ mid-len a e (putMid a (e - a) l ys) g2) ∙ drop-put a e l ys h g (n ∙ mid-len a e l g),
           r .1 ∙ p .1,
         ),
-        r .2 ∙ ap f (part-first q),
+        r .2,
       )

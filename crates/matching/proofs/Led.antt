@@ -1,18 +1,19 @@
 -- The counts before each component in turn. Where the row of the prefix that ends a component has a bit, those before it are the ways of
--- the prefix; with the gap opened they are those before the next one.
-use mathlib.Core.Bool.{true}
+-- the prefix; with the gap opened they are those before the next one, where that row with the gap opened has a bit.
+use mathlib.Core.Bool.{Bool, true, false}
 use mathlib.Core.List.{List, [], _∷_, _++_, map}
 use mathlib.Core.Path.{_≡_, refl, sym, ap, _∙_}
 use Prim.Native.Nat.{ℕ, zero, suc, _+_, _-_, _*_, _/_, _^_, _≤_, _<_}
 use native.Mathlib.Decide.{decLt}
 use native.Mathlib.Nat.{le-trans, div-div-eq-div-mul}
 use native.Mathlib.Omega.{arith}
-use lib.ListN.{length, take, drop, getD, replicate, List·getD-eq-default}
+use lib.ListN.{length, take, drop, getD, replicate, length-replicate, getD-replicate, List·getD-eq-default}
 use lib.Pow.{pow-add}
+use borrow.Rule.Slice.PartMut.{mid-len}
 use Rattle.rules.proofs.Components.{components-length, components-some, components-sound}
-use Rattle.rules.proofs.Over.{map-agree}
+use Rattle.rules.proofs.Over.{map-agree, map-one}
 use Rattle.rules.proofs.Spelling.{length-spell}
-use Rattle.rules.specs.Lists.{sum}
+use Rattle.rules.specs.Lists.{sign, run, sum}
 use Rattle.rules.specs.Motif.{spell}
 use Rattle.rules.specs.Profile.{profile-of, base-of}
 use Rattle.rules.specs.Sound.{SoundSet, SoundTemplate}
@@ -20,16 +21,19 @@ use Rattle.rules.specs.Support.{parts, parts-in}
 use Rattle.rules.specs.Template.{none, size, components}
 use Rattle.rules.specs.declared.Component.{Component}
 use Rattle.rules.specs.declared.Template.{Template}
-use Rattle.rows.specs.Flags.{Count-MOST, added, last-ways, left?, masked-at, masked}
+use Rattle.rows.specs.Flags.{Count-MOST, reached, added, last-ways, left?, masked-at, masked}
 use Rattle.matching.specs.Path.{Path, prefix-starts, before-next}
 use Rattle.rows.specs.Prefix.{letters-before, before-letter}
 use Rattle.rows.specs.Rows.{padded}
-use Rattle.rows.specs.Set.{words-of, between, marked?, sequence, Row}
-use Rattle.matching.specs.Weights.{counts-at, kept-counts, Countable, Leads}
+use Rattle.rows.specs.Set.{words-of, between, bits-at, marked?, sequence, Row, Source}
+use Rattle.matching.specs.Weights.{counts-at, kept-counts, Counts, begun, begun-counts, Leads-to}
 use Rattle.rows.proofs.ByFlags.{long}
 use Rattle.rows.proofs.Link.{padded-in, padded-out}
-use Rattle.rows.proofs.Masked.{component-ways}
+use Rattle.rows.proofs.Dark.{none-set}
+use Rattle.rows.proofs.Last.{length-added, length-before-letter}
+use Rattle.rows.proofs.Masked.{component-ways, masked-sign}
 use Rattle.rows.proofs.Most.{ways-bound}
+use Rattle.rows.proofs.Signs.{sign-some, sign-at, before-sign}
 use Rattle.matching.proofs.Shorter.{spell-split, left-shorter}
 use Rattle.matching.proofs.Slots.{shortened}
 
@@ -92,6 +96,21 @@ counts-ones ns k n rest h g =
     let z : a + getD ns k 0 - a ≡ getD ns k 0 = omega arith in
     rw (z, drop-same 1 a n rest (omega arith)) (take-same 1 (getD ns k 0) (n - a) rest (omega arith))
 
+counts-long : (ns : List ℕ) (k : ℕ) (counts : List ℕ) → k < length ns → sum ns ≤ length counts → length (counts-at ns k counts) ≡ getD ns k 0
+unfolding counts-at between
+counts-long ns k counts h g =
+    let a = sum (take k ns) in
+    let z : a + getD ns k 0 - a ≡ getD ns k 0 = omega arith in
+    mid-len a (a + getD ns k 0) counts (omega (arith, sequence-in ns k h)) ∙ z
+
+-- ones masked by ones
+masked-ones : (n : ℕ) → masked (replicate n 1) (replicate n 1) ≡ replicate n 1
+unfolding masked masked-at
+masked-ones n =
+    ap (λ (m : ℕ). map (masked-at (replicate n 1) (replicate n 1)) (run 0 m)) (length-replicate n 1)
+    ∙ map-agree (masked-at (replicate n 1) (replicate n 1)) (λ _. 1) 0 n (λ o _ h. let e : _≡_ {A = ℕ} (getD (replicate n 1) o 0) 1 = getD-replicate n o 1 0 (omega arith) in rw e)
+    ∙ map-one (λ _. 1) 1 0 n (λ _ _. refl)
+
 -- ---- a shorter prefix
 
 module _ (t : Template) (m : ℕ) where
@@ -99,16 +118,10 @@ module _ (t : Template) (m : ℕ) where
   number-less a b = div-div-eq-div-mul m (base-of t ^ a) (base-of t ^ b) ∙ ap (λ (x : ℕ). m / x) (sym (pow-add (base-of t) a b))
 
   -- its path
-  pub prefix-path : (ns l rows : List ℕ) (j i : ℕ) → Path t ns l rows j m → i ≤ j → Path t ns l rows i (m / base-of t ^ (j - i))
-  prefix-path ns l rows j i p h =
-      shortened t ns l rows j m i (m / base-of t ^ (j - i)) p h
+  pub prefix-path : (ns l evens odds : List ℕ) (j i : ℕ) → Path t ns l evens odds j m → i ≤ j → Path t ns l evens odds i (m / base-of t ^ (j - i))
+  prefix-path ns l evens odds j i p h =
+      shortened t ns l evens odds j m i (m / base-of t ^ (j - i)) p h
       (λ q u. number-less (j - i) (i - q) ∙ ap (λ (x : ℕ). m / base-of t ^ x) (omega arith))
-
--- ---- the counts before component c, after the prefix p of the letters before it, in each sequence that has that prefix
-
-pub record Led (t : Template) (ns l : List ℕ) (c p : ℕ) (counts : List ℕ) : Type 0 where
-  pub same : (k : ℕ) → k < length ns → left? (prefix-starts t (letters-before (components t) c) p (sequence ns l k)) ≡ true
-      → counts-at ns k counts ≡ before-next added t c 0 (letters-before (components t) c) p (sequence ns l k)
 
 module _ (t : Template) (sound : SoundTemplate t) where
   abbrev of : ℕ → ℕ
@@ -137,68 +150,126 @@ module _ (t : Template) (sound : SoundTemplate t) where
       let h : t .count - 1 < t .count = omega (arith, sound .some) in
       omega (arith, letters-last, letters-next (t .count - 1) h, components-some sound (t .count - 1) (there (t .count - 1) h))
 
-  -- the ways of a prefix that ends component c
+  -- the ways of a prefix that ends component c, from counts that are right where the component may start
   module _ (c p : ℕ) (h : c < t .count) (s : List ℕ) where
-    prefix-ways : masked (prefix-starts t (letters-before (components t) (suc c)) p s) (before-next added t c 0 (letters-before (components t) c) (p / base-of t ^ of c) s)
-        ≡ last-ways (parts t (letters-before (components t) (suc c)) p) s
+    prefix-ways : (vs : List ℕ)
+        → masked (before-next reached t c 0 (letters-before (components t) c) (p / base-of t ^ of c) s) vs ≡ before-next added t c 0 (letters-before (components t) c) (p / base-of t ^ of c) s
+        → masked (prefix-starts t (letters-before (components t) (suc c)) p s) vs ≡ last-ways (parts t (letters-before (components t) (suc c)) p) s
     unfolding parts-in
-    prefix-ways =
+    prefix-ways vs before =
         let u = spell (base-of t) (letters-before (components t) c) (p / base-of t ^ of c) in
         let v = spell (base-of t) (of c) p in
         let n : length v ≡ of c = length-spell (base-of t) (of c) p in
         let some : 1 ≤ of c = components-some sound c (there c h) in
         let e : spell (base-of t) (letters-before (components t) (suc c)) p ≡ u ++ v = ap (λ (j : ℕ). spell (base-of t) j p) (letters-next c h) ∙ spell-split (base-of t) (letters-before (components t) c) (of c) p in
-        rw e (component-ways (profile-of t .reading) (components t) (components-some sound) u v s c (there c h) (length-spell (base-of t) (letters-before (components t) c) (p / base-of t ^ of c)) (omega arith) (omega arith))
+        rw e
+        (component-ways (profile-of t .reading) (components t) (components-some sound) u v s c (there c h) (length-spell (base-of t) (letters-before (components t) c) (p / base-of t ^ of c)) (omega arith) (omega arith) vs before)
 
     prefix-less : left? (prefix-starts t (letters-before (components t) (suc c)) p s) ≡ true → left? (prefix-starts t (letters-before (components t) c) (p / base-of t ^ of c) s) ≡ true
     prefix-less e = left-shorter t sound s (letters-before (components t) c) (of c) p (omega (arith, letters-next c h, letters-size (suc c))) (rw (letters-next c h) at e)
 
-  module _ (l ns : List ℕ) (set : SoundSet l ns) where
-    -- BEFORE THE FIRST component there is one way everywhere, whatever lies past the letters
-    pub led-none : (p n : ℕ) (rest : List ℕ) → sum ns ≤ n → Led t ns l 0 p (replicate n 1 ++ rest)
-    unfolding before-letter
-    led-none p n rest h = record { same = λ k u _. counts-ones ns k n rest u h ∙ ap (λ (j : ℕ). replicate j 1) (sym (long ns l (set .adds) (set .few) k)) }
+  -- where no flag stands before a letter there is no way
+  flag-dark : (c p : ℕ) (s : List ℕ) (o : ℕ) → getD (before-next reached t c 0 (letters-before (components t) c) p s) o 0 ≡ 0
+      → getD (before-next added t c 0 (letters-before (components t) c) p s) o 0 ≡ 0
+  flag-dark c p s o e = go (getD A o 0) refl
+    where
+      A : List ℕ
+      A = before-next added t c 0 (letters-before (components t) c) p s
 
-    module _ (c p : ℕ) (h : c < t .count) (row counts : List ℕ) (led : Led t ns l c (p / base-of t ^ of c) counts)
-        (is : Row (prefix-starts t (letters-before (components t) (suc c)) p) ns l row) where
-      -- what a row keeps of them
-      pub led-kept : (k : ℕ) → k < length ns → marked? row k ≡ true → kept-counts ns row counts k ≡ last-ways (parts t (letters-before (components t) (suc c)) p) (sequence ns l k)
-      unfolding kept-counts
-      led-kept k u e =
+      flag : sign (getD A o 0) ≡ 0
+      flag = sym (ap (λ (ks : List ℕ). getD ks o 0) (before-sign (profile-of t .reading) (components t) c 0 (spell (base-of t) (letters-before (components t) c) p) s) ∙ sign-at A o) ∙ e
+
+      go : (n : ℕ) → getD A o 0 ≡ n → getD A o 0 ≡ 0
+      go zero z = z
+      go (suc n) z = absurd (omega (arith, sign-some n, sym (ap sign z) ∙ flag))
+
+  module _ (l ns : List ℕ) (set : SoundSet l ns) where
+    -- BEFORE THE FIRST component there is one way everywhere
+    first-ways : (p : ℕ) (s vs : List ℕ) → vs ≡ replicate (length s) 1 → masked (before-next reached t 0 0 (letters-before (components t) 0) p s) vs ≡ before-next added t 0 0 (letters-before (components t) 0) p s
+    unfolding before-letter
+    first-ways p s vs e = rw e (masked-ones (length s))
+
+    -- whatever lies past the letters
+    pub led-none : (p n : ℕ) (rest : List ℕ) → sum ns ≤ n → Leads-to t ns l 0 p (replicate n 1 ++ rest)
+    led-none p n rest h = record {
+      same = λ k u _.
+          first-ways p (sequence ns l k) (counts-at ns k (replicate n 1 ++ rest)) (counts-ones ns k n rest u h ∙ ap (λ (j : ℕ). replicate j 1) (sym (long ns l (set .adds) (set .few) k)));
+    }
+
+    module _ (c p : ℕ) (h : c < t .count) (row : List ℕ) (is : Row (prefix-starts t (letters-before (components t) (suc c)) p) ns l row) where
+      row-left : (k : ℕ) → k < length ns → marked? row k ≡ true → left? (prefix-starts t (letters-before (components t) (suc c)) p (sequence ns l k)) ≡ true
+      row-left k u e = sym (is .marks-are k (omega (arith, set .few))) ∙ e
+
+      -- what a row keeps of counts
+      ways-kept : (k : ℕ) → k < length ns → marked? row k ≡ true → (vs : List ℕ)
+          → masked (before-next reached t c 0 (letters-before (components t) c) (p / base-of t ^ of c) (sequence ns l k)) vs
+          ≡ before-next added t c 0 (letters-before (components t) c) (p / base-of t ^ of c) (sequence ns l k)
+          → masked (bits-at ns k row) vs ≡ last-ways (parts t (letters-before (components t) (suc c)) p) (sequence ns l k)
+      ways-kept k u e vs before =
           let s = sequence ns l k in
           let fs = prefix-starts t (letters-before (components t) (suc c)) p s in
-          let left : left? fs ≡ true = sym (is .marks-are k (omega (arith, set .few))) ∙ e in
-          ap (λ (ks : List ℕ). masked ks (counts-at ns k counts)) (is .bits-are k u e)
-          ∙ masked-padded (64 * words-of (getD ns k 0)) fs (counts-at ns k counts)
-          ∙ ap (masked fs) (led .same k u (prefix-less c p h s left))
-          ∙ prefix-ways c p h s
+          ap (λ (ks : List ℕ). masked ks vs) (is .bits-are k u e) ∙ masked-padded (64 * words-of (getD ns k 0)) fs vs ∙ prefix-ways c p h s vs before
 
-      pub led-small : (k : ℕ) → k < length ns → marked? row k ≡ true → (i : ℕ) → getD (kept-counts ns row counts k) i 0 ≤ Count-MOST
-      unfolding parts-in
-      led-small k u e i =
-          rw (led-kept k u e)
-          (le-trans (ways-bound (profile-of t .reading) t sound (spell (base-of t) (letters-before (components t) (suc c)) p) (sequence ns l k) i) (omega arith))
+      module _ (counts : List ℕ) where
+        pub led-kept : Leads-to t ns l c (p / base-of t ^ of c) counts → (k : ℕ) → k < length ns → marked? row k ≡ true
+            → kept-counts ns row counts k ≡ last-ways (parts t (letters-before (components t) (suc c)) p) (sequence ns l k)
+        unfolding kept-counts
+        led-kept led k u e = ways-kept k u e (counts-at ns k counts) (led .same k u (prefix-less c p h (sequence ns l k) (row-left k u e)))
 
-      -- FROM COMPONENT TO COMPONENT
-      pub led-more : suc c < t .count → (d n : ℕ) → d ≡ of c + (getD (components t) (suc c) none) .low → n ≡ (getD (components t) (suc c) none) .high + 1 - (getD (components t) (suc c) none) .low
-          → (out : List ℕ) → Countable (marked? row) (λ k. added d (d + n - 1) (kept-counts ns row counts k)) ns out (length ns) → Led t ns l (suc c) p out
-      unfolding before-letter parts-in
-      led-more g d n ed en out all = record { same = one }
-        where
-          far : d + n - 1 ≡ of c + (getD (components t) (suc c) none) .high
-          far = omega (arith, ed, en, components-sound sound (suc c) (there (suc c) g) .ordered)
+        -- for the first component they are begun
+        module _ (first : Bool) (begins : first ≡ true → c ≡ 0) (goes : first ≡ false → Leads-to t ns l c (p / base-of t ^ of c) counts) (room : sum ns ≤ length counts) where
+          begun-kept : (k : ℕ) → k < length ns → marked? row k ≡ true → begun-counts first ns row counts k ≡ last-ways (parts t (letters-before (components t) (suc c)) p) (sequence ns l k)
+          unfolding begun-counts kept-counts
+          begun-kept k u e = go first refl
+            where
+              go : (b : Bool) → first ≡ b → masked (bits-at ns k row) (begun b (counts-at ns k counts)) ≡ last-ways (parts t (letters-before (components t) (suc c)) p) (sequence ns l k)
+              go true f =
+                  let z : c ≡ 0 = begins f in
+                  let n : length (counts-at ns k counts) ≡ length (sequence ns l k) = counts-long ns k counts u room ∙ sym (long ns l (set .adds) (set .few) k) in
+                  ways-kept k u e (begun true (counts-at ns k counts)) (rw z (first-ways (p / base-of t ^ of 0) (sequence ns l k) (begun true (counts-at ns k counts)) (ap (λ (j : ℕ). replicate j 1) n)))
+              go false f = led-kept (goes f) k u e
 
-          one : (k : ℕ) → k < length ns → left? (prefix-starts t (letters-before (components t) (suc c)) p (sequence ns l k)) ≡ true
-              → counts-at ns k out ≡ before-next added t (suc c) 0 (letters-before (components t) (suc c)) p (sequence ns l k)
-          one k u e =
-              let m : marked? row k ≡ true = is .marks-are k (omega (arith, set .few)) ∙ e in
-              all .same k u m
-              ∙ ap (added d (d + n - 1)) (led-kept k u m)
-              ∙ rw (far, ed)
+          pub led-small : (k : ℕ) → k < length ns → marked? row k ≡ true → (i : ℕ) → getD (begun-counts first ns row counts k) i 0 ≤ Count-MOST
+          unfolding parts-in
+          led-small k u e i =
+              rw (begun-kept k u e)
+              (le-trans (ways-bound (profile-of t .reading) t sound (spell (base-of t) (letters-before (components t) (suc c)) p) (sequence ns l k) i) (omega arith))
 
-    -- BEFORE THE LAST
-    pub led-last : (p : ℕ) (counts : List ℕ) → Led t ns l (t .count - 1) p counts → Leads t ns l p counts
-    led-last p counts led = record { same = led .same }
+          -- FROM COMPONENT TO COMPONENT
+          module _ (g : suc c < t .count) (d n : ℕ) (near : d ≡ of c + (getD (components t) (suc c) none) .low)
+              (wide : n ≡ (getD (components t) (suc c) none) .high + 1 - (getD (components t) (suc c) none) .low) where
+            far : d + n - 1 ≡ of c + (getD (components t) (suc c) none) .high
+            far = omega (arith, near, wide, components-sound sound (suc c) (there (suc c) g) .ordered)
 
-    pub last-led : (p : ℕ) (counts : List ℕ) → Leads t ns l p counts → Led t ns l (t .count - 1) p counts
-    last-led p counts leads = record { same = leads .same }
+            led-added : (k : ℕ) → k < length ns → marked? row k ≡ true
+                → added d (d + n - 1) (begun-counts first ns row counts k) ≡ before-next added t (suc c) 0 (letters-before (components t) (suc c)) p (sequence ns l k)
+            unfolding before-letter parts-in
+            led-added k u e = ap (added d (d + n - 1)) (begun-kept k u e) ∙ rw (far, near)
+
+            -- where the row with the gap opened has no bit there is no way
+            pub led-dark : (opened : List ℕ) → Source (before-next reached t (suc c) 0 (letters-before (components t) (suc c)) p) ns l opened
+                → (k : ℕ) → k < length ns → marked? row k ≡ true → (i : ℕ) → getD (bits-at ns k opened) i 0 ≡ 0
+                → getD (added d (d + n - 1) (begun-counts first ns row counts k)) i 0 ≡ 0
+            led-dark opened source k u e i z = ap (λ (ks : List ℕ). getD ks i 0) (led-added k u e) ∙ go (marked? opened k) refl
+              where
+                s : List ℕ
+                s = sequence ns l k
+
+                go : (b : Bool) → marked? opened k ≡ b → getD (before-next added t (suc c) 0 (letters-before (components t) (suc c)) p s) i 0 ≡ 0
+                go false f = flag-dark (suc c) p s i (none-set _ (source .none k (omega (arith, set .few)) f) i)
+                go true f =
+                    elim (decLt i (length s)) [
+                      | yes v ↦ flag-dark (suc c) p s i (sym (source .begin k u f i v) ∙ z)
+                      | no v ↦ List·getD-eq-default (before-next added t (suc c) 0 (letters-before (components t) (suc c)) p s) 0 {n = i} (rw (length-before-letter added length-added) (omega arith))
+                    ]
+
+            pub led-more : (opened out : List ℕ) → Counts (marked? row) (λ k. added d (d + n - 1) (begun-counts first ns row counts k)) ns opened out (length ns)
+                → Leads-to t ns l (suc c) p out
+            unfolding kept-counts
+            led-more opened out all = record {
+              same = λ k u e.
+                  let m : marked? row k ≡ true = is .marks-are k (omega (arith, set .few)) ∙ e in
+                  let s = sequence ns l k in
+                  ap (λ (ks : List ℕ). masked ks (counts-at ns k out)) (before-sign (profile-of t .reading) (components t) (suc c) 0 (spell (base-of t) (letters-before (components t) (suc c)) p) s)
+                  ∙ masked-sign (bits-at ns k opened) (counts-at ns k out) _ (all .same k u m ∙ led-added k u m);
+            }

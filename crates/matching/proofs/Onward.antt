@@ -1,25 +1,27 @@
 -- One turn of the count of ways before the last component: the letters of one component more, the row of the prefix that ends it, and the
 -- gap after it.
-use mathlib.Core.Bool.{true}
+use mathlib.Core.Bool.{Bool, true, false}
 use mathlib.Core.List.{List, _++_}
 use mathlib.Core.Path.{_≡_, refl, sym, ap, _∙_}
 use Prim.Native.Nat.{ℕ, zero, suc, _+_, _-_, _*_, _/_, _^_, _≤_, _<_}
+use native.Mathlib.Nat.{add-zero}
 use native.Mathlib.Omega.{arith}
 use lib.ListN.{length, take, drop, getD, replicate, length-append, length-drop, length-replicate}
 use lib.Seq.{length-take-le}
-use Rattle.rules.proofs.Components.{components-at}
+use Rattle.rules.proofs.Components.{components-at, components-length}
 use Rattle.rules.proofs.Exact.{exact-search, exact-base}
+use Rattle.rules.specs.Lists.{sum}
 use Rattle.rules.specs.Profile.{base-of}
 use Rattle.rules.specs.Sound.{SoundSet, SoundComponent, SoundTemplate}
 use Rattle.rules.specs.Template.{none, slots, size, components}
 use Rattle.rules.specs.declared.Component.{Component}
 use Rattle.rules.specs.declared.Template.{Template}
-use Rattle.rows.specs.Flags.{Count-MOST, added}
-use Rattle.matching.specs.Path.{Path, prefix-starts}
-use Rattle.rows.specs.Prefix.{letters-before}
-use Rattle.rows.specs.Set.{marked?, Row}
-use Rattle.matching.specs.Weights.{kept-counts, Countable, prefix-of, Leads}
-use Rattle.matching.proofs.Led.{Led, number-less, prefix-path, letters-next, letters-size, led-none, led-small, led-more, led-last}
+use Rattle.rows.specs.Flags.{Count-MOST, reached, added}
+use Rattle.matching.specs.Path.{Path, path-slot, prefix-starts, before-next}
+use Rattle.rows.specs.Prefix.{At, letters-before}
+use Rattle.rows.specs.Set.{bits-at, marked?, Row, Source}
+use Rattle.matching.specs.Weights.{Counts, begun-counts, prefix-of, Leads-to, Leads}
+use Rattle.matching.proofs.Led.{number-less, prefix-path, letters-next, letters-size, led-none, led-small, led-dark, led-more}
 
 -- four to the power of k as a shift
 fours : (k : ℕ) → 4 ^ k ≡ 2 ^ (2 * k)
@@ -29,7 +31,7 @@ fours (suc k) = let e : 2 * suc k ≡ suc (suc (2 * k)) = omega arith in rw e (o
 pub shifted : (t : Template) (m k : ℕ) → m / 2 ^ (2 * k) ≡ m / base-of t ^ k
 shifted t m k = rw (exact-base t (exact-search t), fours k)
 
--- before the first turn there are no letters, and one way everywhere
+-- before the first turn there are no letters
 pub begin-letters : (cs : List Component) → 0 ≡ letters-before cs 0
 unfolding letters-before
 begin-letters cs = refl
@@ -46,13 +48,16 @@ module _ (l x : List ℕ) (room : length l ≤ length x) where
     pub begin-long : length (y ++ drop (length l) x) ≡ length x
     begin-long = length-append y (drop (length l) x) ∙ rw (length-drop (length l) x, ones-are, length-replicate {A = ℕ} (length l) 1) (omega arith)
 
-    pub begin-led : (t : Template) → SoundTemplate t → (ns : List ℕ) → SoundSet l ns → (p : ℕ) → Led t ns l 0 p (y ++ drop (length l) x)
-    begin-led t sound ns set p = rw ones-are (led-none t sound l ns set p (length l) (drop (length l) x) (omega (arith, set .adds)))
+    -- which for an only component is all
+    pub only-led : (t : Template) → SoundTemplate t → (ns : List ℕ) → SoundSet l ns → (p : ℕ) → t .count ≡ 1 → Leads t ns l p (y ++ drop (length l) x)
+    only-led t sound ns set p one =
+        let z : t .count - 1 ≡ 0 = omega arith in
+        rw (z, ones-are) (led-none t sound l ns set p (length l) (drop (length l) x) (omega (arith, set .adds)))
 
 -- after the last they are those before the last component
 pub end-led : (t : Template) → SoundTemplate t → (l ns : List ℕ) → SoundSet l ns → (m depth c n : ℕ) (counts : List ℕ) → depth ≡ size t → c ≡ t .count
-    → n ≡ letters-before (components t) (c - 1) → Led t ns l (c - 1) (m / base-of t ^ (depth - n)) counts → Leads t ns l (prefix-of t m) counts
-end-led t sound l ns set m depth c n counts whole last far led = led-last t sound l ns set (prefix-of t m) counts (rw (far, whole, last) at led)
+    → n ≡ letters-before (components t) (c - 1) → Leads-to t ns l (c - 1) (m / base-of t ^ (depth - n)) counts → Leads t ns l (prefix-of t m) counts
+end-led t sound l ns set m depth c n counts whole last far led = rw (far, whole, last) at led
 
 -- A TURN, at component c, after n letters; the components as the slots have them
 pub record Turn (t : Template) (depth : ℕ) (cs : List Component) (c n : ℕ) : Type 0 where
@@ -98,18 +103,28 @@ module _ {t : Template} {depth : ℕ} {cs : List Component} {c n : ℕ} (turn : 
   next-shift = omega (arith, behind-sound .some, turn .sound .deep)
 
   -- the path to the prefix
-  pub next-path : (m : ℕ) (ns l rows : List ℕ) → Path t ns l rows depth m → Path t ns l rows next (m / 2 ^ (2 * (depth - next)))
-  next-path m ns l rows p = rw (shifted t m (depth - next)) (prefix-path t m ns l rows depth next p next-deep)
+  pub next-path : (m : ℕ) (ns l evens odds : List ℕ) → Path t ns l evens odds depth m → Path t ns l evens odds next (m / 2 ^ (2 * (depth - next)))
+  next-path m ns l evens odds p = rw (shifted t m (depth - next)) (prefix-path t m ns l evens odds depth next p next-deep)
 
-  module _ (l ns : List ℕ) (set : SoundSet l ns) (m : ℕ) (row counts : List ℕ) (led : Led t ns l (c - 1) (m / base-of t ^ (depth - n)) counts)
+  -- whose slot is among the others
+  pub next-less : next < depth
+  next-less =
+      let some : 1 ≤ (getD (components t) c none) .length = rw (← (at c (turn .less))) (here-sound .some) in
+      omega (arith, next-letters, letters-next t (turn .sound) c (turn .less), letters-size t (turn .sound) (suc c), turn .whole)
+
+  module _ (l ns : List ℕ) (set : SoundSet l ns) (m : ℕ) (row counts : List ℕ) (first : Bool) (begins : first ≡ true → c ≡ 1)
+      (goes : first ≡ false → Leads-to t ns l (c - 1) (m / base-of t ^ (depth - n)) counts) (room : sum ns ≤ length counts)
       (of : Row (prefix-starts t next (m / 2 ^ (2 * (depth - next)))) ns l row) where
     abbrev prefix : ℕ
     prefix = m / base-of t ^ (depth - next)
 
-    led-here : Led t ns l (c - 1) (prefix / base-of t ^ (getD (components t) (c - 1) none) .length) counts
-    led-here =
+    begins-here : first ≡ true → c - 1 ≡ 0
+    begins-here e = omega (arith, begins e)
+
+    goes-here : first ≡ false → Leads-to t ns l (c - 1) (prefix / base-of t ^ (getD (components t) (c - 1) none) .length) counts
+    goes-here f =
         let e : depth - next + (getD (components t) (c - 1) none) .length ≡ depth - n = omega (arith, next-deep, ap (λ x. x .length) (at (c - 1) (omega arith))) in
-        rw (number-less t m (depth - next) ((getD (components t) (c - 1) none) .length), e) led
+        rw (number-less t m (depth - next) ((getD (components t) (c - 1) none) .length), e) (goes f)
 
     row-here : Row (prefix-starts t (letters-before (components t) (suc (c - 1))) prefix) ns l row
     row-here =
@@ -117,18 +132,42 @@ module _ {t : Template} {depth : ℕ} {cs : List Component} {c n : ℕ} (turn : 
         rw (z, ← next-letters) (rw (shifted t m (depth - next)) at of)
 
     -- no count that its row keeps is large
-    pub next-small : (k : ℕ) → k < length ns → marked? row k ≡ true → (i : ℕ) → getD (kept-counts ns row counts k) i 0 ≤ Count-MOST
-    next-small = led-small t (turn .sound) l ns set (c - 1) prefix (omega arith) row counts led-here row-here
+    pub next-small : (k : ℕ) → k < length ns → marked? row k ≡ true → (i : ℕ) → getD (begun-counts first ns row counts k) i 0 ≤ Count-MOST
+    next-small = led-small t (turn .sound) l ns set (c - 1) prefix (omega arith) row row-here counts first begins-here goes-here room
+
+    abbrev d : ℕ
+    d = behind .length + here .low
+
+    abbrev w : ℕ
+    w = here .high + 1 - here .low
+
+    near : d ≡ (getD (components t) (c - 1) none) .length + (getD (components t) (suc (c - 1)) none) .low
+    near =
+        let z : suc (c - 1) ≡ c = omega arith in
+        rw z (omega (arith, ap (λ x. x .length) (at (c - 1) (omega arith)), ap (λ x. x .low) (at c (turn .less))))
+
+    wide : w ≡ (getD (components t) (suc (c - 1)) none) .high + 1 - (getD (components t) (suc (c - 1)) none) .low
+    wide =
+        let z : suc (c - 1) ≡ c = omega arith in
+        rw z (omega (arith, ap (λ x. x .high) (at c (turn .less)), ap (λ x. x .low) (at c (turn .less))))
+
+    -- where the prefix's slot has no bit there is none
+    pub next-dark : (evens odds : List ℕ) → Path t ns l evens odds depth m → (k : ℕ) → k < length ns → marked? row k ≡ true
+        → (i : ℕ) → getD (bits-at ns k (path-slot evens odds next)) i 0 ≡ 0 → getD (added d (d + w - 1) (begun-counts first ns row counts k)) i 0 ≡ 0
+    next-dark evens odds path =
+        let z : suc (c - 1) ≡ c = omega arith in
+        let some : 1 ≤ (getD (components t) c none) .length = rw (← (at c (turn .less))) (here-sound .some) in
+        let a : At (components t) next c 0 = record {
+          there = omega (arith, components-length t (turn .sound .few), turn .less);
+          inside = some;
+          counted = next-letters ∙ sym (add-zero (letters-before (components t) c));
+        } in
+        let source : Source (before-next reached t (suc (c - 1)) 0 (letters-before (components t) (suc (c - 1))) prefix) ns l (path-slot evens odds next) =
+        rw (z, ← next-letters) (path .held-at next c 0 next-less a) in
+        led-dark t (turn .sound) l ns set (c - 1) prefix (omega arith) row row-here counts first begins-here goes-here room (omega arith) d w near wide (path-slot evens odds next) source
 
     -- and with the gap opened they are those before the next component
-    pub next-led : (out : List ℕ) → (let d = behind .length + here .low in let w = here .high + 1 - here .low in
-        Countable (marked? row) (λ k. added d (d + w - 1) (kept-counts ns row counts k)) ns out (length ns) → Led t ns l c prefix out)
-    next-led out all =
+    pub next-led : (opened out : List ℕ) → Counts (marked? row) (λ k. added d (d + w - 1) (begun-counts first ns row counts k)) ns opened out (length ns) → Leads-to t ns l c prefix out
+    next-led opened out all =
         let z : suc (c - 1) ≡ c = omega arith in
-        let d : ℕ = behind .length + here .low in
-        let w : ℕ = here .high + 1 - here .low in
-        let b = at (c - 1) (omega arith) in
-        let h : here ≡ getD (components t) (suc (c - 1)) none = rw z (at c (turn .less)) in
-        rw z at
-        (led-more t (turn .sound) l ns set (c - 1) prefix (omega arith) row counts led-here row-here (omega arith) d w
-        (omega (arith, ap (λ x. x .length) b, ap (λ x. x .low) h)) (omega (arith, ap (λ x. x .high) h, ap (λ x. x .low) h)) out all)
+        rw z at (led-more t (turn .sound) l ns set (c - 1) prefix (omega arith) row row-here counts first begins-here goes-here room (omega arith) d w near wide opened out all)

@@ -16,11 +16,10 @@ use Rattle.rules.specs.declared.Place.{Place}
 use Rattle.rules.specs.declared.Template.{Template}
 use Rattle.rules.proofs.Exact.{exact-search, exact-base}
 use Rattle.rules.proofs.Step.{block}
-use Rattle.rules.proofs.Components.{components-length, components-some}
-use Rattle.rules.specs.Sound.{SoundSet, SoundTemplate}
+use Rattle.rules.specs.Sound.{SoundSet}
 use Rattle.rules.specs.declared.Component.{Component}
 use Rattle.rows.specs.Flags.{reached}
-use Rattle.matching.specs.Path.{row-slot, Slot, Path, before-next}
+use Rattle.matching.specs.Path.{row-slot, parity, path-slot, before-next, Slot, Path}
 use Rattle.rows.specs.Prefix.{At, letters-before}
 use Rattle.rows.specs.Set.{words-of, first-word, between, Source}
 use Rattle.rows.proofs.Sets.{between-kept}
@@ -38,13 +37,50 @@ many (n ∷ ns) = omega (arith, many ns)
 pub enough : (l ns : List ℕ) → SoundSet l ns → first-word ns (length ns) ≤ 2072
 enough l ns set = omega (arith, many ns, set .short, set .adds, set .few)
 
-module _ (t : Template) (ns l : List ℕ) where
+-- OF THE TWO TABLES, by the number of letters
+pub even-table : (evens odds : List ℕ) (i : ℕ) → i % 2 ≡ 0 → parity evens odds i ≡ evens
+even-table evens odds i e = rw e
+
+pub odd-table : (evens odds : List ℕ) (i : ℕ) → i % 2 ≡ 1 → parity evens odds i ≡ odds
+odd-table evens odds i e = rw e
+
+-- a slot written leaves those below it, in its table and in the other
+table-kept : (rows rows' : List ℕ) (j i : ℕ) → take (j / 2 * 2072) rows' ≡ take (j / 2 * 2072) rows → i / 2 < j / 2 → row-slot (i / 2) rows' ≡ row-slot (i / 2) rows
+unfolding row-slot
+table-kept rows rows' j i r h = between-kept (j / 2 * 2072) (i / 2 * 2072) (i / 2 * 2072 + 2072) rows rows' (omega arith) (omega arith) r
+
+module _ (evens odds rows : List ℕ) (j : ℕ) where
+  pub even-kept : j % 2 ≡ 0 → take (j / 2 * 2072) rows ≡ take (j / 2 * 2072) evens → (i : ℕ) → i < j → path-slot rows odds i ≡ path-slot evens odds i
+  even-kept e r i h =
+      elim (decLt 0 (i % 2)) [
+        | yes u ↦ (let o : i % 2 ≡ 1 = omega arith in rw (odd-table rows odds i o, odd-table evens odds i o))
+        | no u ↦ (let o : i % 2 ≡ 0 = omega arith in rw (even-table rows odds i o, even-table evens odds i o) (table-kept evens rows j i r (omega arith)))
+      ]
+
+  pub odd-kept : j % 2 ≡ 1 → take (j / 2 * 2072) rows ≡ take (j / 2 * 2072) odds → (i : ℕ) → i < j → path-slot evens rows i ≡ path-slot evens odds i
+  odd-kept e r i h =
+      elim (decLt 0 (i % 2)) [
+        | yes u ↦ (let o : i % 2 ≡ 1 = omega arith in rw (odd-table evens rows i o, odd-table evens odds i o) (table-kept odds rows j i r (omega arith)))
+        | no u ↦ (let o : i % 2 ≡ 0 = omega arith in rw (even-table evens rows i o, even-table evens odds i o))
+      ]
+
+module _ (t : Template) (ns l evens odds : List ℕ) where
   -- what the last letter is added to stands in the slot below
-  pub parent : (rows : List ℕ) (j m : ℕ) → Path t ns l rows j m → 1 ≤ j → Slot t ns l (row-slot (j - 1) rows) (j - 1) (m / base-of t)
-  parent rows j m p h =
+  parent : (j m : ℕ) → Path t ns l evens odds j m → 1 ≤ j → Slot t ns l (path-slot evens odds (j - 1)) (j - 1) (m / base-of t)
+  parent j m p h =
       let e : j - (j - 1) ≡ 1 = omega arith in
       let z : base-of t ^ (j - (j - 1)) ≡ base-of t = ap (λ (n : ℕ). base-of t ^ n) e ∙ pow-suc (base-of t) 0 ∙ ap (λ (n : ℕ). n * base-of t) (pow-zero (base-of t)) ∙ one-mul (base-of t) in
       record { held = λ k o a. rw z at (p .held-at (j - 1) k o (omega arith) a) }
+
+  pub parent-even : (j m : ℕ) → Path t ns l evens odds j m → 1 ≤ j → (j - 1) % 2 ≡ 0 → Slot t ns l (row-slot ((j - 1) / 2) evens) (j - 1) (m / base-of t)
+  parent-even j m p h e = rw (even-table evens odds (j - 1) e) at (parent j m p h)
+
+  pub parent-odd : (j m : ℕ) → Path t ns l evens odds j m → 1 ≤ j → (j - 1) % 2 ≡ 1 → Slot t ns l (row-slot ((j - 1) / 2) odds) (j - 1) (m / base-of t)
+  parent-odd j m p h e = rw (odd-table evens odds (j - 1) e) at (parent j m p h)
+
+  -- the path stays where its slots do
+  pub stayed : (evens' odds' : List ℕ) (j m : ℕ) → Path t ns l evens odds j m → ((i : ℕ) → i < j → path-slot evens' odds' i ≡ path-slot evens odds i) → Path t ns l evens' odds' j m
+  stayed evens' odds' j m p same = record { held-at = λ i k o h a. rw (same i h) (p .held-at i k o h a) }
 
   above : (m x d : ℕ) → x < base-of t → (m * base-of t + x) / base-of t ^ suc d ≡ m / base-of t ^ d
   above m x d h =
@@ -52,31 +88,31 @@ module _ (t : Template) (ns l : List ℕ) where
       rw (pow-suc (base-of t) d, mul-comm (base-of t ^ d) (base-of t)) (sym (div-div-eq-div-mul (m * base-of t + x) (base-of t) (base-of t ^ d)) ∙ ap (λ (y : ℕ). y / base-of t ^ d) e)
 
   -- a slot more: the path to a child
-  pub pushed : (rows rows' : List ℕ) (j m x : ℕ) → x < base-of t → Path t ns l rows j m
-      → take (j * 2072) rows' ≡ take (j * 2072) rows
-      → Slot t ns l (row-slot j rows') j m
-      → Path t ns l rows' (suc j) (m * base-of t + x)
-  pushed rows rows' j m x b p r f = record { held-at = one }
+  pub pushed : (j m x : ℕ) → x < base-of t → Path t ns l evens odds j m → Slot t ns l (path-slot evens odds j) j m → Path t ns l evens odds (suc j) (m * base-of t + x)
+  pushed j m x b p f = record { held-at = one }
     where
-      row-same : (i : ℕ) → i < j → row-slot i rows' ≡ row-slot i rows
-      row-same i h = unfold row-slot in between-kept (j * 2072) (i * 2072) (i * 2072 + 2072) rows rows' (omega arith) (omega arith) r
-
-      one : (i k o : ℕ) → i < suc j → At (components t) i k o → Source (before-next reached t k o i ((m * base-of t + x) / base-of t ^ (suc j - i))) ns l (row-slot i rows')
+      one : (i k o : ℕ) → i < suc j → At (components t) i k o → Source (before-next reached t k o i ((m * base-of t + x) / base-of t ^ (suc j - i))) ns l (path-slot evens odds i)
       one i k o h a =
           let d : suc j - i ≡ suc (j - i) = omega arith in
           rw (d, above m x (j - i) b)
           (elim (decLt i j) [
-            | yes u ↦ rw (row-same i u) (p .held-at i k o u a)
+            | yes u ↦ p .held-at i k o u a
             | no u ↦ (let e : i ≡ j = omega arith in
                 let z : j - j ≡ 0 = omega arith in
                 let y : m / base-of t ^ 0 ≡ m = rw pow-zero (div-one m) in
                 rw (e, z, y) (f .held k o (rw e at a)))
           ])
 
+  -- the first slot: the path to a candidate of one letter
+  pub begun : Slot t ns l (row-slot 0 evens) 0 0 → (x : ℕ) → x < base-of t → Path t ns l evens odds 1 x
+  begun s x h =
+      let z : 0 * base-of t + x ≡ x = omega arith in
+      rw z at (pushed 0 0 x h (record { held-at = λ i k o u a. absurd (omega arith) }) s)
+
   -- the way up, or to a sibling: a shorter path whose letters are the same
-  pub shortened : (rows : List ℕ) (j m j' m' : ℕ) → Path t ns l rows j m → j' ≤ j
-      → ((i : ℕ) → i < j' → m' / base-of t ^ (j' - i) ≡ m / base-of t ^ (j - i)) → Path t ns l rows j' m'
-  shortened rows j m j' m' p h e = record { held-at = λ i k o u a. rw (e i u) (p .held-at i k o (omega arith) a) }
+  pub shortened : (j m j' m' : ℕ) → Path t ns l evens odds j m → j' ≤ j
+      → ((i : ℕ) → i < j' → m' / base-of t ^ (j' - i) ≡ m / base-of t ^ (j - i)) → Path t ns l evens odds j' m'
+  shortened j m j' m' p h e = record { held-at = λ i k o u a. rw (e i u) (p .held-at i k o (omega arith) a) }
 
 -- a slot is as long as it should be
 pub row-long : (i : ℕ) (rows : List ℕ) → i * 2072 + 2072 ≤ length rows → length (row-slot i rows) ≡ 2072
@@ -94,61 +130,43 @@ at-one (c ∷ cs) j (suc k) o (suc k') o' a b =
     let r = at-one cs (j - c .length) k o k' o' (record { there = omega (arith, a .there); inside = a .inside; counted = omega (arith, a .counted) }) (record { there = omega (arith, b .there); inside = b .inside; counted = omega (arith, b .counted) }) in
     (ap suc (r .0), r .1)
 
+-- the same words in another place
+pub slot-same : (t : Template) (ns l : List ℕ) (d p : ℕ) {x y : List ℕ} → x ≡ y → Slot t ns l x d p → Slot t ns l y d p
+slot-same t ns l d p e s = rw e at s
+
 -- what the one letter that comes next is added to
 pub slot-at : (t : Template) (ns l slot : List ℕ) (j m k o : ℕ) → At (components t) j k o → Source (before-next reached t k o j m) ns l slot → Slot t ns l slot j m
 slot-at t ns l slot j m k o at s = record { held = λ k' o' b. let u = at-one (components t) j k o k' o' at b in rw (← (u .0), ← (u .1)) s }
 
--- a slot written: the path to the first child
-module _ (t : Template) (ns l : List ℕ) (rows rows' : List ℕ) (j m k o : ℕ) (path : Path t ns l rows j m) (at : At (components t) j k o)
-    (r : take (j * 2072) rows' ≡ take (j * 2072) rows) where
-  pub pushed-one : Source (before-next reached t k o j m) ns l (row-slot j rows') → Path t ns l rows' (j + 1) (m * base-of t)
-  pushed-one s =
-      let e : j + 1 ≡ suc j = omega arith in
-      let z : m * base-of t ≡ m * base-of t + 0 = omega arith in
-      rw (e, z)
-      (pushed t ns l rows rows' j m 0 (some-base t) path r
-      (slot-at t ns l (row-slot j rows') j m k o at s))
-
--- the first slot
-pub begun : (t : Template) → SoundTemplate t → (ns l rows : List ℕ)
-    → Source (before-next reached t 0 0 0 0) ns l (row-slot 0 rows) → Path t ns l rows 1 0
-unfolding letters-before
-begun t sound ns l rows s =
-    let n = components-length t (sound .few) in
-    let z : 0 * base-of t ≡ 0 = omega arith in
-    rw z
-    at (pushed-one t ns l rows rows 0 0 0 0 (record { held-at = λ i k o h a. absurd (omega arith) })
-    (record { there = omega (arith, n, sound .some); inside = components-some sound 0 (omega (arith, n, sound .some)); counted = refl }) refl s)
-
 -- THE WAY UP keeps the path: the place after a candidate whose children are not visited has the same letters above its last
-module _ (t : Template) (ns l rows : List ℕ) where
+module _ (t : Template) (ns l evens odds : List ℕ) where
   sibling : (m n i j : ℕ) → n / base-of t ≡ m / base-of t → i < suc j → n / base-of t ^ (suc j - i) ≡ m / base-of t ^ (suc j - i)
   sibling m n i j e u =
       let d : suc j - i ≡ suc (j - i) = omega arith in
       rw (d, pow-suc (base-of t) (j - i), mul-comm (base-of t ^ (j - i)) (base-of t))
       (sym (div-div-eq-div-mul n (base-of t) (base-of t ^ (j - i))) ∙ ap (λ (y : ℕ). y / base-of t ^ (j - i)) e ∙ div-div-eq-div-mul m (base-of t) (base-of t ^ (j - i)))
 
-  parent-path : (j m : ℕ) → Path t ns l rows (suc j) m → Path t ns l rows j (m / base-of t)
+  parent-path : (j m : ℕ) → Path t ns l evens odds (suc j) m → Path t ns l evens odds j (m / base-of t)
   parent-path j m p =
-      shortened t ns l rows (suc j) m j (m / base-of t) p (omega arith)
+      shortened t ns l evens odds (suc j) m j (m / base-of t) p (omega arith)
       (λ i u. let d : suc j - i ≡ suc (j - i) = omega arith in
       div-div-eq-div-mul m (base-of t) (base-of t ^ (j - i)) ∙ rw (d, pow-suc (base-of t) (j - i), mul-comm (base-of t ^ (j - i)) (base-of t)))
 
   -- the first sibling that may stand there, whichever letters may
   choice : (f : ℕ → Bool) (j m n a : ℕ) → ((b : ℕ) → a ≤ b → b < a + n → b / base-of t ≡ m / base-of t)
-      → (q : Place) → Path t ns l rows (suc j) m → Path t ns l rows (q .letters) (q .number)
-      → let c = choose q (suc j) (keep f (run a n)) in Path t ns l rows (c .letters) (c .number)
+      → (q : Place) → Path t ns l evens odds (suc j) m → Path t ns l evens odds (q .letters) (q .number)
+      → let c = choose q (suc j) (keep f (run a n)) in Path t ns l evens odds (c .letters) (c .number)
   unfolding run keep
   choice f j m zero a h q p r = r
   choice f j m (suc n) a h q p r = go (f a) (choice f j m n (suc a) (λ b u v. h b (omega arith) (omega arith)) q p r)
     where
-      go : (b : Bool) → (let c = choose q (suc j) (keep f (run (suc a) n)) in Path t ns l rows (c .letters) (c .number))
-          → let c = choose q (suc j) (if b (a ∷ keep f (run (suc a) n)) (keep f (run (suc a) n))) in Path t ns l rows (c .letters) (c .number)
-      go true r = shortened t ns l rows (suc j) m (suc j) a p (omega arith) (λ i u. sibling m a i j (h a (omega arith) (omega arith)) u)
+      go : (b : Bool) → (let c = choose q (suc j) (keep f (run (suc a) n)) in Path t ns l evens odds (c .letters) (c .number))
+          → let c = choose q (suc j) (if b (a ∷ keep f (run (suc a) n)) (keep f (run (suc a) n))) in Path t ns l evens odds (c .letters) (c .number)
+      go true r = shortened t ns l evens odds (suc j) m (suc j) a p (omega arith) (λ i u. sibling m a i j (h a (omega arith) (omega arith)) u)
       go false r = r
 
   -- in every walk over as many letters, whichever of them may follow
-  pub path-up-in : (W : Walk) → W .base ≡ base-of t → (j m : ℕ) → Path t ns l rows j m → let c = up W j m in Path t ns l rows (c .letters) (c .number)
+  pub path-up-in : (W : Walk) → W .base ≡ base-of t → (j m : ℕ) → Path t ns l evens odds j m → let c = up W j m in Path t ns l evens odds (c .letters) (c .number)
   unfolding up later
   path-up-in W e zero m p = record { held-at = λ i k o h a. absurd (omega arith) }
   path-up-in W e (suc j) m p =

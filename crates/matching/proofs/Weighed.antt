@@ -29,7 +29,7 @@ use Rattle.rows.specs.Set.{words-of, bits-at, marked?, sequence, Row}
 use Rattle.matching.specs.Weights.{kept-counts, weight-at, weight-of, prefix-of, Leads}
 use Rattle.rows.proofs.ByFlags.{long, row-bounded}
 use Rattle.matching.proofs.Counted.{parts-tight}
-use Rattle.matching.proofs.Led.{letters-next, letters-last, last-some, led-kept, last-led}
+use Rattle.matching.proofs.Led.{letters-next, letters-last, last-some, led-kept}
 use Rattle.rows.proofs.Link.{padded-out}
 use Rattle.matching.proofs.Steps.{prefix-long}
 use Rattle.rows.proofs.Ways.{ways-occur, left-occurs}
@@ -89,7 +89,7 @@ module _ (t : Template) (sound : SoundTemplate t) (l ns : List ℕ) (set : Sound
         let h : c < t .count = omega (arith, sound .some) in
         let z : size t - letters-before (components t) c ≡ (getD (components t) c none) .length = omega (arith, letters-last t sound, letters-next t sound c h) in
         let e : letters-before (components t) (suc c) ≡ depth = letters-last t sound ∙ sym whole in
-        rw e at (led-kept t sound l ns set c m h row counts (rw z at (last-led t sound l ns set (prefix-of t m) counts leads)) (rw e is) k u marked)
+        rw e at (led-kept t sound l ns set c m h row (rw e is) counts (rw z at leads) k u marked)
 
     one : (k : ℕ) → k < 1024 → weight-at ns row counts k ≡ occurs (sequence ns l k)
     unfolding weight-at occurs

@@ -1,10 +1,11 @@
 -- The path of a search: for each prefix of the place that has fewer letters what the next letter is added to, its row or that row with
--- the gap opened. They are kept from step to step in one table, a slot of as many words as a row has for each number of letters.
+-- the gap opened. They are kept from step to step, a slot of as many words as a row has for each number of letters, in two tables: the
+-- even numbers' and the odd ones'. So a slot is written while the one before it is read.
 use mathlib.Core.Bool.{true}
 use mathlib.Core.List.{List, map}
 use mathlib.Core.Path.{_≡_}
-use Prim.Native.Nat.{ℕ, _+_, _-_, _*_, _/_, _^_, _≤_, _<_}
-use lib.Dec.{ltb}
+use Prim.Native.Nat.{ℕ, _+_, _-_, _*_, _/_, _%_, _^_, _≤_, _<_}
+use lib.Dec.{eqb, ltb}
 use lib.ListN.{length, getD}
 use Rattle.rules.specs.Letters.{value}
 use Rattle.rules.specs.Limits.{SequenceSet-SEQUENCES, Template-LETTERS, Letter-BASES}
@@ -22,6 +23,13 @@ use Rattle.rows.specs.Set.{Row-WORDS, between, lettered-on, Firsts, Offsets, Fi
 unfoldable pub row-slot : ℕ → List ℕ → List ℕ
 row-slot i rows = between (i * Row-WORDS) (i * Row-WORDS + Row-WORDS) rows
 
+-- of two tables the one for a number of letters, and its slot there
+abbrev pub parity : List ℕ → List ℕ → ℕ → List ℕ
+parity evens odds i = if (eqb (i % 2) 0) evens odds
+
+abbrev pub path-slot : List ℕ → List ℕ → ℕ → List ℕ
+path-slot evens odds i = row-slot (i / 2) (parity evens odds i)
+
 -- BY A TEMPLATE'S PROFILE. Where the last part of the prefix of j letters with the number m can start
 abbrev pub prefix-starts : Template → ℕ → ℕ → List ℕ → List ℕ
 prefix-starts t j m = last-starts (parts t j m)
@@ -35,8 +43,8 @@ pub record Slot (t : Template) (ns l slot : List ℕ) (d p : ℕ) : Type 0 where
   pub held : (k o : ℕ) → At (components t) d k o → Source (before-next reached t k o d p) ns l slot
 
 -- THE PATH to the candidate of j letters with the number m: in slot i what a letter is added to after the first i of them
-pub record Path (t : Template) (ns l rows : List ℕ) (j m : ℕ) : Type 0 where
-  pub held-at : (i k o : ℕ) → i < j → At (components t) i k o → Source (before-next reached t k o i (m / base-of t ^ (j - i))) ns l (row-slot i rows)
+pub record Path (t : Template) (ns l evens odds : List ℕ) (j m : ℕ) : Type 0 where
+  pub held-at : (i k o : ℕ) → i < j → At (components t) i k o → Source (before-next reached t k o i (m / base-of t ^ (j - i))) ns l (path-slot evens odds i)
 
 -- WHAT IT IS MADE WITH, once in a leg. For each letter of a motif which component it belongs to, and its place there, in one number
 abbrev pub inside-code : ℕ → ℕ → ℕ
@@ -81,18 +89,22 @@ gap-near t k = distance ((getD (components t) (k - 1) none) .length) ((getD (com
 abbrev pub gap-far : Template → ℕ → ℕ
 gap-far t k = distance ((getD (components t) (k - 1) none) .length) ((getD (components t) k none) .high)
 
--- THE TABLES that are lent for it, each made once
-pub record Tables (inside firsts offsets standing rows work spare : List ℕ) : Type 0 where
+-- THE TABLES that are lent for it, each made once. Of the path so many slots are even, and as many odd
+abbrev pub Path-SLOTS : ℕ
+Path-SLOTS = Template-LETTERS / 2
+
+pub record Tables (inside firsts offsets standing evens odds work spare : List ℕ) : Type 0 where
   pub inside-long : length inside ≡ Template-LETTERS
-  pub firsts-long : length firsts ≡ SequenceSet-SEQUENCES + 1
+  pub firsts-long : length firsts ≡ SequenceSet-SEQUENCES + 2
   pub offsets-long : length offsets ≡ SequenceSet-SEQUENCES + 1
   pub standing-long : length standing ≡ Letter-SHIFTS * Letter-BASES * Row-WORDS
-  pub rows-long : length rows ≡ Template-LETTERS * Row-WORDS
+  pub evens-long : length evens ≡ Path-SLOTS * Row-WORDS
+  pub odds-long : length odds ≡ Path-SLOTS * Row-WORDS
   pub work-long : length work ≡ Row-WORDS
   pub spare-long : length spare ≡ Row-WORDS
 
 -- and what they hold for the candidate of j letters with the number m
-pub record Made (t : Template) (ns l inside firsts offsets standing rows : List ℕ) (j m : ℕ) : Type 0 where
+pub record Made (t : Template) (ns l inside firsts offsets standing evens odds : List ℕ) (j m : ℕ) : Type 0 where
   pub ready : Ready t ns l inside firsts standing
   pub laid : Offsets ns offsets
-  pub path : Path t ns l rows j m
+  pub path : Path t ns l evens odds j m

@@ -8,13 +8,16 @@ use rules::Letter;
 use rules::SequenceSet;
 use rules::Template;
 
-// The words of a row, and how long the tables are that a caller lends: a place for each letter of a motif; where each sequence begins,
-// and where the last one ends; from one to SHIFTS rows for each letter; and a slot for each prefix of a path.
+// The words of a row, and how long the tables are that a caller lends: a place for each letter of a motif; where each sequence's words
+// begin, where the last one's end, and whether each has one; where its letters begin; from one to SHIFTS rows for each letter; and a slot
+// for each prefix of a path, those with an even number of letters in one table and those with an odd one in another.
 pub const WORDS: usize = rows::WORDS;
 
 pub const LETTERS: usize = Template::LETTERS as usize;
 
-pub const ENDS: usize = SequenceSet::SEQUENCES + 1;
+pub const FIRSTS: usize = SequenceSet::SEQUENCES + 2;
+
+pub const OFFSETS: usize = SequenceSet::SEQUENCES + 1;
 
 // A row for each letter.
 pub const BASES: usize = Letter::BASES as usize;
@@ -28,4 +31,5 @@ pub const SHIFTS: usize = 4;
 
 pub const STANDING: usize = SHIFTS * ROWS;
 
-pub const SLOTS: usize = LETTERS * WORDS;
+// The words of one of the two tables of slots.
+pub const SLOTS: usize = LETTERS / 2 * WORDS;

@@ -3,23 +3,28 @@
 use super::BASES;
 use super::ROWS;
 use super::path::PLACES;
+use rows::BITS;
 use rows::WORDS;
 use rows::set;
 use rows::shift;
 use rows::words;
-use rules::Letter;
+use rows::words::Bases;
 use rules::Template;
+use rules::least;
 ghost use mathlib.Core.Bool.{true};
 ghost use mathlib.Core.Path.{_≡_};
-ghost use Prim.Native.Nat.{ℕ, _+_, _*_, _/_, _%_, _≤_, _<_};
+ghost use Prim.Native.Nat.{ℕ, _+_, _-_, _*_, _/_, _%_, _≤_, _<_};
 ghost use lib.Dec.{eqb};
-ghost use lib.ListN.{length, take, getD};
-ghost use Rattle.rules.specs.Letters.{letter};
+ghost use lib.ListN.{length, take, getD, set};
+ghost use Rattle.rules.specs.Letters.{letter, letter?};
 ghost use Rattle.rules.specs.Limits.{Letter-BASES, Template-LENGTH, Template-COMPONENTS};
 ghost use Rattle.rules.specs.Sound.{SoundSet, SoundTemplate};
 ghost use Rattle.rules.specs.Template as templates;
-ghost use Rattle.matching.specs.Path.{Letter-SHIFTS, kept-places, used-slot, used-shift, row-slot, inside-code, Path, Inside, Letters, Ready};
-ghost use Rattle.rows.specs.Set.{Row-WORDS, first-word, Firsts, Offsets, shifted-at, lettered-at, Filled};
+ghost use Rattle.matching.specs.Path.{Letter-SHIFTS, kept-places, used-slot, used-shift, row-slot, inside-code, Slot, Inside, Letters, Ready};
+ghost use Rattle.rows.specs.Bases.{word-of};
+ghost use Rattle.rows.specs.Bits.{held};
+ghost use Rattle.rows.specs.Rows.{lettered};
+ghost use Rattle.rows.specs.Set.{Row-WORDS, first-word, between, Firsts, Offsets, shifted-at, lettered-at, Filled};
 
 // The places of the `n` letters of component `k`, the first of which is letter `from` of a motif.
 fn place_component(k: u8, n: u8, from: usize, inside: &mut [u8])
@@ -62,26 +67,37 @@ pub fn kept(standing: &[u64]) -> usize
     standing.len() / ROWS
 }
 
-// The row of the letter with the value `x`, in its slot for the first place of a component.
-fn letter_slot(
-    x: u64,
-    letters: &[u8],
-    lengths: &[u32],
-    firsts: &[u32],
-    offsets: &[u32],
-    standing: &mut [u64],
-)
-    requires { ⌜ SoundSet (now letters) (now lengths) ⌝ }
-    requires { ⌜ Firsts (now lengths) (now firsts) ⌝ }
-    requires { ⌜ Offsets (now lengths) (now offsets) ⌝ }
-    requires { ⌜ (x < Letter-BASES) × (Letter-BASES * Row-WORDS ≤ length (now standing)) ⌝ }
-    ensures { λ _. ⌜ (take (x * Row-WORDS) (now (standing .exit)) ≡ take (x * Row-WORDS) (now (standing .entry))) × (length (now (standing .exit)) ≡ length (now (standing .entry))) ⌝ }
-    ensures { λ _. ⌜ Filled (λ _. true) (lettered-at eqb (letter x) (now (lengths .entry)) (now (letters .entry))) (now (lengths .entry)) (row-slot x (now (standing .exit))) (length (now (lengths .entry))) ⌝ }
+// Word `q` of each letter's row, in its slot for the first place of a component.
+fn put_words(q: usize, bases: Bases, standing: &mut [u64])
+    requires { ⌜ (q < Row-WORDS) × (Letter-BASES * Row-WORDS ≤ length (now standing)) ⌝ }
+    ensures { λ _. ⌜ ((x : ℕ) → x < Letter-BASES → row-slot x (now (standing .exit)) ≡ set (row-slot x (now (standing .entry))) q (word-of bases x)) ⌝ }
+    ensures { λ _. ⌜ length (now (standing .exit)) ≡ length (now (standing .entry)) ⌝ }
 {
-    let byte = Letter::byte(x);
-    let a = x as usize * WORDS;
-    let e = a + WORDS;
-    set::letter_row(byte, letters, lengths, firsts, offsets, &mut standing[a..e]);
+    standing[q] = bases.a;
+    standing[WORDS + q] = bases.c;
+    standing[2 * WORDS + q] = bases.g;
+    standing[3 * WORDS + q] = bases.t;
+}
+
+// The words of one sequence, from `from` up to `to`, of all letters' rows: 64 of its letters at a time, for all four at once.
+fn sequence_slots(sequence: &[u8], from: usize, to: usize, standing: &mut [u64])
+    requires { ⌜ ((i : ℕ) → i < length (now sequence) → letter? (getD (now sequence) i 0) ≡ true) ⌝ }
+    requires { ⌜ (from ≤ to) × (to ≤ Row-WORDS) × (length (now sequence) ≤ 64 * (to - from)) × (64 * (to - from) ≤ length (now sequence) + 63) ⌝ }
+    requires { ⌜ Letter-BASES * Row-WORDS ≤ length (now standing) ⌝ }
+    ensures { λ _. ⌜ ((x : ℕ) → x < Letter-BASES → take from (row-slot x (now (standing .exit))) ≡ take from (row-slot x (now (standing .entry)))) ⌝ }
+    ensures { λ _. ⌜ ((x : ℕ) → x < Letter-BASES → held (between from to (row-slot x (now (standing .exit)))) ≡ lettered eqb (letter x) (now (sequence .entry)) (64 * (to - from))) ⌝ }
+    ensures { λ _. ⌜ length (now (standing .exit)) ≡ length (now (standing .entry)) ⌝ }
+{
+    let n = sequence.len();
+    let count = to - from;
+    let mut q = 0;
+    while q < count {
+        let a = BITS * q;
+        let e = least(a + BITS, n);
+        let bases = words::letter_words(&sequence[a..e]);
+        put_words(from + q, bases, standing);
+        q += 1;
+    }
 }
 
 // The rows of all letters, in their slots for the first place of a component.
@@ -99,10 +115,14 @@ fn letter_slots(
     ensures { λ _. ⌜ length (now (standing .exit)) ≡ length (now (standing .entry)) ⌝ }
     ensures { λ _. ⌜ ((x : ℕ) → x < Letter-BASES → Filled (λ _. true) (lettered-at eqb (letter x) (now (lengths .entry)) (now (letters .entry))) (now (lengths .entry)) (row-slot x (now (standing .exit))) (length (now (lengths .entry)))) ⌝ }
 {
-    let mut x = 0;
-    while x < Letter::BASES {
-        letter_slot(x, letters, lengths, firsts, offsets, standing);
-        x += 1;
+    let mut k = 0;
+    while k < lengths.len() {
+        let a = offsets[k] as usize;
+        let e = offsets[k + 1] as usize;
+        let from = firsts[k] as usize;
+        let to = firsts[k + 1] as usize;
+        sequence_slots(&letters[a..e], from, to, standing);
+        k += 1;
     }
 }
 
@@ -184,16 +204,16 @@ pub fn shift_of(n: usize, i: usize) -> usize
     if i < n { 0 } else { i }
 }
 
-// The path to the first candidates, those of one letter: its slot has every mark and every bit.
-fn first_slot(template: Template, letters: &[u8], lengths: &[u32], rows: &mut [u64])
+// The slot of the prefix with no letters, which the first letter is added to: it has every mark and every bit.
+fn first_slot(template: Template, letters: &[u8], lengths: &[u32], slot: &mut [u64])
     requires { ⌜ SoundTemplate template ⌝ }
     requires { ⌜ SoundSet (now letters) (now lengths) ⌝ }
-    requires { ⌜ Row-WORDS ≤ length (now rows) ⌝ }
-    ensures { λ _. ⌜ Path template (now (lengths .entry)) (now (letters .entry)) (now (rows .exit)) 1 0 ⌝ }
-    ensures { λ _. ⌜ length (now (rows .exit)) ≡ length (now (rows .entry)) ⌝ }
+    requires { ⌜ length (now slot) ≡ Row-WORDS ⌝ }
+    ensures { λ _. ⌜ Slot template (now (lengths .entry)) (now (letters .entry)) (now (slot .exit)) 0 0 ⌝ }
+    ensures { λ _. ⌜ length (now (slot .exit)) ≡ length (now (slot .entry)) ⌝ }
 {
     let n = lengths.len();
-    set::begin(n, &mut rows[..WORDS]);
+    set::begin(n, slot);
 }
 
 // All of it. `work` is lent for a row. The letters' rows are kept for as many places as `standing` has room for, at least one.
@@ -205,19 +225,19 @@ pub fn make(
     firsts: &mut [u32],
     offsets: &mut [u32],
     standing: &mut [u64],
-    rows: &mut [u64],
+    slot: &mut [u64],
     work: &mut [u64],
 )
     requires { ⌜ SoundTemplate template ⌝ }
     requires { ⌜ SoundSet (now letters) (now lengths) ⌝ }
-    requires { ⌜ (templates.size template ≤ length (now inside)) × (length (now lengths) < length (now firsts)) × (length (now lengths) < length (now offsets)) × (Letter-BASES * Row-WORDS ≤ length (now standing)) × (length (now standing) ≤ Letter-SHIFTS * Letter-BASES * Row-WORDS) × (Row-WORDS ≤ length (now rows)) × (length (now work) ≡ Row-WORDS) ⌝ }
+    requires { ⌜ (templates.size template ≤ length (now inside)) × (length (now lengths) + 1 < length (now firsts)) × (length (now lengths) < length (now offsets)) × (Letter-BASES * Row-WORDS ≤ length (now standing)) × (length (now standing) ≤ Letter-SHIFTS * Letter-BASES * Row-WORDS) × (length (now slot) ≡ Row-WORDS) × (length (now work) ≡ Row-WORDS) ⌝ }
     ensures { λ _. ⌜ Ready template (now (lengths .entry)) (now (letters .entry)) (now (inside .exit)) (now (firsts .exit)) (now (standing .exit)) ⌝ }
     ensures { λ _. ⌜ Offsets (now (lengths .entry)) (now (offsets .exit)) ⌝ }
-    ensures { λ _. ⌜ Path template (now (lengths .entry)) (now (letters .entry)) (now (rows .exit)) 1 0 ⌝ }
-    ensures { λ _. ⌜ (length (now (inside .exit)) ≡ length (now (inside .entry))) × (length (now (firsts .exit)) ≡ length (now (firsts .entry))) × (length (now (offsets .exit)) ≡ length (now (offsets .entry))) × (length (now (standing .exit)) ≡ length (now (standing .entry))) × (length (now (rows .exit)) ≡ length (now (rows .entry))) × (length (now (work .exit)) ≡ length (now (work .entry))) ⌝ }
+    ensures { λ _. ⌜ Slot template (now (lengths .entry)) (now (letters .entry)) (now (slot .exit)) 0 0 ⌝ }
+    ensures { λ _. ⌜ (length (now (inside .exit)) ≡ length (now (inside .entry))) × (length (now (firsts .exit)) ≡ length (now (firsts .entry))) × (length (now (offsets .exit)) ≡ length (now (offsets .entry))) × (length (now (standing .exit)) ≡ length (now (standing .entry))) × (length (now (slot .exit)) ≡ length (now (slot .entry))) × (length (now (work .exit)) ≡ length (now (work .entry))) ⌝ }
 {
     place_letters(template, inside);
     set::lay_out(lengths, firsts, offsets);
     letter_rows(template, letters, lengths, firsts, offsets, work, standing);
-    first_slot(template, letters, lengths, rows);
+    first_slot(template, letters, lengths, slot);
 }

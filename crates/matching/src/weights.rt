@@ -3,6 +3,7 @@
 use super::path;
 use rows::BITS;
 use rows::MARKS;
+use rows::WORDS;
 use rows::counts;
 use rows::words;
 use rules::Offset;
@@ -20,32 +21,46 @@ ghost use Rattle.rules.specs.Support.{weight, parts};
 ghost use Rattle.rules.specs.Template as templates;
 ghost use Rattle.rows.specs.Bits.{held};
 ghost use Rattle.rows.specs.Flags.{Count-MOST, added, masked};
-ghost use Rattle.matching.specs.Path.{prefix-starts, Path, Ready};
+ghost use Rattle.matching.specs.Path.{path-slot, prefix-starts, Path, Path-SLOTS, Ready};
 ghost use Rattle.rows.specs.Set.{Row-MARKS, Row-WORDS, first-word, Firsts, Offsets, between, bits-at, marked?, Bounded, Row};
-ghost use Rattle.matching.specs.Weights.{counts-at, kept-counts, Countable, weight-at, weight-of, prefix-of, Leads, Counted};
+ghost use Rattle.matching.specs.Weights.{counts-at, kept-counts, Counts, begun, begun-counts, weight-at, weight-of, prefix-of, Leads, Counted};
 
-// In one sequence, whose words are those from `from` up to `to` and whose counts are those from `a` up to `e`: keeps the counts at which
-// the row has a bit, and opens a gap of `n` distances, the least of them `d`.
+// What a component's ways are counted from in one sequence, where the row has a bit: for the first one way, and else what there is.
+fn begin(first: bool, row: &[u64], counts: &mut [u64])
+    requires { ⌜ length (now counts) ≤ 64 * length (now row) ⌝ }
+    ensures { λ _. ⌜ masked (held (now (row .entry))) (now (counts .exit)) ≡ masked (held (now (row .entry))) (begun first (now (counts .entry))) ⌝ }
+{
+    if first {
+        counts::ones(row, counts);
+    }
+}
+
+// In one sequence, whose words are those from `from` up to `to` and whose counts are those from `a` up to `e`: opens a gap of `n`
+// distances, the least of them `d`, after the counts at which the row has a bit. `opened` is that row with the gap opened: where it has a
+// bit the counts are right then, and elsewhere they are anything.
 fn lead_between(
     from: usize,
     to: usize,
     a: Offset,
     e: Offset,
     row: &[u64],
+    opened: &[u64],
+    first: bool,
     d: usize,
     n: usize,
     counts: &mut [u64],
 )
-    requires { ⌜ (from ≤ to) × (to ≤ length (now row)) × (a .0 ≤ e .0) × (e .0 ≤ length (now counts)) × (e .0 - a .0 ≤ 64 * (to - from)) ⌝ }
+    requires { ⌜ (from ≤ to) × (to ≤ length (now row)) × (to ≤ length (now opened)) × (a .0 ≤ e .0) × (e .0 ≤ length (now counts)) × (e .0 - a .0 ≤ 64 * (to - from)) ⌝ }
     requires { ⌜ (1 ≤ d) × (d ≤ Template-LENGTH + Template-GAP) × (1 ≤ n) × (n ≤ Template-GAP + 1) ⌝ }
-    requires { ⌜ ((i : ℕ) → getD (masked (held (between from to (now row))) (between (a .0) (e .0) (now counts))) i 0 ≤ Count-MOST) ⌝ }
+    requires { ⌜ ((i : ℕ) → getD (masked (held (between from to (now row))) (begun first (between (a .0) (e .0) (now counts)))) i 0 ≤ Count-MOST) ⌝ }
+    requires { ⌜ ((i : ℕ) → getD (held (between from to (now opened))) i 0 ≡ 0 → getD (added d (d + n - 1) (masked (held (between from to (now row))) (begun first (between (a .0) (e .0) (now counts))))) i 0 ≡ 0) ⌝ }
     ensures { λ _. ⌜ (take (a .0) (now (counts .exit)) ≡ take (a .0) (now (counts .entry))) × (drop (e .0) (now (counts .exit)) ≡ drop (e .0) (now (counts .entry))) × (length (now (counts .exit)) ≡ length (now (counts .entry))) ⌝ }
-    ensures { λ _. ⌜ between (a .0) (e .0) (now (counts .exit)) ≡ added d (d + n - 1) (masked (held (between from to (now (row .entry)))) (between (a .0) (e .0) (now (counts .entry)))) ⌝ }
+    ensures { λ _. ⌜ masked (held (between from to (now (opened .entry)))) (between (a .0) (e .0) (now (counts .exit))) ≡ added d (d + n - 1) (masked (held (between from to (now (row .entry)))) (begun first (between (a .0) (e .0) (now (counts .entry))))) ⌝ }
 {
-    let begin = a.0;
-    let end = e.0;
-    counts::mask(&row[from..to], &mut counts[begin..end]);
-    counts::reach(&row[from..to], d, n, &mut counts[begin..end]);
+    let x = a.0;
+    let y = e.0;
+    begin(first, &row[from..to], &mut counts[x..y]);
+    counts::lead(&row[from..to], &opened[from..to], d, n, &mut counts[x..y]);
 }
 
 // The same in the sequences of one word of marks, those that have one.
@@ -55,6 +70,8 @@ fn lead_sequences(
     firsts: &[u32],
     offsets: &[u32],
     row: &[u64],
+    opened: &[u64],
+    first: bool,
     d: usize,
     n: usize,
     counts: &mut [u64],
@@ -63,9 +80,10 @@ fn lead_sequences(
     requires { ⌜ Firsts (now lengths) (now firsts) ⌝ }
     requires { ⌜ Offsets (now lengths) (now offsets) ⌝ }
     requires { ⌜ Bounded (now lengths) (now row) ⌝ }
-    requires { ⌜ (first-word (now lengths) (length (now lengths)) ≤ length (now row)) × (Row-MARKS ≤ length (now row)) × (lists.sum (now lengths) ≤ length (now counts)) ⌝ }
-    requires { ⌜ ((k : ℕ) → w * 64 ≤ k → k < length (now lengths) → marked? (now row) k ≡ true → (i : ℕ) → getD (kept-counts (now lengths) (now row) (now counts) k) i 0 ≤ Count-MOST) ⌝ }
-    ensures { λ _. ⌜ ((k : ℕ) → w * 64 ≤ k → k < w * 64 + 64 → marked? (now (row .entry)) k ≡ true → counts-at (now (lengths .entry)) k (now (counts .exit)) ≡ added d (d + n - 1) (kept-counts (now (lengths .entry)) (now (row .entry)) (now (counts .entry)) k)) ⌝ }
+    requires { ⌜ (first-word (now lengths) (length (now lengths)) ≤ length (now row)) × (Row-MARKS ≤ length (now row)) × (length (now opened) ≡ length (now row)) × (lists.sum (now lengths) ≤ length (now counts)) ⌝ }
+    requires { ⌜ ((k : ℕ) → w * 64 ≤ k → k < length (now lengths) → marked? (now row) k ≡ true → (i : ℕ) → getD (begun-counts first (now lengths) (now row) (now counts) k) i 0 ≤ Count-MOST) ⌝ }
+    requires { ⌜ ((k : ℕ) → w * 64 ≤ k → k < length (now lengths) → marked? (now row) k ≡ true → (i : ℕ) → getD (bits-at (now lengths) k (now opened)) i 0 ≡ 0 → getD (added d (d + n - 1) (begun-counts first (now lengths) (now row) (now counts) k)) i 0 ≡ 0) ⌝ }
+    ensures { λ _. ⌜ ((k : ℕ) → w * 64 ≤ k → k < w * 64 + 64 → marked? (now (row .entry)) k ≡ true → kept-counts (now (lengths .entry)) (now (opened .entry)) (now (counts .exit)) k ≡ added d (d + n - 1) (begun-counts first (now (lengths .entry)) (now (row .entry)) (now (counts .entry)) k)) ⌝ }
     ensures { λ _. ⌜ ((k : ℕ) → k < w * 64 → k < length (now (lengths .entry)) → counts-at (now (lengths .entry)) k (now (counts .exit)) ≡ counts-at (now (lengths .entry)) k (now (counts .entry))) ⌝ }
     ensures { λ _. ⌜ ((k : ℕ) → w * 64 + 64 ≤ k → k < length (now (lengths .entry)) → counts-at (now (lengths .entry)) k (now (counts .exit)) ≡ counts-at (now (lengths .entry)) k (now (counts .entry))) ⌝ }
     ensures { λ _. ⌜ length (now (counts .exit)) ≡ length (now (counts .entry)) ⌝ }
@@ -79,7 +97,18 @@ fn lead_sequences(
         let to = firsts[at + 1] as usize;
         let a = offsets[at] as usize;
         let e = offsets[at + 1] as usize;
-        lead_between(from, to, Offset(a), Offset(e), row, d, n, counts);
+        lead_between(
+            from,
+            to,
+            Offset(a),
+            Offset(e),
+            row,
+            opened,
+            first,
+            d,
+            n,
+            counts,
+        );
         rest = (rest >> zeros) >> 1;
         k = at + 1;
     }
@@ -91,6 +120,8 @@ fn lead_all(
     firsts: &[u32],
     offsets: &[u32],
     row: &[u64],
+    opened: &[u64],
+    first: bool,
     d: usize,
     n: usize,
     counts: &mut [u64],
@@ -99,16 +130,82 @@ fn lead_all(
     requires { ⌜ Firsts (now lengths) (now firsts) ⌝ }
     requires { ⌜ Offsets (now lengths) (now offsets) ⌝ }
     requires { ⌜ Bounded (now lengths) (now row) ⌝ }
-    requires { ⌜ (first-word (now lengths) (length (now lengths)) ≤ length (now row)) × (Row-MARKS ≤ length (now row)) × (lists.sum (now lengths) ≤ length (now counts)) ⌝ }
-    requires { ⌜ ((k : ℕ) → k < length (now lengths) → marked? (now row) k ≡ true → (i : ℕ) → getD (kept-counts (now lengths) (now row) (now counts) k) i 0 ≤ Count-MOST) ⌝ }
-    ensures { λ _. ⌜ Countable (marked? (now (row .entry))) (λ k. added d (d + n - 1) (kept-counts (now (lengths .entry)) (now (row .entry)) (now (counts .entry)) k)) (now (lengths .entry)) (now (counts .exit)) (length (now (lengths .entry))) ⌝ }
+    requires { ⌜ (first-word (now lengths) (length (now lengths)) ≤ length (now row)) × (Row-MARKS ≤ length (now row)) × (length (now opened) ≡ length (now row)) × (lists.sum (now lengths) ≤ length (now counts)) ⌝ }
+    requires { ⌜ ((k : ℕ) → k < length (now lengths) → marked? (now row) k ≡ true → (i : ℕ) → getD (begun-counts first (now lengths) (now row) (now counts) k) i 0 ≤ Count-MOST) ⌝ }
+    requires { ⌜ ((k : ℕ) → k < length (now lengths) → marked? (now row) k ≡ true → (i : ℕ) → getD (bits-at (now lengths) k (now opened)) i 0 ≡ 0 → getD (added d (d + n - 1) (begun-counts first (now lengths) (now row) (now counts) k)) i 0 ≡ 0) ⌝ }
+    ensures { λ _. ⌜ Counts (marked? (now (row .entry))) (λ k. added d (d + n - 1) (begun-counts first (now (lengths .entry)) (now (row .entry)) (now (counts .entry)) k)) (now (lengths .entry)) (now (opened .entry)) (now (counts .exit)) (length (now (lengths .entry))) ⌝ }
     ensures { λ _. ⌜ length (now (counts .exit)) ≡ length (now (counts .entry)) ⌝ }
 {
     let mut w = 0;
     while w < MARKS {
-        lead_sequences(w, lengths, firsts, offsets, row, d, n, counts);
+        lead_sequences(
+            w,
+            lengths,
+            firsts,
+            offsets,
+            row,
+            opened,
+            first,
+            d,
+            n,
+            counts,
+        );
         w += 1;
     }
+}
+
+// The same, the opened row being the slot of a prefix of so many letters.
+fn lead_slot(
+    size: usize,
+    lengths: &[u32],
+    firsts: &[u32],
+    offsets: &[u32],
+    row: &[u64],
+    evens: &[u64],
+    odds: &[u64],
+    first: bool,
+    d: usize,
+    n: usize,
+    counts: &mut [u64],
+)
+    requires { ⌜ (size < 2 * Path-SLOTS) × (length (now evens) ≡ Path-SLOTS * Row-WORDS) × (length (now odds) ≡ Path-SLOTS * Row-WORDS) × (length (now row) ≡ Row-WORDS) ⌝ }
+    requires { ⌜ (length (now lengths) ≤ SequenceSet-SEQUENCES) × (1 ≤ d) × (d ≤ Template-LENGTH + Template-GAP) × (1 ≤ n) × (n ≤ Template-GAP + 1) ⌝ }
+    requires { ⌜ Firsts (now lengths) (now firsts) ⌝ }
+    requires { ⌜ Offsets (now lengths) (now offsets) ⌝ }
+    requires { ⌜ Bounded (now lengths) (now row) ⌝ }
+    requires { ⌜ (first-word (now lengths) (length (now lengths)) ≤ Row-WORDS) × (lists.sum (now lengths) ≤ length (now counts)) ⌝ }
+    requires { ⌜ ((k : ℕ) → k < length (now lengths) → marked? (now row) k ≡ true → (i : ℕ) → getD (begun-counts first (now lengths) (now row) (now counts) k) i 0 ≤ Count-MOST) ⌝ }
+    requires { ⌜ ((k : ℕ) → k < length (now lengths) → marked? (now row) k ≡ true → (i : ℕ) → getD (bits-at (now lengths) k (path-slot (now evens) (now odds) size)) i 0 ≡ 0 → getD (added d (d + n - 1) (begun-counts first (now lengths) (now row) (now counts) k)) i 0 ≡ 0) ⌝ }
+    ensures { λ _. ⌜ Counts (marked? (now (row .entry))) (λ k. added d (d + n - 1) (begun-counts first (now (lengths .entry)) (now (row .entry)) (now (counts .entry)) k)) (now (lengths .entry)) (path-slot (now (evens .entry)) (now (odds .entry)) size) (now (counts .exit)) (length (now (lengths .entry))) ⌝ }
+    ensures { λ _. ⌜ length (now (counts .exit)) ≡ length (now (counts .entry)) ⌝ }
+{
+    let o = size / 2 * WORDS;
+    let p = o + WORDS;
+    if size % 2 == 0 {
+        lead_all(
+            lengths,
+            firsts,
+            offsets,
+            row,
+            &evens[o..p],
+            first,
+            d,
+            n,
+            counts,
+        );
+        return;
+    }
+    lead_all(
+        lengths,
+        firsts,
+        offsets,
+        row,
+        &odds[o..p],
+        first,
+        d,
+        n,
+        counts,
+    );
 }
 
 // The sum of the counts at which a row has a bit, in the sequences of one word of marks, those that have one.
@@ -167,7 +264,8 @@ fn add_all(lengths: &[u32], firsts: &[u32], offsets: &[u32], row: &[u64], counts
 }
 
 // Counts the ways before the last component, for the prefix of a motif whose path stands in the slots. From component to component: the
-// row of the prefix that ends one says where it stands, and the gap after it is opened.
+// row of the prefix that ends one says where it stands, and the gap after it is opened, as it is in the prefix's slot. Before an only
+// component there is one way everywhere.
 fn count_ways(
     template: Template,
     depth: u8,
@@ -178,7 +276,8 @@ fn count_ways(
     firsts: &[u32],
     offsets: &[u32],
     standing: &[u64],
-    rows: &[u64],
+    evens: &[u64],
+    odds: &[u64],
     spare: &mut [u64],
     ways: &mut [u64],
 )
@@ -187,15 +286,18 @@ fn count_ways(
     requires { ⌜ (depth ≡ templates.size template) × (motif < Letter-BASES ^ depth) ⌝ }
     requires { ⌜ Ready template (now lengths) (now letters) (now inside) (now firsts) (now standing) ⌝ }
     requires { ⌜ Offsets (now lengths) (now offsets) ⌝ }
-    requires { ⌜ Path template (now lengths) (now letters) (now rows) depth motif ⌝ }
-    requires { ⌜ (depth * Row-WORDS ≤ length (now rows)) × (length (now spare) ≡ Row-WORDS) × (length (now letters) ≤ length (now ways)) ⌝ }
+    requires { ⌜ Path template (now lengths) (now letters) (now evens) (now odds) depth motif ⌝ }
+    requires { ⌜ (length (now evens) ≡ Path-SLOTS * Row-WORDS) × (length (now odds) ≡ Path-SLOTS * Row-WORDS) × (length (now spare) ≡ Row-WORDS) × (length (now letters) ≤ length (now ways)) ⌝ }
     ensures { λ _. ⌜ Leads template (now (lengths .entry)) (now (letters .entry)) (prefix-of template motif) (now (ways .exit)) ⌝ }
     ensures { λ _. ⌜ (length (now (spare .exit)) ≡ length (now (spare .entry))) × (length (now (ways .exit)) ≡ length (now (ways .entry))) ⌝ }
 {
     let components = template.components();
     let count = template.count as usize;
-    let n = letters.len();
-    words::fill(&mut ways[..n], 1);
+    if count == 1 {
+        let n = letters.len();
+        words::fill(&mut ways[..n], 1);
+        return;
+    }
     let mut size: u8 = 0;
     let mut c = 1;
     while c < count {
@@ -217,15 +319,20 @@ fn count_ways(
             lengths,
             firsts,
             standing,
-            rows,
+            evens,
+            odds,
             0,
             spare,
         );
-        lead_all(
+        lead_slot(
+            size as usize,
             lengths,
             firsts,
             offsets,
             spare,
+            evens,
+            odds,
+            c == 1,
             behind + low,
             high + 1 - low,
             ways,
@@ -248,7 +355,8 @@ pub fn weight(
     firsts: &[u32],
     offsets: &[u32],
     standing: &[u64],
-    rows: &[u64],
+    evens: &[u64],
+    odds: &[u64],
     row: &[u64],
     spare: &mut [u64],
     ways: &mut [u64],
@@ -258,10 +366,10 @@ pub fn weight(
     requires { ⌜ (depth ≡ templates.size template) × (motif < Letter-BASES ^ depth) × (prefix ≡ prefix-of template motif) ⌝ }
     requires { ⌜ Ready template (now lengths) (now letters) (now inside) (now firsts) (now standing) ⌝ }
     requires { ⌜ Offsets (now lengths) (now offsets) ⌝ }
-    requires { ⌜ Path template (now lengths) (now letters) (now rows) depth motif ⌝ }
+    requires { ⌜ Path template (now lengths) (now letters) (now evens) (now odds) depth motif ⌝ }
     requires { ⌜ Row (prefix-starts template depth motif) (now lengths) (now letters) (now row) ⌝ }
     requires { ⌜ Counted template (now lengths) (now letters) counted (now ways) ⌝ }
-    requires { ⌜ (depth * Row-WORDS ≤ length (now rows)) × (length (now row) ≡ Row-WORDS) × (length (now spare) ≡ Row-WORDS) × (length (now letters) ≤ length (now ways)) ⌝ }
+    requires { ⌜ (length (now evens) ≡ Path-SLOTS * Row-WORDS) × (length (now odds) ≡ Path-SLOTS * Row-WORDS) × (length (now row) ≡ Row-WORDS) × (length (now spare) ≡ Row-WORDS) × (length (now letters) ≤ length (now ways)) ⌝ }
     ensures { λ r. ⌜ r ≡ weight (parts template depth motif) (sequences (now (letters .entry)) (now (lengths .entry))) ⌝ }
     ensures { λ _. ⌜ Leads template (now (lengths .entry)) (now (letters .entry)) prefix (now (ways .exit)) ⌝ }
     ensures { λ _. ⌜ (length (now (spare .exit)) ≡ length (now (spare .entry))) × (length (now (ways .exit)) ≡ length (now (ways .entry))) ⌝ }
@@ -278,7 +386,8 @@ pub fn weight(
             firsts,
             offsets,
             standing,
-            rows,
+            evens,
+            odds,
             spare,
             ways,
         );

@@ -1,5 +1,6 @@
 // An inner crate: whether a search stands where the uninterrupted search passes through (13), and with it all that a leg or a
 // save checks of the search that it is given. The rows of its path are made for that, and a leg goes on with them.
+use matching::WORDS;
 use matching::path;
 use matching::tables;
 use rules::Checked;
@@ -35,17 +36,18 @@ fn passes(
     firsts: &mut [u32],
     offsets: &mut [u32],
     standing: &mut [u64],
-    rows: &mut [u64],
+    evens: &mut [u64],
+    odds: &mut [u64],
     work: &mut [u64],
     spare: &mut [u64],
 ) -> bool
     requires { ⌜ SoundSet (now letters) (now lengths) ⌝ }
     requires { ⌜ SoundTemplate (s .template) ⌝ }
     requires { ⌜ place-rule? (s .template) (s .place) ≡ true ⌝ }
-    requires { ⌜ Tables (now inside) (now firsts) (now offsets) (now standing) (now rows) (now work) (now spare) ⌝ }
+    requires { ⌜ Tables (now inside) (now firsts) (now offsets) (now standing) (now evens) (now odds) (now work) (now spare) ⌝ }
     ensures { λ r. ⌜ r ≡ passes? (now (letters .entry)) (now (lengths .entry)) s ⌝ }
-    ensures { λ _. ⌜ Tables (now (inside .exit)) (now (firsts .exit)) (now (offsets .exit)) (now (standing .exit)) (now (rows .exit)) (now (work .exit)) (now (spare .exit)) ⌝ }
-    ensures { λ _. ⌜ (1 ≤ s .place .letters → Made (s .template) (now (lengths .entry)) (now (letters .entry)) (now (inside .exit)) (now (firsts .exit)) (now (offsets .exit)) (now (standing .exit)) (now (rows .exit)) (s .place .letters) (s .place .number)) ⌝ }
+    ensures { λ _. ⌜ Tables (now (inside .exit)) (now (firsts .exit)) (now (offsets .exit)) (now (standing .exit)) (now (evens .exit)) (now (odds .exit)) (now (work .exit)) (now (spare .exit)) ⌝ }
+    ensures { λ _. ⌜ (1 ≤ s .place .letters → Made (s .template) (now (lengths .entry)) (now (letters .entry)) (now (inside .exit)) (now (firsts .exit)) (now (offsets .exit)) (now (standing .exit)) (now (evens .exit)) (now (odds .exit)) (s .place .letters) (s .place .number)) ⌝ }
 {
     let place = s.place;
     let size = place.letters;
@@ -63,7 +65,7 @@ fn passes(
         firsts,
         offsets,
         standing,
-        rows,
+        &mut evens[..WORDS],
         work,
     );
     let found = path::replay(
@@ -75,8 +77,8 @@ fn passes(
         lengths,
         firsts,
         standing,
-        rows,
-        work,
+        evens,
+        odds,
         spare,
     );
     frequent(size, quorum, found)
@@ -91,17 +93,18 @@ fn check_passes(
     firsts: &mut [u32],
     offsets: &mut [u32],
     standing: &mut [u64],
-    rows: &mut [u64],
+    evens: &mut [u64],
+    odds: &mut [u64],
     work: &mut [u64],
     spare: &mut [u64],
 ) -> Checked
     requires { ⌜ SoundSet (now letters) (now lengths) ⌝ }
     requires { ⌜ SoundTemplate (s .template) ⌝ }
     requires { ⌜ place-rule? (s .template) (s .place) ≡ true ⌝ }
-    requires { ⌜ Tables (now inside) (now firsts) (now offsets) (now standing) (now rows) (now work) (now spare) ⌝ }
+    requires { ⌜ Tables (now inside) (now firsts) (now offsets) (now standing) (now evens) (now odds) (now work) (now spare) ⌝ }
     ensures { λ r. ⌜ toldChecked r ≡ check13 (now (letters .entry)) (now (lengths .entry)) s ⌝ }
-    ensures { λ _. ⌜ Tables (now (inside .exit)) (now (firsts .exit)) (now (offsets .exit)) (now (standing .exit)) (now (rows .exit)) (now (work .exit)) (now (spare .exit)) ⌝ }
-    ensures { λ _. ⌜ (1 ≤ s .place .letters → Made (s .template) (now (lengths .entry)) (now (letters .entry)) (now (inside .exit)) (now (firsts .exit)) (now (offsets .exit)) (now (standing .exit)) (now (rows .exit)) (s .place .letters) (s .place .number)) ⌝ }
+    ensures { λ _. ⌜ Tables (now (inside .exit)) (now (firsts .exit)) (now (offsets .exit)) (now (standing .exit)) (now (evens .exit)) (now (odds .exit)) (now (work .exit)) (now (spare .exit)) ⌝ }
+    ensures { λ _. ⌜ (1 ≤ s .place .letters → Made (s .template) (now (lengths .entry)) (now (letters .entry)) (now (inside .exit)) (now (firsts .exit)) (now (offsets .exit)) (now (standing .exit)) (now (evens .exit)) (now (odds .exit)) (s .place .letters) (s .place .number)) ⌝ }
 {
     let through = passes(
         letters,
@@ -111,7 +114,8 @@ fn check_passes(
         firsts,
         offsets,
         standing,
-        rows,
+        evens,
+        odds,
         work,
         spare,
     );
@@ -119,7 +123,7 @@ fn check_passes(
 }
 
 // Whether the place of a search, one with letters, is a candidate, for a caller that goes on with no leg. The tables are made for it
-// alone, with one slot instead of a path, and one row for each letter, which is shifted as it is used.
+// alone, with two slots instead of a path, and one row for each letter, which is shifted as it is used.
 fn candidate_alone(letters: &[u8], lengths: &[u32], s: Search) -> bool
     requires { ⌜ SoundSet (now letters) (now lengths) ⌝ }
     requires { ⌜ SoundTemplate (s .template) ⌝ }
@@ -133,11 +137,11 @@ fn candidate_alone(letters: &[u8], lengths: &[u32], s: Search) -> bool
     let template = s.template;
     let quorum = s.quorum;
     let mut inside = [0u8; matching::LETTERS];
-    let mut firsts = [0u32; matching::ENDS];
-    let mut offsets = [0u32; matching::ENDS];
+    let mut firsts = [0u32; matching::FIRSTS];
+    let mut offsets = [0u32; matching::OFFSETS];
     let mut standing = [0u64; matching::ROWS];
-    let mut slot = [0u64; matching::WORDS];
-    let mut work = [0u64; matching::WORDS];
+    let mut even = [0u64; matching::WORDS];
+    let mut odd = [0u64; matching::WORDS];
     let mut spare = [0u64; matching::WORDS];
     tables::make(
         template,
@@ -147,8 +151,8 @@ fn candidate_alone(letters: &[u8], lengths: &[u32], s: Search) -> bool
         &mut firsts,
         &mut offsets,
         &mut standing,
-        &mut slot,
-        &mut work,
+        &mut even,
+        &mut spare,
     );
     let found = path::shorter(
         template,
@@ -159,8 +163,8 @@ fn candidate_alone(letters: &[u8], lengths: &[u32], s: Search) -> bool
         lengths,
         &firsts,
         &standing,
-        &mut slot,
-        &mut work,
+        &mut even,
+        &mut odd,
         &mut spare,
     );
     frequent(size, quorum, found)
@@ -224,14 +228,15 @@ pub fn check_search(
     firsts: &mut [u32],
     offsets: &mut [u32],
     standing: &mut [u64],
-    rows: &mut [u64],
+    evens: &mut [u64],
+    odds: &mut [u64],
     work: &mut [u64],
     spare: &mut [u64],
 ) -> Checked
-    requires { ⌜ Tables (now inside) (now firsts) (now offsets) (now standing) (now rows) (now work) (now spare) ⌝ }
+    requires { ⌜ Tables (now inside) (now firsts) (now offsets) (now standing) (now evens) (now odds) (now work) (now spare) ⌝ }
     ensures { λ r. ⌜ toldChecked r ≡ first (search-checks (now (letters .entry)) (now (lengths .entry)) s) ⌝ }
-    ensures { λ _. ⌜ Tables (now (inside .exit)) (now (firsts .exit)) (now (offsets .exit)) (now (standing .exit)) (now (rows .exit)) (now (work .exit)) (now (spare .exit)) ⌝ }
-    ensures { λ r. ⌜ (toldChecked r ≡ fine → 1 ≤ s .place .letters → Made (s .template) (now (lengths .entry)) (now (letters .entry)) (now (inside .exit)) (now (firsts .exit)) (now (offsets .exit)) (now (standing .exit)) (now (rows .exit)) (s .place .letters) (s .place .number)) ⌝ }
+    ensures { λ _. ⌜ Tables (now (inside .exit)) (now (firsts .exit)) (now (offsets .exit)) (now (standing .exit)) (now (evens .exit)) (now (odds .exit)) (now (work .exit)) (now (spare .exit)) ⌝ }
+    ensures { λ r. ⌜ (toldChecked r ≡ fine → 1 ≤ s .place .letters → Made (s .template) (now (lengths .entry)) (now (letters .entry)) (now (inside .exit)) (now (firsts .exit)) (now (offsets .exit)) (now (standing .exit)) (now (evens .exit)) (now (odds .exit)) (s .place .letters) (s .place .number)) ⌝ }
 {
     let verdict = check_before_13(letters, lengths, s);
     match verdict {
@@ -244,7 +249,8 @@ pub fn check_search(
             firsts,
             offsets,
             standing,
-            rows,
+            evens,
+            odds,
             work,
             spare,
         ),

@@ -121,7 +121,7 @@ unfoldable pub row-left : List ℕ → List ℕ → ℕ → ℕ
 row-left row counts q = sum (map (masked-at (held row) counts) (run (64 * q) (length counts - 64 * q)))
 
 -- two functions that agree, each on a run of its own
-pub run-like : (f g : ℕ → ℕ) (a b n : ℕ) → ((i : ℕ) → i < n → f (a + i) ≡ g (b + i)) → map f (run a n) ≡ map g (run b n)
+run-like : (f g : ℕ → ℕ) (a b n : ℕ) → ((i : ℕ) → i < n → f (a + i) ≡ g (b + i)) → map f (run a n) ≡ map g (run b n)
 unfolding run
 run-like f g a b zero h = refl
 run-like f g a b (suc n) h =
@@ -176,7 +176,7 @@ module _ (row counts : List ℕ) where
           rw (z, same i (omega arith), getD-take (to - 64 * q) (drop (64 * q) counts) i 0 h, getD-drop (64 * q) counts i 0)
 
       -- mask its counts as the row does
-      pub part-masked : masked (held ws) (part counts q to) ≡ map (masked-at (held row) counts) (run (64 * q) (to - 64 * q))
+      part-masked : masked (held ws) (part counts q to) ≡ map (masked-at (held row) counts) (run (64 * q) (to - 64 * q))
       unfolding masked
       part-masked =
           rw part-length
@@ -222,10 +222,6 @@ module _ (row counts : List ℕ) where
     word-same i h =
         let c : q * 64 + i ≡ 64 * q + i = omega arith in
         bit-at (getD row q 0) counts i (omega arith) ∙ sym (rw c at (getD-held row q i (omega arith)))
-
-    pub word-masked : masked (held (getD row q 0 ∷ [])) (part counts q to)
-        ≡ map (masked-at (held row) counts) (run (64 * q) (to - 64 * q))
-    word-masked = part-masked q (q + 1) word-ends low (omega arith) (getD row q 0 ∷ []) word-same
 
     pub word-next : row-left row counts q ≡ sum (masked (held (getD row q 0 ∷ [])) (part counts q to)) + row-left row counts (q + 1)
     word-next = part-next q (q + 1) word-ends low (omega arith) (getD row q 0 ∷ []) word-same

@@ -1,8 +1,8 @@
 -- The bits of a list of words: a bit is a digit of its word, and two lists of bits are the same if their digits are.
-use mathlib.Core.Bool.{true, false}
+use mathlib.Core.Bool.{Bool, true, false}
 use mathlib.Core.List.{List, [], _∷_, map}
 use mathlib.Core.Path.{_≡_, refl, sym, ap, _∙_}
-use Prim.Native.Nat.{ℕ, zero, suc, _+_, _-_, _*_, _/_, _%_, _^_, _<_}
+use Prim.Native.Nat.{ℕ, zero, suc, _+_, _-_, _*_, _/_, _%_, _^_, _≤_, _<_}
 use native.Mathlib.Decide.{decLt}
 use native.Mathlib.Nat.{zero-mod, zero-div, div-one, zero-add}
 use native.Mathlib.Omega.{arith}
@@ -11,7 +11,7 @@ use lib.Seq.{getD-append-add, ext-getD}
 use lib.Dec.{leb}
 use Rattle.rules.specs.Lists.{if, run}
 use Rattle.rules.proofs.Over.{getD-map-run, length-map-run}
-use Rattle.rows.specs.Flags.{ago}
+use Rattle.rows.specs.Flags.{bit, ago}
 use Rattle.rows.specs.Bits.{digits, held}
 use Rattle.rows.proofs.Held.{length-held}
 use Rattle.rows.proofs.Gaps.{ago-in, ago-out}
@@ -51,6 +51,9 @@ getD-held (w ∷ ws) (suc q) b h =
 pub held-at : (ws : List ℕ) (p : ℕ) → getD (held ws) p 0 ≡ digit (getD ws (p / 64) 0) (p % 64)
 held-at ws p = let e : p ≡ p / 64 * 64 + p % 64 = omega arith in ap (λ (x : ℕ). getD (held ws) x 0) e ∙ getD-held ws (p / 64) (p % 64) (omega arith)
 
+pub word-bit : (w b : ℕ) → b < 64 → getD (held (w ∷ [])) b 0 ≡ digit w b
+word-bit w b h = let e : b ≡ 0 * 64 + b = omega arith in ap (λ (x : ℕ). getD (held (w ∷ [])) x 0) e ∙ getD-held (w ∷ []) 0 b h
+
 -- words that a loop made one by one: their bits, if each word has the digits that g says
 pub held-run : (f g : ℕ → ℕ) (n : ℕ) → ((q b : ℕ) → q < n → b < 64 → digit (f q) b ≡ g (q * 64 + b)) → held (map f (run 0 n)) ≡ map g (run 0 (64 * n))
 held-run f g n h =
@@ -63,6 +66,15 @@ held-run f g n h =
     held-at (map f (run 0 n)) p
     ∙ rw (getD-map-run f 0 0 n (p / 64) (omega arith), z, h (p / 64) (p % 64) (omega arith) (omega arith))
     (sym (getD-map-run g 0 0 (64 * n) p k ∙ ap g (sym e ∙ zero-add (p / 64 * 64 + p % 64)))))
+
+-- a bit is 0 or 1
+pub bit-small : (ws : List ℕ) (p : ℕ) → getD (held ws) p 0 ≤ 1
+unfolding digit
+bit-small ws p = rw (held-at ws p) (omega arith)
+
+pub bit-most : (b : Bool) → bit b ≤ 1
+bit-most true = omega arith
+bit-most false = omega arith
 
 -- two rows joined
 pub either-row : (ws vs : List ℕ) → held (map (either-word ws vs) (run 0 (length ws))) ≡ either (held ws) (held vs)
@@ -115,7 +127,7 @@ module _ (e i : ℕ) (small : i < 64) (ws : List ℕ) (fits : (q : ℕ) → getD
   unfolding ago
   ago-fits q d = elim (leb d q) as (λ t. if t (getD ws (q - d) 0) 0 < 2 ^ 64) [ true ↦ fits (q - d) | false ↦ omega arith ]
 
-  behind-bit : (q b : ℕ) → b < 64 → digit (behind-word e i ws q) b ≡ ago (held ws) (q * 64 + b) (e * 64 + i)
+  pub behind-bit : (q b : ℕ) → b < 64 → digit (behind-word e i ws q) b ≡ ago (held ws) (q * 64 + b) (e * 64 + i)
   unfolding behind-word
   behind-bit q b h =
       elim (decLt b i) [

@@ -16,9 +16,8 @@ use Rattle.rows.specs.Bits.{held}
 use Rattle.rows.specs.Flags.{bit, kept, reached, left?}
 use Rattle.rows.specs.Rows.{window, lettered, padded}
 use Rattle.rows.specs.Set.{words-of, first-word, between, bits-at, marked?, tally, extended-at, extended-marked?, window-at, lettered-at, Filled, Marked, Bounded, sequence, Row, Source}
-use Rattle.rows.proofs.Bits.{held-at}
+use Rattle.rows.proofs.Bits.{bit-small}
 use Rattle.rows.proofs.Dark.{kept-dark, reached-dark}
-use Rattle.rows.proofs.Digits.{digit}
 use Rattle.rows.proofs.Held.{length-held}
 use Rattle.rows.proofs.Link.{padded-in, length-padded, left-padded, extended-flags, window-flags}
 use Rattle.rows.proofs.Sets.{first-most}
@@ -27,10 +26,6 @@ use Rattle.rows.proofs.Tally.{tally-sum}
 room : (n : ℕ) → n ≤ 64 * words-of n
 unfolding words-of
 room n = omega arith
-
-bit-small : (ws : List ℕ) (p : ℕ) → getD (held ws) p 0 ≤ 1
-unfolding digit
-bit-small ws p = rw (held-at ws p) (omega arith)
 
 module _ (ns l : List ℕ) (adds : sum ns ≡ length l) (few : length ns ≤ 1024) where
   pub long : (k : ℕ) → length (sequence ns l k) ≡ getD ns k 0

@@ -27,7 +27,7 @@ unfolding left? run
 none-left f a zero h = refl
 none-left f a (suc n) h = rw (eq-eqb (f a) 0 (h a)) (none-left f (suc a) n h)
 
-same-zero : (b : Bool) → _≡_ {A = ℕ} (if b 0 0) 0
+pub same-zero : (b : Bool) → _≡_ {A = ℕ} (if b 0 0) 0
 same-zero true = refl
 same-zero false = refl
 

@@ -1,10 +1,10 @@
 -- A binary digit of a number, and of what the bit operations and the shifts make.
 use mathlib.Core.Path.{_≡_, sym, ap, _∙_}
-use Prim.Native.Nat.{ℕ, suc, _+_, _-_, _*_, _/_, _%_, _^_, _≤_, _<_, min, max}
+use Prim.Native.Nat.{ℕ, zero, suc, _+_, _-_, _*_, _/_, _%_, _^_, _≤_, _<_, min, max}
 use native.Mathlib.Nat.{max-zero, zero-max, div-one, div-eq-of-lt, mul-assoc}
 use native.Mathlib.Decide.{decLt}
 use native.Mathlib.Omega.{arith}
-use lib.Bits.{bitAnd, bitOr, and-step, or-step, and-shr, or-shr, or-zero-r, shifted-even}
+use lib.Bits.{bitAnd, bitOr, bitXor, differ, and-step, or-step, xor-step, and-shr, or-shr, xor-shr, or-zero-r, shifted-even}
 use lib.Pow.{pow-mono, pow-add, shl-shr, shr-shr, field, mod-mod-pow}
 use Rattle.rows.specs.Words.{down, up}
 
@@ -19,6 +19,20 @@ digit-and a b k = rw (and-shr a b k) (omega (arith, and-step (a / 2 ^ k) (b / 2 
 pub digit-or : (a b k : ℕ) → digit (bitOr a b) k ≡ max (digit a k) (digit b k)
 unfolding digit
 digit-or a b k = rw (or-shr a b k) (omega (arith, or-step (a / 2 ^ k) (b / 2 ^ k)))
+
+pub digit-xor : (a b k : ℕ) → digit (bitXor a b) k ≡ differ (digit a k) (digit b k)
+unfolding digit
+digit-xor a b k = rw (xor-shr a b k) (halved (a / 2 ^ k) (b / 2 ^ k))
+  where
+    small : (x y : ℕ) → x < 2 → y < 2 → differ x y < 2
+    small zero y h l = l
+    small (suc zero) zero h l = omega arith
+    small (suc zero) (suc zero) h l = omega arith
+    small (suc zero) (suc (suc y)) h l = absurd (omega arith)
+    small (suc (suc x)) y h l = absurd (omega arith)
+
+    halved : (x y : ℕ) → bitXor x y % 2 ≡ differ (x % 2) (y % 2)
+    halved x y = omega (arith, xor-step x y, small (x % 2) (y % 2) (omega arith) (omega arith))
 
 pub digit-shr : (a i k : ℕ) → digit (a / 2 ^ i) k ≡ digit a (i + k)
 unfolding digit

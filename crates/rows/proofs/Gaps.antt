@@ -14,7 +14,7 @@ use Rattle.rules.specs.Lists.{run, if, sum}
 use Rattle.rows.specs.Flags.{ago, recent}
 
 module _ (ks : List ℕ) where
-  ago-next : (o d : ℕ) → ago ks (suc o) (suc d) ≡ ago ks o d
+  pub ago-next : (o d : ℕ) → ago ks (suc o) (suc d) ≡ ago ks o d
   unfolding ago
   ago-next o d = rw (leb·suc-suc, suc-sub-suc)
 

@@ -2,19 +2,21 @@
 -- mark or has lost it; the tallies of both marks differ by those that are lost. Further on no more marks can be left than there were.
 use mathlib.Core.Bool.{Bool, true, false, not}
 use mathlib.Core.List.{List, [], _∷_}
-use mathlib.Core.Path.{_≡_, refl, ap, _∙_}
-use Prim.Native.Nat.{ℕ, _+_, _-_, _*_, _%_, _^_, _≤_, _<_}
+use mathlib.Core.Path.{_≡_, refl, sym, ap, _∙_}
+use Prim.Native.Nat.{ℕ, _+_, _-_, _*_, _/_, _%_, _^_, _≤_, _<_}
 use native.Mathlib.Omega.{arith}
 use lib.Bits.{bitAnd, bitOr}
 use lib.Count.{trailingZeros}
 use lib.Dec.{eqb}
-use lib.ListN.{take, getD}
+use lib.ListN.{length, take, getD, set}
 use Rattle.rows.specs.Bits.{held}
 use Rattle.rows.specs.Flags.{bit}
 use Rattle.rows.specs.Set.{Row-MARKS, first-word, bits-at, marked?, Bounded, Firsts, tally, extended-at, extended-marked?}
 use Rattle.rows.proofs.Lowest.{Rest, rest-all, no-rest, lowest, lowest-late, lowest-in, lowest-off}
+use Rattle.rows.proofs.Sets.{kept-from, extended-is-at, bits-are-at, turn-lies}
+use Rattle.rows.proofs.Single.{short-first, down-alone, one-kept}
 use Rattle.rows.proofs.Tally.{tally-append, tally-less, tally-turn, tally-end, tally-most}
-use Rattle.rows.proofs.Walk.{Walked, Left, Next, walked-none, walked-end, walked-turn, left-none, left-end, left-turn, mark-none}
+use Rattle.rows.proofs.Walk.{Walked, Left, Next, walked-none, walked-end, walked-turn, left-none, left-end, left-turn, mark-none, mark-left}
 
 -- how far the walk over a word of marks has come
 pub record Going (i : ℕ) (ns ls ws : List ℕ) (w : ℕ) (x y : List ℕ) (rest left lost : ℕ) : Type 0 where
@@ -103,3 +105,37 @@ module _ (i : ℕ) (ns ls ws : List ℕ) (w : ℕ) (fits : getD ws w 0 < 2 ^ 64)
               lefts = rw q at (left-turn _ _ _ _ (g .lefts) _ new-skips (going-next .later) (omega arith) (going-next .in-word) e f (trailingZeros 64 rest) (omega arith));
               tallied = omega (arith, a, b, c, d, o, one-of-two found, g .tallied);
             }
+
+-- IN A SHORT SET, where the lost are not counted
+pub record Kept (i : ℕ) (ns ls ws : List ℕ) (w : ℕ) (x y : List ℕ) (rest left : ℕ) : Type 0 where
+  pub lost : ℕ
+  pub going : Going i ns ls ws w x y rest left lost
+
+module _ (i : ℕ) (ns ls ws : List ℕ) (w : ℕ) (fits : getD ws w 0 < 2 ^ 64) (x y : List ℕ) (rest left : ℕ) (g : Kept i ns ls ws w x y rest left) (some : 0 < rest)
+    (firsts : List ℕ) (laid : Firsts ns firsts) (short : getD firsts (length firsts - 1) 0 ≡ 1) (bounded : Bounded ns ws) (in-marks : w < Row-MARKS)
+    (room : first-word ns (length ns) ≤ length ws) where
+  next-mark : Next ns firsts ws w (w * 64 + g .going .upto) (w * 64 + trailingZeros 64 rest)
+  next-mark = going-next i ns ls ws w fits x y rest left (g .lost) (g .going) some firsts bounded laid in-marks
+
+  -- the word of the sequence with the lowest mark that is left
+  module _ {at : ℕ} (is : at ≡ Row-MARKS + w * 64 + trailingZeros 64 rest) where
+    begins : at ≡ first-word ns (w * 64 + trailingZeros 64 rest)
+    begins = omega (arith, is, short-first ns (laid .short short) (w * 64 + trailingZeros 64 rest) (omega (arith, next-mark .inside)))
+
+    ends : at + 1 ≡ first-word ns (w * 64 + trailingZeros 64 rest + 1)
+    ends = omega (arith, is, short-first ns (laid .short short) (w * 64 + trailingZeros 64 rest + 1) (omega (arith, next-mark .inside)))
+
+    pub word-in : at < length ws
+    word-in = omega (arith, turn-lies ns _ (next-mark .inside) begins ends .1, room)
+
+    pub kept-turn : i < 64 → length ls ≡ length ws → length y ≡ length ws → getD ls at 0 < 2 ^ 64 → getD ws at 0 < 2 ^ 64
+        → {v : ℕ} → v ≡ bit (not (eqb (bitAnd (getD ws at 0) (getD ls at 0 / 2 ^ i)) 0))
+        → Kept i ns ls ws w x (set y at (bitAnd (getD ws at 0) (getD ls at 0 / 2 ^ i))) (bitAnd rest (rest - 1)) (bitOr left ((v * 2 ^ trailingZeros 64 rest) % 2 ^ 64))
+    kept-turn s l o fl fw e =
+        let found = not (eqb (bitAnd (getD ws at 0) (getD ls at 0 / 2 ^ i)) 0) in
+        let k = one-kept at (at + 1) i ls ws y (omega arith) s (omega (arith, word-in)) (omega (arith, word-in)) (omega (arith, word-in)) fl fw (down-alone i (getD ls at 0)) refl in
+        let z = extended-is-at ns _ (next-mark .inside) begins ends i ls ws in record {
+          lost = g .lost + bit (not found);
+          going = going-turn i ns ls ws w fits x y rest left (g .lost) (g .going) some firsts bounded laid in-marks _ (kept-from _ _ begins (k .0 .0))
+              (sym (bits-are-at ns _ (next-mark .inside) begins ends _) ∙ k .1 .0 ∙ z) e (mark-left i ns ls ws _ (next-mark .marked) (k .1 .1) z) refl;
+        }

@@ -1,13 +1,11 @@
--- The row of a letter, word by word: a word takes its letters from the last to the first, each in the lowest digit and those before it one
--- digit up; and a word of the row is that of the 64 letters from its first on.
-use mathlib.Core.Bool.{Bool, true, false}
+-- The row of a letter, word by word: a word of the row is that of the 64 letters from its first on.
+use mathlib.Core.Bool.{Bool}
 use mathlib.Core.List.{List, [], _∷_, map}
 use mathlib.Core.Path.{_≡_, sym, ap, _∙_}
-use Prim.Native.Nat.{ℕ, zero, suc, _+_, _-_, _*_, _%_, _^_, _≤_, _<_, min}
+use Prim.Native.Nat.{ℕ, _+_, _-_, _*_, _<_, min}
 use native.Mathlib.Decide.{decLt}
-use native.Mathlib.Nat.{zero-add, zero-max, max-zero}
+use native.Mathlib.Nat.{zero-add}
 use native.Mathlib.Omega.{arith}
-use lib.Bits.{bitOr}
 use lib.ListN.{length, take, drop, getD, set, length-take, length-drop}
 use lib.Seq.{getD-set-same, getD-set-other, getD-take, getD-drop}
 use Rattle.rules.specs.Lists.{run}
@@ -16,63 +14,20 @@ use Rattle.rows.specs.Bits.{held}
 use Rattle.rows.specs.Flags.{bit}
 use Rattle.rows.specs.Rows.{letter-at, lettered}
 use Rattle.rows.specs.Words.{word-at}
-use Rattle.rows.proofs.Bits.{digit-none, getD-held, held-run}
-use Rattle.rows.proofs.Digits.{digit, digit-or, digit-mod, digit-past, digit-shl-in, digit-shl-out}
+use Rattle.rows.proofs.Bits.{word-bit, held-run}
+use Rattle.rows.proofs.Digits.{digit}
 use Rattle.rows.proofs.Joined.{map-word}
 use Rattle.rows.proofs.Letters.{letter-in, letter-out}
 
-bit-fits : (t : Bool) → bit t < 2
-bit-fits true = omega arith
-bit-fits false = omega arith
-
--- what a turn makes of a word: its lowest digit, and the others
-module _ (w v : ℕ) (h : v < 2) where
-  turned : ℕ
-  turned = bitOr ((w * 2) % 2 ^ 64) v
-
-  turned-first : digit turned 0 ≡ v
-  unfolding turned digit
-  turned-first =
-      digit-or ((w * 2) % 2 ^ 64) v 0
-      ∙ rw (digit-mod 64 (w * 2) 0 (omega arith), digit-shl-out w 1 0 (omega arith), zero-max)
-      (omega arith)
-
-  turned-next : (b : ℕ) → suc b < 64 → digit turned (suc b) ≡ digit w b
-  unfolding turned
-  turned-next b l =
-      digit-or ((w * 2) % 2 ^ 64) v (suc b)
-      ∙ rw (digit-mod 64 (w * 2) (suc b) l, digit-past 1 v (suc b) h (omega arith), max-zero)
-      (digit-shl-in w 1 (suc b) (omega arith) ∙ ap (digit w) (omega arith))
-
 module _ (f : ℕ → ℕ → Bool) (x : ℕ) (s : List ℕ) where
-  -- the digits of a word are the letters from p on
-  abbrev pub From : ℕ → ℕ → Type 0
-  From p w = (b : ℕ) → b < 64 → digit w b ≡ letter-at f x s (p + b)
-
-  -- before the first turn: past the sequence there are none
-  pub from-end : (p : ℕ) → length s ≤ p → From p 0
-  from-end p h b l = digit-none b ∙ sym (letter-out f x s (p + b) (omega arith))
-
-  -- a turn takes the letter before
-  pub from-more : (p q w : ℕ) {v : ℕ} → p < length s → q ≡ p + 1 → v ≡ bit (f x (getD s p 0)) → From q w → From p (bitOr ((w * 2) % 2 ^ 64) v)
-  unfolding turned
-  from-more p q w {v} h e z before zero l =
-      turned-first w v (rw z (bit-fits (f x (getD s p 0)))) ∙ z ∙ letter-in f x s p h ∙ ap (letter-at f x s) (omega arith)
-  from-more p q w {v} h e z before (suc b) l =
-      turned-next w v (rw z (bit-fits (f x (getD s p 0)))) b l ∙ before b (omega arith) ∙ ap (letter-at f x s) (omega arith)
-
-  -- after the last
-  pub from-all : (p w : ℕ) → p ≡ 0 → From p w → held (w ∷ []) ≡ lettered f x s 64
+  -- one word
+  pub lettered-word : (w : ℕ) → ((b : ℕ) → b < 64 → digit w b ≡ letter-at f x s b) → held (w ∷ []) ≡ lettered f x s 64
   unfolding run lettered
-  from-all p w z all = held-run (λ _. w) (letter-at f x s) 1 (λ q b k l. all b l ∙ ap (letter-at f x s) (omega arith))
+  lettered-word w all = held-run (λ _. w) (letter-at f x s) 1 (λ q b k l. all b l ∙ ap (letter-at f x s) (omega arith))
 
   -- the first q words of a row are made
   abbrev pub Made : ℕ → List ℕ → Type 0
   Made q ws = (k b : ℕ) → k < q → b < 64 → digit (getD ws k 0) b ≡ letter-at f x s (k * 64 + b)
-
-  -- before the first turn
-  pub made-none : (ws : List ℕ) → Made 0 ws
-  made-none ws k b h l = absurd (omega arith)
 
   -- the letters of word q
   module _ (q to : ℕ) (e : to ≡ min (64 * q + 64) (length s)) where
@@ -93,9 +48,7 @@ module _ (f : ℕ → ℕ → Bool) (x : ℕ) (s : List ℕ) where
     word-digit : (r : ℕ) → held (r ∷ []) ≡ lettered f x part 64 → (b : ℕ) → b < 64 → digit r b ≡ letter-at f x s (q * 64 + b)
     unfolding lettered
     word-digit r z b l =
-        let o : 0 * 64 + b ≡ b = omega arith in
-        sym (getD-held (r ∷ []) 0 b l)
-        ∙ ap (λ (y : ℕ). getD (held (r ∷ [])) y 0) o
+        sym (word-bit r b l)
         ∙ ap (λ (y : List ℕ). getD y b 0) z
         ∙ getD-map-run (letter-at f x part) 0 0 64 b l
         ∙ ap (letter-at f x part) (zero-add b)

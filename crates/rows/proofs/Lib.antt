@@ -22,10 +22,13 @@ pub mod Masked
 pub mod Most
 pub mod Zeros
 pub mod Masks
+pub mod Gathered
+pub mod Planes
 pub mod Back
 pub mod Adding
-pub mod Masking
-pub mod Reaching
+pub mod Sliding
+pub mod Leading
+pub mod Ones
 pub mod Walk
 pub mod Tally
 pub mod Lowest
@@ -35,5 +38,6 @@ pub mod Single
 pub mod Shifted
 pub mod Opened
 pub mod Marks
+pub mod Rewritten
 pub mod Offsets
 pub mod Start

@@ -21,12 +21,8 @@ use Rattle.rows.proofs.Sets.{first-past, first-most, between-kept}
 pub own-bit : (v b : ℕ) → b < 64 → getD (held (v ∷ [])) b 0 ≡ digit v b
 own-bit v b s = let z : b ≡ 0 * 64 + b = omega arith in ap (λ (p : ℕ). getD (held (v ∷ [])) p 0) z ∙ getD-held (v ∷ []) 0 b s
 
--- the marks of a word of a row
-pub own-marks : (row : List ℕ) (w b : ℕ) → b < 64 → eqb (getD (held (getD row w 0 ∷ [])) b 0) 1 ≡ marked? row (w * 64 + b)
-unfolding marked?
-own-marks row w b s = ap (λ (d : ℕ). eqb d 1) (own-bit (getD row w 0) b s ∙ sym (getD-held row w b s))
-
-same-word : (n : ℕ) (x y : List ℕ) → take n y ≡ take n x → (q : ℕ) → q < n → getD y q 0 ≡ getD x q 0
+-- a word before those that may differ
+pub same-word : (n : ℕ) (x y : List ℕ) → take n y ≡ take n x → (q : ℕ) → q < n → getD y q 0 ≡ getD x q 0
 same-word n x y e q h = sym (getD-take n y q 0 h) ∙ ap (λ (l : List ℕ). getD l q 0) e ∙ getD-take n x q 0 h
 
 -- the words of a sequence lie past the marks

@@ -1,12 +1,15 @@
 -- Where each sequence's words and letters begin: the next begins where it ends, and a table of them is written entry by entry.
-use mathlib.Core.Bool.{Bool}
+use mathlib.Core.Bool.{Bool, true, false, _&&_, false≢true}
 use mathlib.Core.List.{List, [], _∷_}
-use mathlib.Core.Path.{_≡_, refl, _∙_}
+use mathlib.Core.Path.{_≡_, refl, sym, _∙_}
 use Prim.Native.Nat.{ℕ, zero, suc, _+_, _-_, _*_, _≤_, _<_}
 use native.Mathlib.Decide.{decLt}
 use native.Mathlib.Omega.{arith}
-use lib.ListN.{length, take, drop, getD, set}
+use lib.Dec.{eqb}
+use lib.ListN.{length, take, drop, getD, set, length-set}
 use lib.Seq.{drop-drop, getD-set-same, getD-set-other}
+use mir.Val.{boolByte}
+use borrow.Author.Tests.{eqb-true}
 use Rattle.rules.specs.Lists.{sum}
 use Rattle.rules.specs.Sequences.{split}
 use Rattle.rows.specs.Rows.{lettered}
@@ -72,8 +75,38 @@ tabled-more f k t {v} q e h = record {
       ];
 }
 
-pub tabled-firsts : (ns t : List ℕ) (k : ℕ) → k ≡ length ns → length ns < length t → Tabled (first-word ns) k t → Firsts ns t
-tabled-firsts ns t k e h q = record { long = h; same = λ j l. q .same j (omega arith) }
+-- A SHORT SET, as far as sequence k: each has one word
+pub record Short (ns : List ℕ) (k : ℕ) (short : Bool) : Type 0 where
+  pub one : short ≡ true → (j : ℕ) → j < k → words-of (getD ns j 0) ≡ 1
+
+pub short-none : (ns : List ℕ) → Short ns 0 true
+short-none ns = record { one = λ _ j l. absurd (omega arith) }
+
+pub short-more : (ns : List ℕ) (k : ℕ) (short : Bool) → Short ns k short → {v : ℕ} → v ≡ words-of (getD ns k 0) → Short ns (k + 1) (short && eqb v 1)
+short-more ns k false q e = record { one = λ z j l. absurd (false≢true z) }
+short-more ns k true q {v} e = record {
+  one = λ z j l.
+      elim (decLt j k) [
+        | yes m ↦ q .one refl j m
+        | no m ↦ (let y : k ≡ j = omega arith in rw (← y) (sym e ∙ eqb-true v 1 z))
+      ];
+}
+
+one-true : (b : Bool) → boolByte b ≡ 1 → b ≡ true
+one-true true e = refl
+one-true false e = absurd (omega arith)
+
+-- the table with its last number
+pub tabled-firsts : (ns t : List ℕ) (k : ℕ) → k ≡ length ns → length ns + 1 < length t → Tabled (first-word ns) k t → (short : Bool) → Short ns k short
+    → Firsts ns (set t (length t - 1) (boolByte short))
+tabled-firsts ns t k e h q short s = record {
+  long = rw (length-set t (length t - 1) (boolByte short)) h;
+  same = λ j l. getD-set-other t (length t - 1) j (boolByte short) 0 (λ z. omega arith) ∙ q .same j (omega arith);
+  short = λ z j l.
+      let y : getD (set t (length t - 1) (boolByte short)) (length (set t (length t - 1) (boolByte short)) - 1) 0 ≡ boolByte short =
+      rw (length-set t (length t - 1) (boolByte short)) (getD-set-same t (length t - 1) (boolByte short) 0 (omega arith)) in
+      s .one (one-true short (sym y ∙ z)) j (omega arith);
+}
 
 pub tabled-offsets : (ns t : List ℕ) (k : ℕ) → k ≡ length ns → length ns < length t → Tabled (offset-of ns) k t → Offsets ns t
 tabled-offsets ns t k e h q = record { long = h; same = λ j l. q .same j (omega arith) }

@@ -5,8 +5,8 @@ use Prim.Native.Nat.{ℕ, _+_, _-_, _*_, _%_, _^_, _≤_, _<_}
 use native.Mathlib.Decide.{decLt}
 use native.Mathlib.Omega.{arith}
 use lib.Bits.{bitOr}
-use lib.ListN.{length, take, getD, set, length-set}
-use lib.Seq.{take-set-le, getD-set-same, lt-length-set}
+use lib.ListN.{length, take, drop, getD, set, length-set}
+use lib.Seq.{take-set-le, drop-set-lt, getD-set-same, lt-length-set}
 use Rattle.rules.specs.Lists.{run}
 use Rattle.rows.specs.Bits.{held}
 use Rattle.rows.specs.Flags.{ago}
@@ -44,13 +44,13 @@ shifted-word w d = word-behind (w * 2 ^ d % 2 ^ 64) w d (λ b h.
 pub shifted-out : (w d : ℕ) → 64 ≤ d → held (0 ∷ []) ≡ behind d (held (w ∷ []))
 shifted-out w d h = word-behind 0 w d (λ b l. digit-none b ∙ sym (ago-out (held (w ∷ [])) b d (omega arith)))
 
--- a sequence of one word, as the code writes it
-module _ (a e d n : ℕ) (ws out : List ℕ) (k : e - a ≡ 1) (hw : e ≤ length ws) (ho : e ≤ length out) where
-  pub one-opened : (v : ℕ) → held (v ∷ []) ≡ window d n (held (getD ws a 0 ∷ []))
-      → (take a (set out a v) ≡ take a out) × (length (set out a v) ≡ length out) × (held (between a e (set out a v)) ≡ window d n (held (between a e ws)))
+-- WHERE IT STANDS: a sequence of one word, as the code writes it
+module _ (a e d n : ℕ) (l : List ℕ) (k : e - a ≡ 1) (h : e ≤ length l) where
+  pub one-opened : (v : ℕ) → held (v ∷ []) ≡ window d n (held (getD l a 0 ∷ []))
+      → (take a (set l a v) ≡ take a l) × (drop e (set l a v) ≡ drop e l) × (length (set l a v) ≡ length l) × (held (between a e (set l a v)) ≡ window d n (held (between a e l)))
   one-opened v f =
-      let lo : a < length out = omega arith in
-      let p : between a e (set out a v) ≡ v ∷ [] =
-      one-word a e (set out a v) k (lt-length-set out a v lo) ∙ ap (λ (x : ℕ). x ∷ []) (getD-set-same out a v 0 lo) in
-      let q : held (v ∷ []) ≡ window d n (held (between a e ws)) = rw (one-word a e ws k (omega arith)) f in
-      (take-set-le a out a v (omega arith), length-set out a v, ap held p ∙ q)
+      let i : a < length l = omega arith in
+      let p : between a e (set l a v) ≡ v ∷ [] =
+      one-word a e (set l a v) k (lt-length-set l a v i) ∙ ap (λ (x : ℕ). x ∷ []) (getD-set-same l a v 0 i) in
+      let q : held (v ∷ []) ≡ window d n (held (between a e l)) = rw (one-word a e l k i) f in
+      (take-set-le a l a v (omega arith), drop-set-lt e l a v (omega arith), length-set l a v, ap held p ∙ q)

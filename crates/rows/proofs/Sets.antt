@@ -5,8 +5,8 @@ use mathlib.Core.Path.{_≡_, refl, sym, ap, _∙_}
 use Prim.Native.Nat.{ℕ, zero, suc, _+_, _-_, _≤_, _<_}
 use native.Mathlib.Decide.{decLt}
 use native.Mathlib.Omega.{arith}
-use lib.ListN.{length, take, drop, getD}
-use lib.Seq.{take-take, take-nil, drop-at, take-at, length-take-le}
+use lib.ListN.{length, take, drop, getD, set}
+use lib.Seq.{take-take, take-nil, drop-at, take-at, length-take-le, drop-set-add, drop-set-lt, take-set-lt, take-set-le}
 use borrow.Rule.Slice.PartMut.{midOf, putMid, take-put, same-len-mid, mid-len}
 use Rattle.rows.specs.Flags.{left?}
 use Rattle.rows.specs.Bits.{held}
@@ -60,6 +60,18 @@ pub between-kept : (a b e : ℕ) (x y : List ℕ) → b ≤ e → e ≤ a → ta
 unfolding between
 between-kept a b e x y h k q =
     sym (within y a b (e - b) (omega arith)) ∙ ap (λ (l : List ℕ). take (e - b) (drop b l)) q ∙ within x a b (e - b) (omega arith)
+
+-- ONE WORD written, in a part and outside it
+pub between-set : (a e q v : ℕ) (l : List ℕ) → a + q < e → between a e (set l (a + q) v) ≡ set (between a e l) q v
+unfolding between
+between-set a e q v l h = ap (take (e - a)) (drop-set-add a l q v) ∙ take-set-lt (e - a) (drop a l) q v (omega arith)
+
+pub between-set-past : (a e i v : ℕ) (l : List ℕ) → a ≤ e → e ≤ i → between a e (set l i v) ≡ between a e l
+between-set-past a e i v l h k = between-kept i a e l (set l i v) h k (take-set-le i l i v (omega arith))
+
+pub between-set-before : (a e i v : ℕ) (l : List ℕ) → i < a → between a e (set l i v) ≡ between a e l
+unfolding between
+between-set-before a e i v l h = ap (take (e - a)) (drop-set-lt a l i v h)
 
 -- what the words of sequence k are, by where they begin and end
 module _ (ns : List ℕ) (k : ℕ) (h : k < length ns) {from to : ℕ} (begins : from ≡ first-word ns k) (ends : to ≡ first-word ns (k + 1)) where
@@ -126,7 +138,7 @@ module _ (a e : ℕ) (l : List ℕ) (h : a ≤ e) (g : e ≤ length l) where
       → (take a (putMid a (e - a) l ys) ≡ take a l) × (length (putMid a (e - a) l ys) ≡ length l) × (held (between a e (putMid a (e - a) l ys)) ≡ ks)
   part-opened ys n f = (take-put a (e - a) l ys (omega arith), same-len-mid a (e - a) l ys n, ap held (between-put ys (n ∙ mid-len a e l g)) ∙ f)
 
--- a part of a table copied from another
-pub part-copied : (a e : ℕ) (l : List ℕ) → a ≤ e → e ≤ length l → (ys : List ℕ) {zs : List ℕ} → length ys ≡ length (midOf a (e - a) l) → ys ≡ zs
-    → (take a (putMid a (e - a) l ys) ≡ take a l) × (length (putMid a (e - a) l ys) ≡ length l) × (between a e (putMid a (e - a) l ys) ≡ zs)
-part-copied a e l h g ys n f = (take-put a (e - a) l ys (omega arith), same-len-mid a (e - a) l ys n, between-put a e l h g ys (n ∙ mid-len a e l g) ∙ f)
+-- a part of a table, written
+pub part-written : (a e : ℕ) (l : List ℕ) → a ≤ e → e ≤ length l → (ys : List ℕ) → length ys ≡ length (midOf a (e - a) l)
+    → (take a (putMid a (e - a) l ys) ≡ take a l) × (length (putMid a (e - a) l ys) ≡ length l) × (between a e (putMid a (e - a) l ys) ≡ ys)
+part-written a e l h g ys n = (take-put a (e - a) l ys (omega arith), same-len-mid a (e - a) l ys n, between-put a e l h g ys (n ∙ mid-len a e l g))

@@ -12,8 +12,10 @@ use borrow.Author.Tests.{lt-ltb}
 use Rattle.rules.proofs.Over.{map-agree}
 use Rattle.rules.specs.Lists.{if, sign, run, sum}
 use Rattle.rules.specs.Occurrence.{stands-by}
-use Rattle.rules.specs.Template.{Part, span}
+use Rattle.rules.specs.Template.{Part, Reading, span, deal}
+use Rattle.rules.specs.declared.Component.{Component}
 use Rattle.rows.specs.Flags.{kept-at, kept, matched, ago, recent, near, reached, around, added, following, last-by, last-starts, last-ways}
+use Rattle.rows.specs.Prefix.{before-letter}
 
 -- ---- one number
 
@@ -105,3 +107,10 @@ starts-sign (c ∷ cs) s =
     ap (λ (l : List ℕ). following reached cs s (matched (c .fits) (c .word) 0 s l)) (sign-ones (length s))
     ∙ ap (following reached cs s) (sign-matched (c .fits) (c .word) 0 s (replicate (length s) 1))
     ∙ sign-following cs s _
+
+-- and before a letter
+pub before-sign : (R : Reading) (cs : List Component) (k i : ℕ) (w s : List ℕ) → before-letter reached R cs k i w s ≡ map sign (before-letter added R cs k i w s)
+unfolding before-letter
+before-sign R cs k (suc i) w s = starts-sign (deal R 0 cs w) s
+before-sign R cs zero zero w s = sign-ones (length s)
+before-sign R cs (suc k) zero w s = ap (reached _ _) (starts-sign (deal R 0 cs w) s) ∙ sign-gap _ _ (last-ways (deal R 0 cs w) s)

@@ -2,9 +2,10 @@
 use mathlib.Core.Bool.{Bool, true, false, not}
 use mathlib.Core.List.{List, [], _∷_}
 use mathlib.Core.Path.{_≡_, refl, sym, ap, _∙_}
-use Prim.Native.Nat.{ℕ, zero, suc, _-_, _^_, _≤_, _<_}
+use Prim.Native.Nat.{ℕ, zero, suc, _+_, _-_, _/_, _^_, _≤_, _<_}
+use native.Mathlib.Nat.{zero-mul, zero-mod}
 use native.Mathlib.Omega.{arith}
-use lib.Bits.{bitAnd, and-le-l}
+use lib.Bits.{bitAnd, and-le-l, or-zero-r}
 use lib.Dec.{eqb}
 use lib.ListN.{length, take, getD, set, length-set}
 use lib.Seq.{drop-cons, take-set-le, getD-set-same, lt-length-set}
@@ -12,10 +13,23 @@ use Rattle.rules.specs.Lists.{if, run}
 use Rattle.rows.specs.Bits.{held}
 use Rattle.rows.specs.Flags.{left?}
 use Rattle.rows.specs.Rows.{extended}
-use Rattle.rows.specs.Set.{between}
+use Rattle.rows.specs.Set.{Row-MARKS, words-of, first-word, between}
 use Rattle.rows.specs.Words.{down, extended-word}
 use Rattle.rows.proofs.Bits.{extended-row}
 use Rattle.rows.proofs.Joined.{left-held}
+use Rattle.rows.proofs.Sets.{first-none, first-next}
+
+-- in a short set each sequence's word comes next after the one before it
+pub short-first : (ns : List ℕ) → ((k : ℕ) → k < length ns → words-of (getD ns k 0) ≡ 1) → (k : ℕ) → k ≤ length ns → first-word ns k ≡ Row-MARKS + k
+short-first ns s zero h = omega (arith, first-none ns)
+short-first ns s (suc k) h =
+    let z : suc k ≡ k + 1 = omega arith in
+    rw z (omega (arith, short-first ns s k (omega arith), first-next ns k (omega arith), s k (omega arith)))
+
+-- nothing comes in
+pub down-alone : (i low : ℕ) → low / 2 ^ i ≡ down i low 0
+unfolding down
+down-alone i low = rw (zero-mul, zero-mod, or-zero-r)
 
 pub one-word : (a e : ℕ) (l : List ℕ) → e - a ≡ 1 → a < length l → between a e l ≡ getD l a 0 ∷ []
 unfolding between

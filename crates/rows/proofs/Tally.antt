@@ -2,10 +2,11 @@
 use mathlib.Core.Bool.{Bool, true, false, false≢true}
 use mathlib.Core.List.{List, map}
 use mathlib.Core.Path.{_≡_, refl, sym, ap, _∙_}
-use Prim.Native.Nat.{ℕ, zero, suc, _+_, _-_, _*_, _/_, _%_, _≤_, _<_}
-use native.Mathlib.Nat.{zero-add, suc-add}
+use Prim.Native.Nat.{ℕ, zero, suc, _+_, _-_, _*_, _/_, _%_, _^_, _≤_, _<_}
+use native.Mathlib.Nat.{zero-add, suc-add, pow-suc}
 use native.Mathlib.Decide.{decLt}
 use native.Mathlib.Omega.{arith}
+use lib.Count.{ones, ones-le, ones-step}
 use lib.Dec.{eqb}
 use lib.ListN.{length, take, getD}
 use borrow.Author.Tests.{eq-eqb, eqb-true}
@@ -15,14 +16,10 @@ use Rattle.rules.specs.Lists.{run, sum}
 use Rattle.rows.specs.Bits.{held}
 use Rattle.rows.specs.Flags.{bit}
 use Rattle.rows.specs.Set.{marked?, tally}
-use Rattle.rows.proofs.Bits.{held-at}
+use Rattle.rows.proofs.Bits.{held-at, bit-small, bit-most}
 use Rattle.rows.proofs.Digits.{digit}
 use Rattle.rows.proofs.Held.{length-held}
-use Rattle.rows.proofs.Turns.{bit-small}
-
-bit-most : (b : Bool) → bit b ≤ 1
-bit-most true = omega arith
-bit-most false = omega arith
+use Rattle.rows.proofs.Zeros.{digit-zero, digit-suc}
 
 pub bit-few : (b : Bool) {v : ℕ} → v ≡ bit b → v ≤ 1
 bit-few b e = omega (arith, e, bit-most b)
@@ -99,6 +96,18 @@ module _ (g h : ℕ → Bool) where
 bit-of : (x : ℕ) (b : Bool) → x ≤ 1 → eqb x 1 ≡ b → x ≡ bit b
 bit-of x true h e = eqb-true x 1 e
 bit-of x false h e = elim (decLt 0 x) [ yes l ↦ absurd (false≢true (sym e ∙ eq-eqb x 1 (omega arith))) | no l ↦ omega arith ]
+
+-- the ones of a word: of how many sequences its digits say that h holds
+pub word-tally : (h : ℕ → Bool) (n a v : ℕ) → v < 2 ^ n → ((b : ℕ) → b < n → eqb (digit v b) 1 ≡ h (a + b)) → ones v ≡ tally h a n
+unfolding tally
+word-tally h zero a v s q = omega (arith, ones-le 0 v s)
+word-tally h (suc n) a v s q =
+    let p : 2 ^ suc n ≡ 2 ^ n * 2 = pow-suc 2 n in
+    let z : a + 0 ≡ a = omega arith in
+    let e : v % 2 ≡ bit (h a) = bit-of (v % 2) (h a) (omega arith) (ap (λ (d : ℕ). eqb d 1) (sym (digit-zero v)) ∙ q 0 (omega arith) ∙ ap h z) in
+    let r = word-tally h n (suc a) (v / 2) (omega arith) (λ b l.
+    let y : a + suc b ≡ suc a + b = omega arith in ap (λ (d : ℕ). eqb d 1) (sym (digit-suc v b)) ∙ q (suc b) (omega arith) ∙ ap h y) in
+    omega (arith, ones-step v, e, r)
 
 -- a mark as a number
 unfoldable mark-bit : List ℕ → ℕ → ℕ

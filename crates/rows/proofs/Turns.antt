@@ -17,18 +17,14 @@ use Rattle.rows.specs.Bits.{held}
 use Rattle.rows.proofs.Gaps.{ago-in, ago-out}
 use Rattle.rows.specs.Rows.{behind, extended}
 use Rattle.rows.specs.Words.{down, up, extended-word, behind-word, either-word}
-use Rattle.rows.proofs.Digits.{digit, down-none}
-use Rattle.rows.proofs.Bits.{held-at, extended-row, behind-row}
+use Rattle.rows.proofs.Digits.{down-none}
+use Rattle.rows.proofs.Bits.{extended-row, behind-row}
+pub use Rattle.rows.proofs.Bits.{bit-small}
 use Rattle.rows.proofs.Joined.{left-held, joined-more, joined-all}
 
 pub nothing : (l : List ℕ) → length l ≡ 0 → l ≡ []
 nothing [] e = refl
 nothing (x ∷ l) e = absurd (omega arith)
-
--- a bit is 0 or 1
-pub bit-small : (ws : List ℕ) (p : ℕ) → getD (held ws) p 0 ≤ 1
-unfolding digit
-bit-small ws p = rw (held-at ws p) (omega arith)
 
 -- ONE LETTER MORE
 module _ (i : ℕ) (ls ws : List ℕ) where

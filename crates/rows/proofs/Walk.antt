@@ -16,7 +16,7 @@ use Rattle.rows.specs.Bits.{held}
 use Rattle.rows.specs.Flags.{bit, left?}
 use Rattle.rows.specs.Set.{Row-MARKS, first-word, bits-at, marked?, Bounded, Firsts, words-of, extended-marked?, extended-at}
 use Rattle.rows.proofs.Digits.{digit, digit-or, digit-mod, digit-past, digit-shl-in, digit-shl-out, digit-shr}
-use Rattle.rows.proofs.Bits.{getD-held, digit-none}
+use Rattle.rows.proofs.Bits.{getD-held, digit-none, bit-most}
 use Rattle.rows.proofs.Zeros.{zeros-below, zeros-at}
 use Rattle.rows.proofs.Sets.{first-least, first-most, between-kept, take-less}
 
@@ -91,10 +91,6 @@ module _ (h : ℕ → Bool) (a k l : ℕ) (before : Left h a k l) (at : ℕ) (sk
   bit-lowest true = refl
   bit-lowest false = refl
 
-  bit-small : (found : Bool) → bit found < 2
-  bit-small true = omega arith
-  bit-small false = omega arith
-
   module _ (up : k ≤ at) (low : a ≤ at) (high : at < a + 64) {found : Bool} {v : ℕ} (e : v ≡ bit found) (f : h at ≡ found) where
     placed : ℕ
     placed = (v * 2 ^ (at - a)) % 2 ^ 64
@@ -121,7 +117,7 @@ module _ (h : ℕ → Bool) (a k l : ℕ) (before : Left h a k l) (at : ℕ) (sk
           ];
       above = λ b s u.
           digit-or l placed b ∙ rw (before .above b s (omega arith), zero-max, placed-from b s (omega arith))
-          (digit-past 1 v (b - (at - a)) (omega (arith, bit-small found)) (omega arith));
+          (digit-past 1 v (b - (at - a)) (omega (arith, bit-most found)) (omega arith));
     }
 
     pub left-turn : (b : ℕ) → b ≡ at - a → Left h a (at + 1) (bitOr l ((v * 2 ^ b) % 2 ^ 64))

@@ -3,16 +3,15 @@ use mathlib.Core.List.{List, map}
 use mathlib.Core.Path.{_≡_, refl, sym, ap, _∙_}
 use Prim.Native.Nat.{ℕ, zero, suc, _+_, _-_, _≤_, _<_, max}
 use native.Mathlib.Decide.{decLt}
-use native.Mathlib.Nat.{zero-add, add-zero, suc-sub-suc}
+use native.Mathlib.Nat.{zero-add, add-zero}
 use native.Mathlib.Omega.{arith}
-use lib.Dec.{leb·suc-suc}
 use lib.ListN.{length, getD}
 use lib.Seq.{ext-getD}
 use borrow.Author.Tests.{lt-ltb, le-ltb}
 use Rattle.rules.specs.Lists.{sign, run, sum}
 use Rattle.rules.proofs.Over.{getD-map-run, length-map-run, map-agree}
 use Rattle.rows.specs.Flags.{ago, recent, near}
-use Rattle.rows.proofs.Gaps.{ago-in, ago-out}
+use Rattle.rows.proofs.Gaps.{ago-next, ago-in, ago-out}
 use Rattle.rows.specs.Rows.{either-at, either, behind-at, behind, window}
 
 sign-zero : (x : ℕ) → x ≡ 0 → sign x ≡ 0
@@ -41,11 +40,7 @@ sign-joined x y z h k l =
     ]
 
 module _ (ks : List ℕ) where
-  ago-next : (o d : ℕ) → ago ks (suc o) (suc d) ≡ ago ks o d
-  unfolding ago
-  ago-next o d = rw (leb·suc-suc, suc-sub-suc)
-
-  recent-out : (o d n : ℕ) → o < d → recent ks o d n ≡ 0
+  pub recent-out : (o d n : ℕ) → o < d → recent ks o d n ≡ 0
   unfolding recent run sum
   recent-out o d zero h = refl
   recent-out o d (suc n) h = rw (ago-out ks o d h, zero-add) (recent-out o (suc d) n (omega arith))
@@ -53,7 +48,7 @@ module _ (ks : List ℕ) where
   recent-next : (o d n : ℕ) → recent ks (suc o) (suc d) n ≡ recent ks o d n
   unfolding recent run sum
   recent-next o d zero = refl
-  recent-next o d (suc n) = rw (ago-next o d) (ap (λ (x : ℕ). ago ks o d + x) (recent-next o (suc d) n))
+  recent-next o d (suc n) = rw (ago-next ks o d) (ap (λ (x : ℕ). ago ks o d + x) (recent-next o (suc d) n))
 
   -- a window so far back is one that ends here, seen from there
   recent-back : (d o n : ℕ) → recent ks (d + o) d n ≡ recent ks o 0 n

@@ -8,11 +8,11 @@ use lib.Bits.{bitAnd, and-le-r}
 use lib.Count.{trailingZeros, under}
 use Rattle.rows.proofs.Digits.{digit, digit-shr, digit-and}
 
-digit-zero : (w : ℕ) → digit w 0 ≡ w % 2
+pub digit-zero : (w : ℕ) → digit w 0 ≡ w % 2
 unfolding digit
 digit-zero w = rw div-one
 
-digit-suc : (w b : ℕ) → digit w (suc b) ≡ digit (w / 2) b
+pub digit-suc : (w b : ℕ) → digit w (suc b) ≡ digit (w / 2) b
 digit-suc w b = let e : 1 + b ≡ suc b = omega arith in sym (digit-shr w 1 b ∙ ap (digit w) e)
 
 below : (k w b : ℕ) → b < trailingZeros k w → digit w b ≡ 0

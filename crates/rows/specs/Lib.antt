@@ -5,3 +5,4 @@ pub mod Bits
 pub mod Words
 pub mod Rows
 pub mod Set
+pub mod Bases

@@ -35,10 +35,12 @@ first-word ns zero = Row-MARKS
 first-word [] (suc k) = Row-MARKS
 first-word (n ∷ ns) (suc k) = words-of n + first-word ns k
 
--- a table of where each sequence's words begin; at the end, where those of all end
+-- a table of where each sequence's words begin, and then where those of all end; its last number may be 1 only in a short set: one in
+-- which each sequence has one word
 pub record Firsts (ns firsts : List ℕ) : Type 0 where
-  pub long : length ns < length firsts
+  pub long : length ns + 1 < length firsts
   pub same : (k : ℕ) → k ≤ length ns → getD firsts k 0 ≡ first-word ns k
+  pub short : getD firsts (length firsts - 1) 0 ≡ 1 → (k : ℕ) → k < length ns → words-of (getD ns k 0) ≡ 1
 
 -- and one of where its letters do in the buffer
 pub record Offsets (ns offsets : List ℕ) : Type 0 where

@@ -7,7 +7,7 @@ ghost use mathlib.Core.Bool.{true};
 ghost use mathlib.Core.Path.{_≡_};
 ghost use Prim.Native.Nat.{ℕ, _+_, _*_, _≤_, _<_, min};
 ghost use mathlib.Core.List.{[], _∷_};
-ghost use lib.ListN.{length, take};
+ghost use lib.ListN.{length, take, drop};
 ghost use Rattle.rules.specs.Limits.{SequenceSet-SEQUENCES};
 ghost use Rattle.rows.specs.Bits.{held};
 ghost use Rattle.rows.specs.Rows.{behind, window};
@@ -35,48 +35,28 @@ fn open_word(word: u64, d: usize, count: usize) -> u64
     shift(all, d)
 }
 
-// Opens a gap in the words from `from` up to `to`.
-fn open_between(
-    from: usize,
-    to: usize,
-    row: &[u64],
-    d: usize,
-    count: usize,
-    spare: &mut [u64],
-    out: &mut [u64],
-)
-    requires { ⌜ (from ≤ to) × (to ≤ length (now row)) × (to ≤ length (now spare)) × (to ≤ length (now out)) × (1 ≤ count) ⌝ }
-    ensures { λ _. ⌜ (take from (now (out .exit)) ≡ take from (now (out .entry))) × (length (now (out .exit)) ≡ length (now (out .entry))) × (length (now (spare .exit)) ≡ length (now (spare .entry))) ⌝ }
-    ensures { λ _. ⌜ held (between from to (now (out .exit))) ≡ window d count (held (between from to (now (row .entry)))) ⌝ }
+// Opens a gap in the words from `from` up to `to`. `spare` is lent for the work.
+fn open_between(from: usize, to: usize, d: usize, count: usize, spare: &mut [u64], row: &mut [u64])
+    requires { ⌜ (from ≤ to) × (to ≤ length (now spare)) × (to ≤ length (now row)) × (1 ≤ count) ⌝ }
+    ensures { λ _. ⌜ (take from (now (row .exit)) ≡ take from (now (row .entry))) × (drop to (now (row .exit)) ≡ drop to (now (row .entry))) ⌝ }
+    ensures { λ _. ⌜ (length (now (row .exit)) ≡ length (now (row .entry))) × (length (now (spare .exit)) ≡ length (now (spare .entry))) ⌝ }
+    ensures { λ _. ⌜ held (between from to (now (row .exit))) ≡ window d count (held (between from to (now (row .entry)))) ⌝ }
 {
-    words::open_gap(
-        &row[from..to],
-        d,
-        count,
-        &mut spare[from..to],
-        &mut out[from..to],
-    );
+    words::open_gap(d, count, &mut spare[from..to], &mut row[from..to]);
 }
 
 // The same in the words of a sequence, one of which is opened apart: most sets have short sequences.
-fn open_sequence(
-    from: usize,
-    to: usize,
-    row: &[u64],
-    d: usize,
-    count: usize,
-    spare: &mut [u64],
-    out: &mut [u64],
-)
-    requires { ⌜ (from ≤ to) × (to ≤ length (now row)) × (to ≤ length (now spare)) × (to ≤ length (now out)) × (1 ≤ count) ⌝ }
-    ensures { λ _. ⌜ (take from (now (out .exit)) ≡ take from (now (out .entry))) × (length (now (out .exit)) ≡ length (now (out .entry))) × (length (now (spare .exit)) ≡ length (now (spare .entry))) ⌝ }
-    ensures { λ _. ⌜ held (between from to (now (out .exit))) ≡ window d count (held (between from to (now (row .entry)))) ⌝ }
+fn open_sequence(from: usize, to: usize, d: usize, count: usize, spare: &mut [u64], row: &mut [u64])
+    requires { ⌜ (from ≤ to) × (to ≤ length (now spare)) × (to ≤ length (now row)) × (1 ≤ count) ⌝ }
+    ensures { λ _. ⌜ (take from (now (row .exit)) ≡ take from (now (row .entry))) × (drop to (now (row .exit)) ≡ drop to (now (row .entry))) ⌝ }
+    ensures { λ _. ⌜ (length (now (row .exit)) ≡ length (now (row .entry))) × (length (now (spare .exit)) ≡ length (now (spare .entry))) ⌝ }
+    ensures { λ _. ⌜ held (between from to (now (row .exit))) ≡ window d count (held (between from to (now (row .entry)))) ⌝ }
 {
     if to - from == 1 {
-        out[from] = open_word(row[from], d, count);
+        row[from] = open_word(row[from], d, count);
         return;
     }
-    open_between(from, to, row, d, count, spare, out);
+    open_between(from, to, d, count, spare, row);
 }
 
 // Opens a gap in the sequences of one word of marks, those that have one.
@@ -84,18 +64,19 @@ fn open_sequences(
     w: usize,
     lengths: &[u32],
     firsts: &[u32],
-    row: &[u64],
     d: usize,
     count: usize,
     spare: &mut [u64],
-    out: &mut [u64],
+    row: &mut [u64],
 )
     requires { ⌜ (w < Row-MARKS) × (length (now lengths) ≤ SequenceSet-SEQUENCES) × (1 ≤ count) ⌝ }
     requires { ⌜ Firsts (now lengths) (now firsts) ⌝ }
     requires { ⌜ Bounded (now lengths) (now row) ⌝ }
-    requires { ⌜ (first-word (now lengths) (length (now lengths)) ≤ length (now row)) × (length (now spare) ≡ length (now row)) × (length (now out) ≡ length (now row)) ⌝ }
-    ensures { λ _. ⌜ (take (first-word (now (lengths .entry)) (min (w * 64) (length (now (lengths .entry))))) (now (out .exit)) ≡ take (first-word (now (lengths .entry)) (min (w * 64) (length (now (lengths .entry))))) (now (out .entry))) × (length (now (out .exit)) ≡ length (now (out .entry))) × (length (now (spare .exit)) ≡ length (now (spare .entry))) ⌝ }
-    ensures { λ _. ⌜ ((k : ℕ) → w * 64 ≤ k → k < w * 64 + 64 → marked? (now (row .entry)) k ≡ true → bits-at (now (lengths .entry)) k (now (out .exit)) ≡ window-at d count (now (lengths .entry)) (now (row .entry)) k) ⌝ }
+    requires { ⌜ (first-word (now lengths) (length (now lengths)) ≤ length (now row)) × (length (now spare) ≡ length (now row)) ⌝ }
+    ensures { λ _. ⌜ take (first-word (now (lengths .entry)) (min (w * 64) (length (now (lengths .entry))))) (now (row .exit)) ≡ take (first-word (now (lengths .entry)) (min (w * 64) (length (now (lengths .entry))))) (now (row .entry)) ⌝ }
+    ensures { λ _. ⌜ drop (first-word (now (lengths .entry)) (w * 64 + 64)) (now (row .exit)) ≡ drop (first-word (now (lengths .entry)) (w * 64 + 64)) (now (row .entry)) ⌝ }
+    ensures { λ _. ⌜ (length (now (row .exit)) ≡ length (now (row .entry))) × (length (now (spare .exit)) ≡ length (now (spare .entry))) ⌝ }
+    ensures { λ _. ⌜ ((k : ℕ) → w * 64 ≤ k → k < w * 64 + 64 → marked? (now (row .entry)) k ≡ true → bits-at (now (lengths .entry)) k (now (row .exit)) ≡ window-at d count (now (lengths .entry)) (now (row .entry)) k) ⌝ }
 {
     let mut rest = row[w];
     let mut k = BITS * w;
@@ -104,34 +85,32 @@ fn open_sequences(
         let at = k + zeros as usize;
         let from = firsts[at] as usize;
         let to = firsts[at + 1] as usize;
-        open_sequence(from, to, row, d, count, spare, out);
+        open_sequence(from, to, d, count, spare, row);
         rest = (rest >> zeros) >> 1;
         k = at + 1;
     }
 }
 
-// Opens a gap in every sequence that has a mark; the marks are the same.
+// Opens a gap in every sequence that has a mark, each in its own words; the marks stay.
 pub fn open_all(
     lengths: &[u32],
     firsts: &[u32],
-    row: &[u64],
     d: usize,
     count: usize,
     spare: &mut [u64],
-    out: &mut [u64],
+    row: &mut [u64],
 )
     requires { ⌜ (length (now lengths) ≤ SequenceSet-SEQUENCES) × (1 ≤ count) ⌝ }
     requires { ⌜ Firsts (now lengths) (now firsts) ⌝ }
     requires { ⌜ Bounded (now lengths) (now row) ⌝ }
-    requires { ⌜ (first-word (now lengths) (length (now lengths)) ≤ length (now row)) × (length (now spare) ≡ length (now row)) × (length (now out) ≡ length (now row)) ⌝ }
-    ensures { λ _. ⌜ Marked (marked? (now (row .entry))) (now (out .exit)) SequenceSet-SEQUENCES ⌝ }
-    ensures { λ _. ⌜ Filled (marked? (now (row .entry))) (window-at d count (now (lengths .entry)) (now (row .entry))) (now (lengths .entry)) (now (out .exit)) (length (now (lengths .entry))) ⌝ }
-    ensures { λ _. ⌜ (length (now (out .exit)) ≡ length (now (out .entry))) × (length (now (spare .exit)) ≡ length (now (spare .entry))) ⌝ }
+    requires { ⌜ (first-word (now lengths) (length (now lengths)) ≤ length (now row)) × (length (now spare) ≡ length (now row)) ⌝ }
+    ensures { λ _. ⌜ Marked (marked? (now (row .entry))) (now (row .exit)) SequenceSet-SEQUENCES ⌝ }
+    ensures { λ _. ⌜ Filled (marked? (now (row .entry))) (window-at d count (now (lengths .entry)) (now (row .entry))) (now (lengths .entry)) (now (row .exit)) (length (now (lengths .entry))) ⌝ }
+    ensures { λ _. ⌜ (length (now (row .exit)) ≡ length (now (row .entry))) × (length (now (spare .exit)) ≡ length (now (spare .entry))) ⌝ }
 {
     let mut w = 0;
     while w < MARKS {
-        open_sequences(w, lengths, firsts, row, d, count, spare, out);
-        out[w] = row[w];
+        open_sequences(w, lengths, firsts, d, count, spare, row);
         w += 1;
     }
 }

@@ -2,7 +2,6 @@
 use super::BITS;
 use super::MARKS;
 use super::words;
-use rules::Offset;
 ghost use mathlib.Core.Bool.{true};
 ghost use mathlib.Core.Path.{_≡_};
 ghost use Prim.Native.Nat.{ℕ, _+_, _-_, _*_, _^_, _≤_, _<_, min};
@@ -13,8 +12,8 @@ ghost use Rattle.rules.specs.Limits.{SequenceSet-SEQUENCES, SequenceSet-LETTERS
 ghost use Rattle.rules.specs.Lists as lists;
 ghost use Rattle.rows.specs.Bits.{held};
 ghost use Rattle.rows.specs.Flags.{left?};
-ghost use Rattle.rows.specs.Rows.{extended, lettered};
-ghost use Rattle.rows.specs.Set.{Row-MARKS, words-of, first-word, Firsts, Offsets, between, bits-at, marked?, tally, extended-at, extended-marked?, lettered-at, Filled, Marked, Bounded};
+ghost use Rattle.rows.specs.Rows.{extended};
+ghost use Rattle.rows.specs.Set.{Row-MARKS, words-of, first-word, Firsts, Offsets, between, bits-at, marked?, tally, extended-at, extended-marked?, Filled, Marked, Bounded};
 
 // A word with every bit set.
 const ALL: u64 = 0xFFFF_FFFF_FFFF_FFFF;
@@ -27,27 +26,33 @@ fn words_of(n: u32) -> u32
     (n + 63) / 64
 }
 
-// Writes where each sequence's words begin in a row, and where its letters do in the buffer.
+// Writes where each sequence's words begin in a row, and where its letters do in the buffer. The last number of `firsts` is 1 only where
+// each sequence has one word.
 pub fn lay_out(lengths: &[u32], firsts: &mut [u32], offsets: &mut [u32])
     requires { ⌜ (length (now lengths) ≤ SequenceSet-SEQUENCES) × (lists.sum (now lengths) ≤ SequenceSet-LETTERS) ⌝ }
-    requires { ⌜ (length (now lengths) < length (now firsts)) × (length (now lengths) < length (now offsets)) ⌝ }
+    requires { ⌜ (length (now lengths) + 1 < length (now firsts)) × (length (now lengths) < length (now offsets)) ⌝ }
     ensures { λ _. ⌜ Firsts (now (lengths .entry)) (now (firsts .exit)) ⌝ }
     ensures { λ _. ⌜ Offsets (now (lengths .entry)) (now (offsets .exit)) ⌝ }
     ensures { λ _. ⌜ (length (now (firsts .exit)) ≡ length (now (firsts .entry))) × (length (now (offsets .exit)) ≡ length (now (offsets .entry))) ⌝ }
 {
     let mut first = MARKS as u32;
     let mut offset: u32 = 0;
+    let mut short = true;
     firsts[0] = first;
     offsets[0] = 0;
     let mut k = 0;
     while k < lengths.len() {
         let n = lengths[k];
-        first = first + words_of(n);
+        let words = words_of(n);
+        first = first + words;
         offset = offset + n;
+        short = short & (words == 1);
         k += 1;
         firsts[k] = first;
         offsets[k] = offset;
     }
+    let last = firsts.len() - 1;
+    firsts[last] = short as u32;
 }
 
 // Marks the first `n` sequences of a row that has no marks.
@@ -75,53 +80,6 @@ pub fn begin(n: usize, row: &mut [u64])
     words::fill(row, ALL);
     words::fill(&mut row[..MARKS], 0);
     mark_first(n, row);
-}
-
-// The letter's row in one sequence: its letters from `a` up to `e`, its words from `from` up to `to`.
-fn letters_between(
-    letter: u8,
-    letters: &[u8],
-    a: Offset,
-    e: Offset,
-    from: usize,
-    to: usize,
-    out: &mut [u64],
-)
-    requires { ⌜ (a .0 ≤ e .0) × (e .0 ≤ length (now letters)) × (from ≤ to) × (to ≤ length (now out)) × (e .0 - a .0 ≤ 64 * (to - from)) × (64 * (to - from) ≤ e .0 - a .0 + 63) ⌝ }
-    ensures { λ _. ⌜ (take from (now (out .exit)) ≡ take from (now (out .entry))) × (length (now (out .exit)) ≡ length (now (out .entry))) ⌝ }
-    ensures { λ _. ⌜ held (between from to (now (out .exit))) ≡ lettered eqb letter (between (a .0) (e .0) (now (letters .entry))) (64 * (to - from)) ⌝ }
-{
-    let begin = a.0;
-    let end = e.0;
-    words::set_letters(letter, &letters[begin..end], &mut out[from..to]);
-}
-
-// The row of a letter, given as a byte: the bits at which it stands, in every sequence. It has no marks of its own, and what is in
-// their place stays.
-pub fn letter_row(
-    letter: u8,
-    letters: &[u8],
-    lengths: &[u32],
-    firsts: &[u32],
-    offsets: &[u32],
-    out: &mut [u64],
-)
-    requires { ⌜ lists.sum (now lengths) ≡ length (now letters) ⌝ }
-    requires { ⌜ Firsts (now lengths) (now firsts) ⌝ }
-    requires { ⌜ Offsets (now lengths) (now offsets) ⌝ }
-    requires { ⌜ first-word (now lengths) (length (now lengths)) ≤ length (now out) ⌝ }
-    ensures { λ _. ⌜ Filled (λ _. true) (lettered-at eqb letter (now (lengths .entry)) (now (letters .entry))) (now (lengths .entry)) (now (out .exit)) (length (now (lengths .entry))) ⌝ }
-    ensures { λ _. ⌜ length (now (out .exit)) ≡ length (now (out .entry)) ⌝ }
-{
-    let mut k = 0;
-    while k < lengths.len() {
-        let a = offsets[k] as usize;
-        let e = offsets[k + 1] as usize;
-        let from = firsts[k] as usize;
-        let to = firsts[k + 1] as usize;
-        letters_between(letter, letters, Offset(a), Offset(e), from, to, out);
-        k += 1;
-    }
 }
 
 // One letter more in the words from `from` up to `to`.
@@ -185,10 +143,10 @@ fn keep_sequences(
     requires { ⌜ Bounded (now lengths) (now row) ⌝ }
     requires { ⌜ (first-word (now lengths) (length (now lengths)) ≤ length (now row)) × (length (now letter) ≡ length (now row)) × (length (now out) ≡ length (now row)) ⌝ }
     ensures { λ r. ⌜ tally (extended-marked? i (now (lengths .entry)) (now (letter .entry)) (now (row .entry))) (w * 64) 64 + r .lost ≤ tally (marked? (now (row .entry))) (w * 64) 64 ⌝ }
-    ensures { λ r. ⌜ (r .lost ≤ most → tally (extended-marked? i (now (lengths .entry)) (now (letter .entry)) (now (row .entry))) (w * 64) 64 + r .lost ≡ tally (marked? (now (row .entry))) (w * 64) 64) ⌝ }
     ensures { λ r. ⌜ (r .lost ≤ most → (b : ℕ) → b < 64 → eqb (getD (held (r .left ∷ [])) b 0) 1 ≡ extended-marked? i (now (lengths .entry)) (now (letter .entry)) (now (row .entry)) (w * 64 + b)) ⌝ }
     ensures { λ _. ⌜ (take (first-word (now (lengths .entry)) (min (w * 64) (length (now (lengths .entry))))) (now (out .exit)) ≡ take (first-word (now (lengths .entry)) (min (w * 64) (length (now (lengths .entry))))) (now (out .entry))) × (length (now (out .exit)) ≡ length (now (out .entry))) ⌝ }
     ensures { λ r. ⌜ (r .lost ≤ most → (k : ℕ) → w * 64 ≤ k → k < w * 64 + 64 → marked? (now (row .entry)) k ≡ true → bits-at (now (lengths .entry)) k (now (out .exit)) ≡ extended-at i (now (lengths .entry)) (now (letter .entry)) (now (row .entry)) k) ⌝ }
+    ensures { λ r. ⌜ (r .lost ≤ most → tally (extended-marked? i (now (lengths .entry)) (now (letter .entry)) (now (row .entry))) (w * 64) 64 + r .lost ≡ tally (marked? (now (row .entry))) (w * 64) 64) ⌝ }
 {
     let base = w * BITS;
     let mut rest = row[w];
@@ -210,8 +168,81 @@ fn keep_sequences(
     Kept { left, lost }
 }
 
+// The same in a short set, without a stop: the word of sequence k is word `MARKS` + k, and nothing is looked up. It answers the marks that
+// are left.
+fn keep_ones(
+    w: usize,
+    lengths: &[u32],
+    firsts: &[u32],
+    row: &[u64],
+    letter: &[u64],
+    i: usize,
+    out: &mut [u64],
+) -> u64
+    requires { ⌜ (w < Row-MARKS) × (length (now lengths) ≤ SequenceSet-SEQUENCES) × (i < 64) ⌝ }
+    requires { ⌜ Firsts (now lengths) (now firsts) ⌝ }
+    requires { ⌜ getD (now firsts) (length (now firsts) - 1) 0 ≡ 1 ⌝ }
+    requires { ⌜ Bounded (now lengths) (now row) ⌝ }
+    requires { ⌜ (first-word (now lengths) (length (now lengths)) ≤ length (now row)) × (length (now letter) ≡ length (now row)) × (length (now out) ≡ length (now row)) ⌝ }
+    ensures { λ r. ⌜ ((b : ℕ) → b < 64 → eqb (getD (held (r ∷ [])) b 0) 1 ≡ extended-marked? i (now (lengths .entry)) (now (letter .entry)) (now (row .entry)) (w * 64 + b)) ⌝ }
+    ensures { λ _. ⌜ (take (first-word (now (lengths .entry)) (min (w * 64) (length (now (lengths .entry))))) (now (out .exit)) ≡ take (first-word (now (lengths .entry)) (min (w * 64) (length (now (lengths .entry))))) (now (out .entry))) × (length (now (out .exit)) ≡ length (now (out .entry))) ⌝ }
+    ensures { λ _. ⌜ ((k : ℕ) → w * 64 ≤ k → k < w * 64 + 64 → marked? (now (row .entry)) k ≡ true → bits-at (now (lengths .entry)) k (now (out .exit)) ≡ extended-at i (now (lengths .entry)) (now (letter .entry)) (now (row .entry)) k) ⌝ }
+{
+    let base = MARKS + w * BITS;
+    let mut rest = row[w];
+    let mut marks: u64 = 0;
+    while rest != 0 {
+        let zeros = u64::trailing_zeros(rest);
+        let at = base + zeros as usize;
+        let word = row[at] & (letter[at] >> i);
+        out[at] = word;
+        marks = marks | (words::one(word != 0) << zeros);
+        rest = rest & (rest - 1);
+    }
+    marks
+}
+
+// `keep_all` in a short set. It stops only between two words of marks.
+fn keep_short(
+    lengths: &[u32],
+    firsts: &[u32],
+    row: &[u64],
+    letter: &[u64],
+    i: usize,
+    quorum: u32,
+    out: &mut [u64],
+) -> u32
+    requires { ⌜ (length (now lengths) ≤ SequenceSet-SEQUENCES) × (i < 64) ⌝ }
+    requires { ⌜ Firsts (now lengths) (now firsts) ⌝ }
+    requires { ⌜ getD (now firsts) (length (now firsts) - 1) 0 ≡ 1 ⌝ }
+    requires { ⌜ Bounded (now lengths) (now row) ⌝ }
+    requires { ⌜ (first-word (now lengths) (length (now lengths)) ≤ length (now row)) × (length (now letter) ≡ length (now row)) × (length (now out) ≡ length (now row)) ⌝ }
+    ensures { λ r. ⌜ tally (extended-marked? i (now (lengths .entry)) (now (letter .entry)) (now (row .entry))) 0 SequenceSet-SEQUENCES ≤ r ⌝ }
+    ensures { λ r. ⌜ (quorum ≤ r → r ≡ tally (extended-marked? i (now (lengths .entry)) (now (letter .entry)) (now (row .entry))) 0 SequenceSet-SEQUENCES) ⌝ }
+    ensures { λ r. ⌜ (quorum ≤ r → Marked (extended-marked? i (now (lengths .entry)) (now (letter .entry)) (now (row .entry))) (now (out .exit)) SequenceSet-SEQUENCES) ⌝ }
+    ensures { λ r. ⌜ (quorum ≤ r → Filled (marked? (now (row .entry))) (extended-at i (now (lengths .entry)) (now (letter .entry)) (now (row .entry))) (now (lengths .entry)) (now (out .exit)) (length (now (lengths .entry)))) ⌝ }
+    ensures { λ _. ⌜ length (now (out .exit)) ≡ length (now (out .entry)) ⌝ }
+{
+    let mut able = count(row);
+    let mut w = 0;
+    while w < MARKS {
+        if able < quorum {
+            return able;
+        }
+        let left = keep_ones(w, lengths, firsts, row, letter, i, out);
+        out[w] = left;
+        able -= u64::count_ones(row[w]) - u64::count_ones(left);
+        w += 1;
+    }
+    if able < quorum {
+        return able;
+    }
+    count(out)
+}
+
 // One letter more, the i-th of its component, in every sequence that has a mark: its words, and its new mark. It answers how many have a
-// mark then; or, as soon as fewer than `quorum` can have one, so many as still can, and the rest is not written.
+// mark then, the sum of the counts of ones of the new marks: the support. Or, as soon as fewer than `quorum` can have one, it answers so
+// many as still can, and the rest is not written.
 pub fn keep_all(
     lengths: &[u32],
     firsts: &[u32],
@@ -231,6 +262,10 @@ pub fn keep_all(
     ensures { λ r. ⌜ (quorum ≤ r → Filled (marked? (now (row .entry))) (extended-at i (now (lengths .entry)) (now (letter .entry)) (now (row .entry))) (now (lengths .entry)) (now (out .exit)) (length (now (lengths .entry)))) ⌝ }
     ensures { λ _. ⌜ length (now (out .exit)) ≡ length (now (out .entry)) ⌝ }
 {
+    let last = firsts.len() - 1;
+    if firsts[last] == 1 {
+        return keep_short(lengths, firsts, row, letter, i, quorum, out);
+    }
     let mut possible = count(row);
     let mut w = 0;
     while w < MARKS {
@@ -242,16 +277,10 @@ pub fn keep_all(
         possible -= kept.lost;
         w += 1;
     }
-    possible
-}
-
-// Copies the first `n` words of a row into a table, from `a` on.
-pub fn copy_to(row: &[u64], n: usize, a: usize, to: &mut [u64])
-    requires { ⌜ (n ≤ length (now row)) × (a + n ≤ length (now to)) ⌝ }
-    ensures { λ _. ⌜ (take a (now (to .exit)) ≡ take a (now (to .entry))) × (length (now (to .exit)) ≡ length (now (to .entry))) × (between a (a + n) (now (to .exit)) ≡ take n (now (row .entry))) ⌝ }
-{
-    let e = a + n;
-    words::copy(&row[..n], &mut to[a..e]);
+    if possible < quorum {
+        return possible;
+    }
+    count(out)
 }
 
 // How many sequences are marked.

@@ -1,16 +1,20 @@
 // The words of one sequence.
 use rules::least;
-ghost use mathlib.Core.Bool.{not};
+ghost use mathlib.Core.Bool.{true, not};
 ghost use mathlib.Core.List.{[], _∷_, map};
 ghost use mathlib.Core.Path.{_≡_};
-ghost use Prim.Native.Nat.{_+_, _-_, _*_, _≤_, _<_};
+ghost use Prim.Native.Nat.{ℕ, _+_, _*_, _≤_, _<_};
 ghost use lib.Dec.{eqb};
-ghost use lib.ListN.{length, replicate};
+ghost use lib.ListN.{length, getD, replicate};
+ghost use Rattle.rules.specs.Letters.{letter, letter?};
+ghost use Rattle.rules.specs.Limits.{Letter-BASES};
 ghost use Rattle.rules.specs.Lists.{run, over};
+ghost use Rattle.rules.specs.Saved.{read-low};
 ghost use Rattle.rows.specs.Flags.{bit, left?};
 ghost use Rattle.rows.specs.Bits.{held};
 ghost use Rattle.rows.specs.Rows.{either, ahead, behind, window, extended, lettered};
 ghost use Rattle.rows.specs.Words as words;
+ghost use Rattle.rows.specs.Bases.{word-of};
 
 // The 64 bits from bit `i` of two words on.
 pub fn down(i: usize, low: u64, high: u64) -> u64
@@ -21,7 +25,7 @@ pub fn down(i: usize, low: u64, high: u64) -> u64
 }
 
 // The upper of two words, shifted up by `i` bits, with those that come in from the lower.
-fn up(i: usize, low: u64, high: u64) -> u64
+pub fn up(i: usize, low: u64, high: u64) -> u64
     requires { ⌜ i < 64 ⌝ }
     ensures { λ r. ⌜ r ≡ words.up i low high ⌝ }
 {
@@ -60,32 +64,77 @@ pub fn none(found: bool) -> u32
     if found { 0 } else { 1 }
 }
 
-// The bits of a word at which a letter stands in at most 64 letters.
-fn letter_word(letter: u8, sequence: &[u8]) -> u64
-    requires { ⌜ length (now sequence) ≤ 64 ⌝ }
-    ensures { λ r. ⌜ held (r ∷ []) ≡ lettered eqb letter (now (sequence .entry)) 64 ⌝ }
-{
-    let mut word: u64 = 0;
-    let mut p = sequence.len();
-    while 0 < p {
-        p -= 1;
-        word = (word << 1) | one(letter == sequence[p]);
-    }
-    word
+// The words of the four letters' rows for the same letters of a sequence.
+pub struct Bases {
+    pub a: u64,
+    pub c: u64,
+    pub g: u64,
+    pub t: u64,
 }
 
-// Makes the row of a letter in one sequence: the bits at which it stands.
-pub fn set_letters(letter: u8, sequence: &[u8], out: &mut [u64])
-    requires { ⌜ (64 * length (now out) ≤ length (now sequence) + 63) × (length (now sequence) ≤ 64 * length (now out)) ⌝ }
-    ensures { λ _. ⌜ held (now (out .exit)) ≡ lettered eqb letter (now (sequence .entry)) (64 * length (now (out .entry))) ⌝ }
+// A byte as a word.
+fn wide(byte: u8) -> u64
+    ensures { λ r. ⌜ r ≡ byte ⌝ }
 {
-    let n = sequence.len();
-    let mut q = 0;
-    while q < out.len() {
-        let from = 64 * q;
-        let to = least(from + 64, n);
-        out[q] = letter_word(letter, &sequence[from..to]);
-        q += 1;
+    byte as u64
+}
+
+// Eight bytes as one number, the lowest first, as the processor loads them at once.
+fn eight(bytes: &[u8]) -> u64
+    requires { ⌜ length (now bytes) ≡ 8 ⌝ }
+    ensures { λ r. ⌜ r ≡ read-low 8 (now (bytes .entry)) ⌝ }
+{
+    wide(bytes[0])
+        | (wide(bytes[1]) << 8)
+        | (wide(bytes[2]) << 16)
+        | (wide(bytes[3]) << 24)
+        | (wide(bytes[4]) << 32)
+        | (wide(bytes[5]) << 40)
+        | (wide(bytes[6]) << 48)
+        | (wide(bytes[7]) << 56)
+}
+
+// The lowest bits of a word's eight bytes, side by side: those of two bytes are moved together, then those of four, then all.
+fn gather(word: u64) -> u64
+    ensures { λ r. ⌜ (r < 256) × ((p : ℕ) → p < 8 → getD (held (r ∷ [])) p 0 ≡ getD (held (word ∷ [])) (8 * p) 0) ⌝ }
+{
+    let alone = word & 0x0101_0101_0101_0101;
+    let two = (alone | (alone >> 7)) & 0x0003_0003_0003_0003;
+    let four = (two | (two >> 14)) & 0x0000_000F_0000_000F;
+    (four | (four >> 28)) & 0xFF
+}
+
+// The words of the four letters' rows for at most 64 letters, eight at a time from the last to the first. The three lowest bits of a
+// letter's byte tell it from the other letters: A has 001, C 011, G 111 and T 100; past the last letter they are 000. `a & (a ^ b)` has
+// the bits of `a` that `b` has not.
+pub fn letter_words(sequence: &[u8]) -> Bases
+    requires { ⌜ (length (now sequence) ≤ 64) × ((i : ℕ) → i < length (now sequence) → letter? (getD (now sequence) i 0) ≡ true) ⌝ }
+    ensures { λ r. ⌜ ((x : ℕ) → x < Letter-BASES → held (word-of r x ∷ []) ≡ lettered eqb (letter x) (now (sequence .entry)) 64) ⌝ }
+{
+    let mut first: u64 = 0;
+    let mut second: u64 = 0;
+    let mut third: u64 = 0;
+    let mut p = sequence.len();
+    while 0 < p % 8 {
+        p -= 1;
+        let byte = wide(sequence[p]);
+        first = (first << 1) | (byte & 1);
+        second = (second << 1) | ((byte >> 1) & 1);
+        third = (third << 1) | ((byte >> 2) & 1);
+    }
+    while 0 < p {
+        let end = p;
+        p -= 8;
+        let bytes = eight(&sequence[p..end]);
+        first = (first << 8) | gather(bytes);
+        second = (second << 8) | gather(bytes >> 1);
+        third = (third << 8) | gather(bytes >> 2);
+    }
+    Bases {
+        a: first & (first ^ second),
+        c: second & (second ^ third),
+        g: second & third,
+        t: third & (third ^ first),
     }
 }
 
@@ -238,13 +287,13 @@ fn spread(count: usize, row: &mut [u64], spare: &mut [u64])
     }
 }
 
-// Sets the bits of `out` that have one of `count` set bits before them, the nearest `d` places before. `spare` is lent for the
-// work.
-pub fn open_gap(row: &[u64], d: usize, count: usize, spare: &mut [u64], out: &mut [u64])
-    requires { ⌜ (length (now spare) ≡ length (now row)) × (length (now out) ≡ length (now row)) × (1 ≤ count) ⌝ }
-    ensures { λ _. ⌜ held (now (out .exit)) ≡ window d count (held (now (row .entry))) ⌝ }
+// Opens a gap in a row: its bits are then those that have one of `count` set bits before them, the nearest `d` places before. `spare` is
+// lent for the work.
+pub fn open_gap(d: usize, count: usize, spare: &mut [u64], row: &mut [u64])
+    requires { ⌜ (length (now spare) ≡ length (now row)) × (1 ≤ count) ⌝ }
+    ensures { λ _. ⌜ held (now (row .exit)) ≡ window d count (held (now (row .entry))) ⌝ }
 {
     copy(row, spare);
-    spread(count, spare, out);
-    shift_up(spare, d, out);
+    spread(count, spare, row);
+    shift_up(spare, d, row);
 }

@@ -1,15 +1,14 @@
 -- The step over four letters, as the code takes it: by the last digit of the number.
-use mathlib.Core.Path.{_≡_, refl, sym}
+use mathlib.Core.Path.{_≡_, refl}
 use mathlib.Core.Bool.{Bool, true, false, _&&_}
 use Prim.Native.Nat.{ℕ, zero, suc, _+_, _-_, _*_, _/_, _%_, _^_, _≤_, _<_}
 use native.Mathlib.Numerals.{add-one}
 use native.Mathlib.Omega.{arith}
-use borrow.Author.Tests.{lt-ltb, le-ltb, ltb-true, eq-eqb, ne-eqb}
+use borrow.Author.Tests.{lt-ltb, le-ltb, eq-eqb, ne-eqb}
 use lib.Dec.{ltb, eqb}
 use native.Mathlib.Nat.{pow-suc, pow-le-pow-right}
 use Rattle.rules.specs.Lists.{run, if, keep}
-use Rattle.rules.specs.Walk.{place, up, next, children, choose, motif}
-use Rattle.rules.specs.declared.Place.{Place}
+use Rattle.rules.specs.Walk.{place, up, next, children, choose}
 use Rattle.search.specs.Four.{four}
 use Rattle.rules.proofs.Plain.{up-plain}
 
@@ -42,27 +41,6 @@ module _ (good : ℕ → ℕ → Bool) (depth : ℕ) where
       go true = rw g
       go false = refl
 
-  -- a number that its digits spell stays one
-  pub up-below : (j m : ℕ) → m < 4 ^ j → (up (four good depth) j m) .number < 4 ^ (up (four good depth) j m) .letters
-  up-below zero m h = unfold up in (omega arith)
-  up-below (suc j) m h = rw (up-plain (four good depth) (λ j m. refl) (omega arith) j m) (go (ltb (suc (m % 4)) 4) refl (up-below j (m / 4) (omega (arith, pow-suc 4 j, h))))
-    where
-      go : (b : Bool) → ltb (suc (m % 4)) 4 ≡ b → (up (four good depth) j (m / 4)) .number < 4 ^ (up (four good depth) j (m / 4)) .letters
-          → (if b (place (suc j) (suc m)) (up (four good depth) j (m / 4))) .number < 4 ^ (if b (place (suc j) (suc m)) (up (four good depth) j (m / 4))) .letters
-      go true e ih = omega (arith, ltb-true, pow-suc 4 j, h)
-      go false e ih = ih
-
-  pub next-below : (j m : ℕ) → m < 4 ^ j → (next (four good depth) (place j m)) .number < 4 ^ (next (four good depth) (place j m)) .letters
-  unfolding next children keep run
-  next-below j m h = go (ltb j depth && good j m)
-    where
-      q : Place
-      q = up (four good depth) j m
-
-      go : (b : Bool) → (if b (place (suc j) (m * 4)) q) .number < 4 ^ (if b (place (suc j) (m * 4)) q) .letters
-      go true = omega (arith, pow-suc 4 j)
-      go false = up-below j m h
-
 pub hit-yes : (a b : ℕ) (g : Bool) → a ≡ b → g ≡ (eqb a b && g)
 hit-yes a b g e = rw (eq-eqb a b e)
 
@@ -71,7 +49,3 @@ hit-no a b g e = rw (ne-eqb a b e)
 
 pub fits4 : (n j d : ℕ) → d ≤ 32 → j < d → n < 4 ^ j → n * 4 < 2 ^ 64
 fits4 n j d h l b = omega (arith, pow-suc 4 j, pow-le-pow-right {n = 4} (omega arith) {i = suc j} {j = 32} (omega arith))
-
-pub motif-at : (good : ℕ → ℕ → Bool) (depth j m : ℕ) (hit g : Bool) → g ≡ good j m → hit ≡ (eqb j depth && g) → motif (four good depth) (place j m) ≡ hit
-unfolding motif
-motif-at good depth j m hit g e f = rw (← e) (sym f)

@@ -1,12 +1,10 @@
 -- The path goes on with the walk: under a frequent prefix its slot was written, and on the way up the slots of what is left stay.
-use mathlib.Core.Bool.{Bool, true, false, _&&_}
+use mathlib.Core.Bool.{Bool, true, false}
 use mathlib.Core.List.{List}
-use mathlib.Core.Path.{_≡_, refl, sym, _∙_}
-use Prim.Native.Nat.{ℕ, _+_, _*_}
+use mathlib.Core.Path.{_≡_, refl, sym}
+use Prim.Native.Nat.{ℕ, _+_, _*_, _<_}
 use native.Mathlib.Decide.{decLt}
 use native.Mathlib.Omega.{arith}
-use lib.Dec.{ltb}
-use borrow.Author.Tests.{lt-ltb, le-ltb}
 use Rattle.rules.proofs.Exact.{exact-search, exact-base}
 use Rattle.rules.specs.Walk.{place, up, next}
 use Rattle.rules.specs.declared.Place.{Place}
@@ -16,22 +14,18 @@ use Rattle.matching.specs.Path.{Path}
 use Rattle.search.proofs.Four.{next-down, next-last, next-bad}
 use Rattle.search.specs.Four.{four}
 
-module _ (t : Template) (ns l slots slots′ : List ℕ) (good : ℕ → ℕ → Bool) (depth j m : ℕ) (here : Path t ns l slots j m) where
-  goes-up : {q : Place} → next (four good depth) (place j m) ≡ q → next (four good depth) (place j m) ≡ up (four good depth) j m → slots′ ≡ slots → Path t ns l slots′ (q .letters) (q .number)
-  goes-up e u s = rw (s, ← e, u) (path-up-in t ns l slots (four good depth) (sym (exact-base t (exact-search t))) j m here)
+module _ (t : Template) (ns l evens odds : List ℕ) (good : ℕ → ℕ → Bool) (depth j m : ℕ) (here : Path t ns l evens odds j m) where
+  goes-up : {q : Place} → next (four good depth) (place j m) ≡ q → next (four good depth) (place j m) ≡ up (four good depth) j m → Path t ns l evens odds (q .letters) (q .number)
+  goes-up e u = rw (← e, u) (path-up-in t ns l evens odds (four good depth) (sym (exact-base t (exact-search t))) j m here)
 
   -- the path to the next place
-  pub path-next : {down : Bool} {q : Place} → down ≡ (good j m && ltb j depth) → (down ≡ true → Path t ns l slots′ (j + 1) (m * 4)) → (down ≡ false → slots′ ≡ slots)
-      → next (four good depth) (place j m) ≡ q → Path t ns l slots′ (q .letters) (q .number)
-  path-next {down} {q} d p s e = go (good j m) refl
+  pub path-next : {q : Place} → (good j m ≡ true → j < depth → Path t ns l evens odds (j + 1) (m * 4)) → next (four good depth) (place j m) ≡ q → Path t ns l evens odds (q .letters) (q .number)
+  path-next {q} p e = go (good j m) refl
     where
-      stays : good j m && ltb j depth ≡ false → slots′ ≡ slots
-      stays f = s (d ∙ f)
-
-      go : (b : Bool) → good j m ≡ b → Path t ns l slots′ (q .letters) (q .number)
-      go false g = goes-up e (next-bad good depth j m g) (stays (rw g))
+      go : (b : Bool) → good j m ≡ b → Path t ns l evens odds (q .letters) (q .number)
+      go false g = goes-up e (next-bad good depth j m g)
       go true g =
           elim (decLt j depth) [
-            | yes h ↦ rw (← e, next-down good depth j m h g) (p (d ∙ rw (g, lt-ltb j depth h)))
-            | no h ↦ goes-up e (next-last good depth j m (omega arith)) (stays (rw (g, le-ltb j depth (omega arith))))
+            | yes h ↦ rw (← e, next-down good depth j m h g) (p g h)
+            | no h ↦ goes-up e (next-last good depth j m (omega arith))
           ]

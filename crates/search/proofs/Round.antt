@@ -155,12 +155,12 @@ pub frequent-is : (letters lengths : List ℕ) (s : Search) (p : Place) {found :
 frequent-is letters lengths s p h l f g =
     g ∙ reach-same (s .quorum) l f ∙ sym (exact-frequent (s .template) (exact-search (s .template)) (s .quorum) (sequences letters lengths) (p .letters) (p .number) h)
 
--- a listed candidate reaches it, and so does one under which the search goes on
+-- a listed candidate reaches it, and so does each that is frequent
 pub hit-reaches : (a : Bool) {hit good : Bool} (quorum found : ℕ) → hit ≡ (a && good) → good ≡ leb quorum found → hit ≡ true → quorum ≤ found
 hit-reaches a {good = good} quorum found e g h = leb-true quorum found (sym g ∙ both a good .0 (sym e ∙ h) .1)
 
-pub down-reaches : (b : Bool) {good : Bool} (quorum found : ℕ) → good ≡ leb quorum found → good && b ≡ true → quorum ≤ found
-down-reaches b {good} quorum found g h = leb-true quorum found (sym g ∙ both good b .0 h .0)
+pub good-reaches : {good : Bool} (quorum found : ℕ) → good ≡ leb quorum found → good ≡ true → quorum ≤ found
+good-reaches quorum found g h = leb-true quorum found (sym g ∙ h)
 
 -- a motif that is not one too many has a row in each table
 pub row-left : (hit : Bool) (rows room : ℕ) (motifs supports weights : List ℕ) → hit && eqb rows room ≡ false → rows ≤ room → room ≡ room-of motifs supports weights → hit ≡ true

@@ -46,8 +46,8 @@ pub weight-whole : (t : Template) (m : ℕ) (ss : List (List ℕ)) (table : List
 weight-whole t m ss table i whole e = ap (λ (n : ℕ). set table i n) (e ∙ ap (λ (d : ℕ). weight (parts t d m) ss) whole)
 
 -- THE PATH to each candidate of one letter more is one to the first of them
-pub path-first : {t : Template} {ns l slots : List ℕ} {j : ℕ} (m : ℕ) → ((x : ℕ) → x < base-of t → Path t ns l slots j (m * base-of t + x))
-    → Path t ns l slots j (m * Letter-BASES)
+pub path-first : {t : Template} {ns l evens odds : List ℕ} {j : ℕ} (m : ℕ) → ((x : ℕ) → x < base-of t → Path t ns l evens odds j (m * base-of t + x))
+    → Path t ns l evens odds j (m * Letter-BASES)
 path-first {t} m f =
     let b : base-of t ≡ 4 = exact-base t (exact-search t) in
     let z : m * base-of t + 0 ≡ m * 4 = omega (arith, ap (λ (n : ℕ). m * n) b) in

@@ -1,14 +1,14 @@
--- The tables of a leg's loop over one turn: they keep their lengths, a listed motif's path and row are those of its candidate, and after
--- `keep` the slots hold the path to the next place.
-use mathlib.Core.Bool.{Bool, true, false, _&&_}
+-- The tables of a leg's loop over one turn: they keep their lengths, a listed motif's path and row are those of its candidate, and once
+-- that is examined the slots hold the path to the next place.
+use mathlib.Core.Bool.{Bool, true, _&&_}
 use mathlib.Core.List.{List}
-use mathlib.Core.Path.{_≡_, refl, sym, ap, _∙_}
+use mathlib.Core.Path.{_≡_, refl, sym, _∙_}
 use Prim.Native.Nat.{ℕ, _+_, _-_, _*_, _^_, _≤_, _<_}
 use native.Mathlib.Nat.{pow-le-pow-right}
 use native.Mathlib.Omega.{arith}
-use lib.Dec.{eqb, ltb}
+use lib.Dec.{eqb}
 use lib.ListN.{length}
-use borrow.Author.Tests.{eqb-true, ltb-true}
+use borrow.Author.Tests.{eqb-true}
 use Rattle.rules.proofs.Tests.{both}
 use Rattle.rules.specs.Sound.{SoundTemplate}
 use Rattle.rules.specs.Template.{size}
@@ -23,14 +23,15 @@ use Rattle.search.proofs.Onward.{path-next}
 use Rattle.search.specs.Four.{four}
 
 -- tables that keep their lengths stay tables
-pub tables-still : {inside firsts offsets standing slots work spare slots′ work′ spare′ : List ℕ} → Tables inside firsts offsets standing slots work spare
-    → length slots′ ≡ length slots → length work′ ≡ length work → length spare′ ≡ length spare → Tables inside firsts offsets standing slots′ work′ spare′
-tables-still t s w p = record {
+pub tables-still : {inside firsts offsets standing evens odds work spare evens′ odds′ work′ spare′ : List ℕ} → Tables inside firsts offsets standing evens odds work spare
+    → length evens′ ≡ length evens → length odds′ ≡ length odds → length work′ ≡ length work → length spare′ ≡ length spare → Tables inside firsts offsets standing evens′ odds′ work′ spare′
+tables-still t e o w p = record {
   inside-long = t .inside-long;
   firsts-long = t .firsts-long;
   offsets-long = t .offsets-long;
   standing-long = t .standing-long;
-  rows-long = s ∙ t .rows-long;
+  evens-long = e ∙ t .evens-long;
+  odds-long = o ∙ t .odds-long;
   work-long = w ∙ t .work-long;
   spare-long = p ∙ t .spare-long;
 }
@@ -42,10 +43,6 @@ none-counted t ns l ways = record { leads = λ h. absurd (omega arith) }
 -- a listed candidate has all letters of a motif
 pub hit-whole : (j depth : ℕ) (good : Bool) {hit : Bool} → hit ≡ (eqb j depth && good) → hit ≡ true → j ≡ depth
 hit-whole j depth good e h = eqb-true j depth (both (eqb j depth) good .0 (sym e ∙ h) .0)
-
--- and one under which the search goes on has fewer
-pub down-short : (j depth k : ℕ) (good : Bool) → depth ≡ k → good && ltb j depth ≡ true → j < k
-down-short j depth k good e h = omega (arith, ltb-true j depth (both good (ltb j depth) .0 h .1), e)
 
 -- 1 more than the number of the prefix before the last component fits a word
 pub prefix-fits : (t : Template) → SoundTemplate t → (j m prefix : ℕ) → j ≤ size t → m < 4 ^ j → prefix ≡ prefix-of t m → prefix < 2 ^ 64 - 1
@@ -59,19 +56,20 @@ counted-as e h = rw e h
 pub below-whole : (j m : ℕ) {depth : ℕ} → j ≡ depth → m < 4 ^ j → m < 4 ^ depth
 below-whole j m e h = rw (← e) h
 
-pub made-whole : {t : Template} {ns l inside firsts offsets standing slots : List ℕ} (j m : ℕ) {depth : ℕ} → j ≡ depth → Made t ns l inside firsts offsets standing slots j m → Made t ns l inside firsts offsets standing slots depth m
+pub made-whole : {t : Template} {ns l inside firsts offsets standing evens odds : List ℕ} (j m : ℕ) {depth : ℕ} → j ≡ depth → Made t ns l inside firsts offsets standing evens odds j m → Made t ns l inside firsts offsets standing evens odds depth m
 made-whole j m e h = rw (← e) h
 
 pub row-whole : (t : Template) {ns l work : List ℕ} (j m : ℕ) {depth : ℕ} → j ≡ depth → Row (prefix-starts t j m) ns l work → Row (prefix-starts t depth m) ns l work
 row-whole t j m e h = rw (← e) h
 
--- what is made stays, and the path goes on to the next place
-pub made-next : (t : Template) (ns l : List ℕ) (j m : ℕ) {inside firsts offsets standing slots slots′ : List ℕ} (depth : ℕ) (good : ℕ → ℕ → Bool) {frequent : Bool} {q : Place}
-    → Made t ns l inside firsts offsets standing slots j m → frequent ≡ good j m
-    → (frequent && ltb j depth ≡ true → Path t ns l slots′ (j + 1) (m * 4)) → (frequent && ltb j depth ≡ false → slots′ ≡ slots)
-    → next (four good depth) (place j m) ≡ q → Made t ns l inside firsts offsets standing slots′ (q .letters) (q .number)
-made-next t ns l j m {slots = slots} {slots′} depth good made f p s e = record {
-  ready = made .ready;
-  laid = made .laid;
-  path = path-next t ns l slots slots′ good depth j m (made .path) (ap (λ (b : Bool). b && ltb j depth) f) p s e;
-}
+-- what is made stays, in slots that hold the path to a candidate
+pub made-still : {t : Template} {ns l inside firsts offsets standing evens odds evens′ odds′ : List ℕ} {j m : ℕ} → Made t ns l inside firsts offsets standing evens odds j m
+    → Path t ns l evens′ odds′ j m → Made t ns l inside firsts offsets standing evens′ odds′ j m
+made-still made p = record { ready = made .ready; laid = made .laid; path = p }
+
+-- and the path goes on to the next place
+pub made-next : (t : Template) (ns l : List ℕ) (j m : ℕ) {inside firsts offsets standing evens odds : List ℕ} (depth : ℕ) (good : ℕ → ℕ → Bool) {q : Place}
+    → Made t ns l inside firsts offsets standing evens odds j m → (good j m ≡ true → j < depth → Path t ns l evens odds (j + 1) (m * 4))
+    → next (four good depth) (place j m) ≡ q → Made t ns l inside firsts offsets standing evens odds (q .letters) (q .number)
+made-next t ns l j m {evens = evens} {odds} depth good made p e =
+    record { ready = made .ready; laid = made .laid; path = path-next t ns l evens odds good depth j m (made .path) p e }

@@ -60,10 +60,11 @@ pub fn leg(
     ensures { λ _. ⌜ now (weights .exit) ≡ (leg-rule (now (letters .entry)) (now (lengths .entry)) search budget (now (motifs .entry)) (now (supports .entry)) (now (weights .entry))) .weights ⌝ }
 {
     let mut inside = [0u8; matching::LETTERS];
-    let mut firsts = [0u32; matching::ENDS];
-    let mut offsets = [0u32; matching::ENDS];
+    let mut firsts = [0u32; matching::FIRSTS];
+    let mut offsets = [0u32; matching::OFFSETS];
     let mut standing = [0u64; matching::STANDING];
-    let mut slots = [0u64; matching::SLOTS];
+    let mut evens = [0u64; matching::SLOTS];
+    let mut odds = [0u64; matching::SLOTS];
     let mut work = [0u64; matching::WORDS];
     let mut spare = [0u64; matching::WORDS];
     let mut ways = [0u64; SequenceSet::LETTERS];
@@ -75,7 +76,8 @@ pub fn leg(
         &mut firsts,
         &mut offsets,
         &mut standing,
-        &mut slots,
+        &mut evens,
+        &mut odds,
         &mut work,
         &mut spare,
     );
@@ -98,7 +100,8 @@ pub fn leg(
             &firsts,
             &offsets,
             &standing,
-            &mut slots,
+            &mut evens,
+            &mut odds,
             &mut work,
             &mut spare,
             &mut ways,

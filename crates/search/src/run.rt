@@ -8,13 +8,13 @@ use rules::Place;
 use rules::Search;
 use rules::Template;
 use rules::least;
-ghost use mathlib.Core.Bool.{true, false};
+ghost use mathlib.Core.Bool.{true};
 ghost use mathlib.Core.Path.{_≡_};
-ghost use Prim.Native.Nat.{ℕ, _+_, _-_, _*_, _/_, _^_, _≤_, _<_};
+ghost use Prim.Native.Nat.{ℕ, _+_, _-_, _/_, _^_, _≤_, _<_};
 ghost use lib.Dec.{leb};
 ghost use lib.ListN.{length, set};
 ghost use Rattle.rules.specs.Calls.{moved, stretch, supports-of, weights-of};
-ghost use Rattle.rules.specs.Limits.{SequenceSet-LETTERS, Template-LETTERS, Letter-BASES};
+ghost use Rattle.rules.specs.Limits.{SequenceSet-LETTERS, Letter-BASES};
 ghost use Rattle.rules.specs.Lists.{if, put};
 ghost use Rattle.rules.specs.Refusals.{first, search-checks};
 ghost use Rattle.rules.specs.Sequences.{sequences};
@@ -23,8 +23,8 @@ ghost use Rattle.rules.specs.Support.{weight, parts};
 ghost use Rattle.rules.specs.Template as templates;
 ghost use Rattle.rules.specs.Told.{fine, toldLeg};
 ghost use Rattle.rules.specs.Walk.{place};
-ghost use Rattle.rows.specs.Set.{Row-WORDS, Firsts, Row};
-ghost use Rattle.matching.specs.Path.{prefix-starts, Path, Inside, Tables, Made};
+ghost use Rattle.rows.specs.Set.{Row};
+ghost use Rattle.matching.specs.Path.{prefix-starts, Tables, Made};
 ghost use Rattle.matching.specs.Weights.{prefix-of, Counted};
 ghost use Rattle.search.specs.Told.{room-of, told-of};
 
@@ -90,18 +90,19 @@ fn list(
     firsts: &[u32],
     offsets: &[u32],
     standing: &[u64],
-    slots: &[u64],
+    evens: &[u64],
+    odds: &[u64],
     work: &[u64],
     spare: &mut [u64],
     ways: &mut [u64],
 ) -> usize
     requires { ⌜ SoundSet (now letters) (now lengths) ⌝ }
     requires { ⌜ SoundTemplate template ⌝ }
-    requires { ⌜ Tables (now inside) (now firsts) (now offsets) (now standing) (now slots) (now work) (now spare) ⌝ }
+    requires { ⌜ Tables (now inside) (now firsts) (now offsets) (now standing) (now evens) (now odds) (now work) (now spare) ⌝ }
     requires { ⌜ length (now letters) ≤ length (now ways) ⌝ }
     requires { ⌜ (hit ≡ true → (rows < length (now motifs)) × (rows < length (now supports)) × (rows < length (now weights))) ⌝ }
     requires { ⌜ (hit ≡ true → (depth ≡ templates.size template) × (motif < Letter-BASES ^ depth) × (prefix ≡ prefix-of template motif)) ⌝ }
-    requires { ⌜ (hit ≡ true → Made template (now lengths) (now letters) (now inside) (now firsts) (now offsets) (now standing) (now slots) depth motif) ⌝ }
+    requires { ⌜ (hit ≡ true → Made template (now lengths) (now letters) (now inside) (now firsts) (now offsets) (now standing) (now evens) (now odds) depth motif) ⌝ }
     requires { ⌜ (hit ≡ true → Row (prefix-starts template depth motif) (now lengths) (now letters) (now work)) ⌝ }
     requires { ⌜ Counted template (now lengths) (now letters) counted (now ways) ⌝ }
     ensures { λ r. ⌜ r ≡ if hit (rows + 1) rows ⌝ }
@@ -124,7 +125,8 @@ fn list(
             firsts,
             offsets,
             standing,
-            slots,
+            evens,
+            odds,
             work,
             spare,
             ways,
@@ -146,48 +148,6 @@ fn counted_for(hit: bool, prefix: u64, counted: u64) -> u64
     if hit { prefix + 1 } else { counted }
 }
 
-// Puts the row of a frequent prefix shorter than a motif into its slot, for the candidates under it.
-fn keep(
-    down: bool,
-    letters: &[u8],
-    lengths: &[u32],
-    template: Template,
-    size: u8,
-    number: u64,
-    inside: &[u8],
-    firsts: &[u32],
-    work: &[u64],
-    spare: &mut [u64],
-    slots: &mut [u64],
-)
-    requires { ⌜ SoundSet (now letters) (now lengths) ⌝ }
-    requires { ⌜ SoundTemplate template ⌝ }
-    requires { ⌜ (1 ≤ size) × (down ≡ true → size < templates.size template) ⌝ }
-    requires { ⌜ Inside template (now inside) ⌝ }
-    requires { ⌜ Firsts (now lengths) (now firsts) ⌝ }
-    requires { ⌜ Path template (now lengths) (now letters) (now slots) size number ⌝ }
-    requires { ⌜ (down ≡ true → Row (prefix-starts template size number) (now lengths) (now letters) (now work)) ⌝ }
-    requires { ⌜ (length (now slots) ≡ Template-LETTERS * Row-WORDS) × (length (now work) ≡ Row-WORDS) × (length (now spare) ≡ Row-WORDS) ⌝ }
-    ensures { λ _. ⌜ (down ≡ true → Path template (now (lengths .entry)) (now (letters .entry)) (now (slots .exit)) (size + 1) (number * Letter-BASES)) ⌝ }
-    ensures { λ _. ⌜ (down ≡ false → now (slots .exit) ≡ now (slots .entry)) ⌝ }
-    ensures { λ _. ⌜ (length (now (slots .exit)) ≡ length (now (slots .entry))) × (length (now (spare .exit)) ≡ length (now (spare .entry))) ⌝ }
-{
-    if down {
-        path::push(
-            template,
-            size,
-            number,
-            inside,
-            letters,
-            lengths,
-            firsts,
-            work,
-            spare,
-            slots,
-        );
-    }
-}
-
 // A leg of a search that the checks accept. Before each candidate, in this order: none left, ended; the budget used, spent; a
 // motif and the tables full, full, and it is not counted. Otherwise a step, with a row if the candidate is a motif. The tables from
 // `inside` on are for the work, and have the path of the search's place.
@@ -203,15 +163,16 @@ pub fn run(
     firsts: &[u32],
     offsets: &[u32],
     standing: &[u64],
-    slots: &mut [u64],
+    evens: &mut [u64],
+    odds: &mut [u64],
     work: &mut [u64],
     spare: &mut [u64],
     ways: &mut [u64],
 ) -> Leg
     requires { ⌜ first (search-checks (now letters) (now lengths) s) ≡ fine ⌝ }
-    requires { ⌜ Tables (now inside) (now firsts) (now offsets) (now standing) (now slots) (now work) (now spare) ⌝ }
+    requires { ⌜ Tables (now inside) (now firsts) (now offsets) (now standing) (now evens) (now odds) (now work) (now spare) ⌝ }
     requires { ⌜ SequenceSet-LETTERS ≤ length (now ways) ⌝ }
-    requires { ⌜ (1 ≤ s .place .letters → Made (s .template) (now lengths) (now letters) (now inside) (now firsts) (now offsets) (now standing) (now slots) (s .place .letters) (s .place .number)) ⌝ }
+    requires { ⌜ (1 ≤ s .place .letters → Made (s .template) (now lengths) (now letters) (now inside) (now firsts) (now offsets) (now standing) (now evens) (now odds) (s .place .letters) (s .place .number)) ⌝ }
     ensures { λ r. ⌜ toldLeg r ≡ told-of s (stretch (now (letters .entry)) (now (lengths .entry)) s budget (room-of (now (motifs .entry)) (now (supports .entry)) (now (weights .entry)))) ⌝ }
     ensures { λ _. ⌜ now (motifs .exit) ≡ put ((stretch (now (letters .entry)) (now (lengths .entry)) s budget (room-of (now (motifs .entry)) (now (supports .entry)) (now (weights .entry)))) .motifs) (now (motifs .entry)) ⌝ }
     ensures { λ _. ⌜ now (supports .exit) ≡ put (supports-of (now (letters .entry)) (now (lengths .entry)) s ((stretch (now (letters .entry)) (now (lengths .entry)) s budget (room-of (now (motifs .entry)) (now (supports .entry)) (now (weights .entry)))) .motifs)) (now (supports .entry)) ⌝ }
@@ -233,8 +194,9 @@ pub fn run(
         if steps == budget {
             return stopped(LegAnswer::Spent, steps, rows, s, j, m);
         }
-        let found = path::support(
+        let found = path::examine(
             template,
+            depth,
             j,
             m,
             inside,
@@ -242,9 +204,11 @@ pub fn run(
             lengths,
             firsts,
             standing,
-            slots,
             reach,
+            evens,
+            odds,
             work,
+            spare,
         );
         let frequent = reaches(quorum, found);
         let hit = step::listed(depth, j, frequent);
@@ -270,25 +234,13 @@ pub fn run(
             firsts,
             offsets,
             standing,
-            slots,
+            evens,
+            odds,
             work,
             spare,
             ways,
         );
         counted = counted_for(hit, prefix, counted);
-        keep(
-            frequent & (j < depth),
-            letters,
-            lengths,
-            template,
-            j,
-            m,
-            inside,
-            firsts,
-            work,
-            spare,
-            slots,
-        );
         let next = step::next_place(depth, j, m, frequent);
         steps += 1;
         j = next.letters;

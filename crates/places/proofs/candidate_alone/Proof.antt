@@ -1,5 +1,5 @@
--- Whether a place with letters is a candidate: by the support of the prefix that is one letter shorter, as `Through` has it, in a slot
--- that at first is that of the prefix with no letters.
+-- Whether a place with letters is a candidate: by the support of the prefix that is one letter shorter, as `Through` has it, in two slots,
+-- one of which is at first that of the prefix with no letters.
 use native.Mathlib.Omega.{arith}
 use borrow.Author.Needs.{needs}
 use Rattle.places.proofs.Through.{passes-by, rule-deep, rule-below}
@@ -53,7 +53,7 @@ shorter-requires c κs =
     let p = b .pre in
     let a = b .args .s in
     let m = c .before .before .before .before .before .before .before .before .before .before .before .before .make .ensures in
-    (p .1 .0, (p .0, ((p .1 .1 .1, rule-deep (a .template) (a .place) (p .1 .1 .0), rule-below (a .template) (a .place) (p .1 .1 .0)), (m .0, (m .1 .1 .0, (m .1 .1 .1 .4, m .1 .1 .1 .5, omega arith))))))
+    (p .1 .0, (p .0, ((p .1 .1 .1, rule-deep (a .template) (a .place) (p .1 .1 .0), rule-below (a .template) (a .place) (p .1 .1 .0)), (m .0, (m .1 .1 .0, (m .1 .1 .1 .4, omega arith, m .1 .1 .1 .5))))))
 
 frequent-requires : tie.Need-frequent-requires
 frequent-requires c κs = search needs

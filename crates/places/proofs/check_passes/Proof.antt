@@ -31,8 +31,11 @@ same-length-6 c = search needs
 same-length-7 : tie.Need-same-length-7
 same-length-7 c = search needs
 
+same-length-8 : tie.Need-same-length-8
+same-length-8 c = search needs
+
 returns : tie.Need-returns
-returns c = let p = c .before .before .before .before .before .before .before .before .before .before .before .before .before .before .before .passes .ensures in (told-13 _ _ _ (p .0) (c .refuse-if .ensures), p .1)
+returns c = let p = c .before .before .before .before .before .before .before .before .before .before .before .before .before .before .before .before .before .passes .ensures in (told-13 _ _ _ (p .0) (c .refuse-if .ensures), p .1)
 
 pub check-passes-spec : {M : Type 1} → statement M
 check-passes-spec =
@@ -47,4 +50,5 @@ check-passes-spec =
     same-length-5
     same-length-6
     same-length-7
+    same-length-8
     returns)

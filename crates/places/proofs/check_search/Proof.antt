@@ -17,13 +17,13 @@ enum-told c = search needs
 
 check-passes-requires : tie.Need-check-passes-requires
 check-passes-requires c κs =
-    let b = c .before .before .before .before .before .before .before .before .before .before .before .before .before .before .before .before .before .before .before in
+    let b = c .before .before .before .before .before .before .before .before .before .before .before .before .before .before .before .before .before .before .before .before .before in
     let a = b .args in
-    let e = sym (ap toldChecked (c .before .before .before .before .before .before .before .enum-told .given .1)) ∙ c .before .before .before .before .before .before .before .before .before .check-before-13 .ensures in
+    let e = sym (ap toldChecked (c .before .before .before .before .before .before .before .before .enum-told .given .1)) ∙ c .before .before .before .before .before .before .before .before .before .before .check-before-13 .ensures in
     (set-is (a .letters .now) (a .lengths .now) (a .s) e, (template-is _ _ _ e, (rule-is _ _ _ e, b .pre)))
 
 returns : tie.Need-returns
-returns c = (refused-before _ _ _ (sym (ap toldChecked (c .before .verdict .given .1)) ∙ c .before .before .before .check-before-13 .ensures), (c .before .before .before .before .before .before .before .before .before .before .before .before .before .pre, λ e. absurd (not-fine e)))
+returns c = (refused-before _ _ _ (sym (ap toldChecked (c .before .verdict .given .1)) ∙ c .before .before .before .check-before-13 .ensures), (c .before .before .before .before .before .before .before .before .before .before .before .before .before .before .pre, λ e. absurd (not-fine e)))
 
 same-length : tie.Need-same-length
 same-length c = search needs
@@ -46,10 +46,13 @@ same-length-6 c = search needs
 same-length-7 : tie.Need-same-length-7
 same-length-7 c = search needs
 
+same-length-8 : tie.Need-same-length-8
+same-length-8 c = search needs
+
 returns-2 : tie.Need-returns-2
 returns-2 c =
-    let p = c .before .before .before .before .before .before .before .before .before .before .before .before .before .before .check-passes .ensures in
-    (left-to-13 _ _ _ (sym (ap toldChecked (c .before .before .before .before .before .before .before .before .before .before .before .before .before .before .before .before .before .before .before .before .before .before .enum-told .given .1)) ∙ c .before .before .before .before .before .before .before .before .before .before .before .before .before .before .before .before .before .before .before .before .before .before .before .before .check-before-13 .ensures) (p .0), (p .1 .0, λ e. p .1 .1))
+    let p = c .before .before .before .before .before .before .before .before .before .before .before .before .before .before .before .before .check-passes .ensures in
+    (left-to-13 _ _ _ (sym (ap toldChecked (c .before .before .before .before .before .before .before .before .before .before .before .before .before .before .before .before .before .before .before .before .before .before .before .before .before .enum-told .given .1)) ∙ c .before .before .before .before .before .before .before .before .before .before .before .before .before .before .before .before .before .before .before .before .before .before .before .before .before .before .before .check-before-13 .ensures) (p .0), (p .1 .0, λ e. p .1 .1))
 
 pub check-search-spec : {M : Type 1} → statement M
 check-search-spec =
@@ -67,4 +70,5 @@ check-search-spec =
     same-length-5
     same-length-6
     same-length-7
+    same-length-8
     returns-2)

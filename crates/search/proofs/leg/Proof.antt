@@ -28,6 +28,9 @@ slice-aggregate-check-search-6 c = search needs
 slice-aggregate-check-search-7 : tie.Need-slice-aggregate-check-search-7
 slice-aggregate-check-search-7 c = search needs
 
+slice-aggregate-check-search-8 : tie.Need-slice-aggregate-check-search-8
+slice-aggregate-check-search-8 c = search needs
+
 check-search-requires : tie.Need-check-search-requires
 check-search-requires c κs = search needs
 
@@ -61,14 +64,17 @@ slice-aggregate-run-7 c = search needs
 slice-aggregate-run-8 : tie.Need-slice-aggregate-run-8
 slice-aggregate-run-8 c = search needs
 
+slice-aggregate-run-9 : tie.Need-slice-aggregate-run-9
+slice-aggregate-run-9 c = search needs
+
 run-requires : tie.Need-run-requires
 run-requires c κs =
-    let k = c .before .before .before .before .before .before .before .before .before .before .before .before .before .before .before .before .before .before .before .before .check-search .ensures in
-    let e = ap toldChecked (c .before .before .before .before .before .before .before .before .before .before .before .enum-told .given .1) in
+    let k = c .before .before .before .before .before .before .before .before .before .before .before .before .before .before .before .before .before .before .before .before .before .before .check-search .ensures in
+    let e = ap toldChecked (c .before .before .before .before .before .before .before .before .before .before .before .before .enum-told .given .1) in
     (sym (k .0) ∙ e, (k .1 .0, (omega arith, k .1 .1 e)))
 
 returns : tie.Need-returns
-returns c = declined _ _ _ _ _ _ _ (sym (ap toldChecked (c .before .checked .given .1)) ∙ c .before .before .before .before .before .before .before .before .before .before .check-search .ensures .0)
+returns c = declined _ _ _ _ _ _ _ (sym (ap toldChecked (c .before .checked .given .1)) ∙ c .before .before .before .before .before .before .before .before .before .before .before .check-search .ensures .0)
 
 same-length : tie.Need-same-length
 same-length c = search needs
@@ -80,7 +86,7 @@ same-length-3 : tie.Need-same-length-3
 same-length-3 c = search needs
 
 returns-2 : tie.Need-returns-2
-returns-2 c = accepted _ _ _ _ _ _ _ (sym (ap toldChecked (c .before .before .before .before .before .before .before .before .before .before .before .before .before .before .before .before .before .before .before .before .before .before .enum-told .given .1)) ∙ c .before .before .before .before .before .before .before .before .before .before .before .before .before .before .before .before .before .before .before .before .before .before .before .before .before .before .before .before .before .before .before .check-search .ensures .0) (c .before .before .before .before .before .before .before .before .before .before .run .ensures)
+returns-2 c = accepted _ _ _ _ _ _ _ (sym (ap toldChecked (c .before .before .before .before .before .before .before .before .before .before .before .before .before .before .before .before .before .before .before .before .before .before .before .before .enum-told .given .1)) ∙ c .before .before .before .before .before .before .before .before .before .before .before .before .before .before .before .before .before .before .before .before .before .before .before .before .before .before .before .before .before .before .before .before .before .before .check-search .ensures .0) (c .before .before .before .before .before .before .before .before .before .before .before .run .ensures)
 
 pub leg-spec : {M : Type 1} → statement M
 leg-spec =
@@ -93,6 +99,7 @@ leg-spec =
     slice-aggregate-check-search-5
     slice-aggregate-check-search-6
     slice-aggregate-check-search-7
+    slice-aggregate-check-search-8
     check-search-requires
     enum-known-checked
     enum-told
@@ -104,6 +111,7 @@ leg-spec =
     slice-aggregate-run-6
     slice-aggregate-run-7
     slice-aggregate-run-8
+    slice-aggregate-run-9
     run-requires
     returns
     same-length

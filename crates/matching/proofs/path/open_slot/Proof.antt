@@ -1,4 +1,4 @@
--- The gap is opened into the slot by the distances of the template.
+-- The gap is opened in the slot by the distances of the template.
 use native.Mathlib.Omega.{arith}
 use Rattle.matching.proofs.Gapped.{gap-sound, opened-slot}
 use borrow.Author.Needs.{needs}
@@ -44,19 +44,19 @@ add-open-all-2 c = search needs
 
 sub-open-all : tie.Need-sub-open-all
 sub-open-all c =
-    let b = c .before .before .before .before .before .before .before .before .before .before .before in
+    let b = c .before .before .before .before .before .before .before .before .before .before in
     let p = b .pre in
     let g = gap-sound (b .args .template) (p .0) (b .args .component) (p .1 .0 .0) (p .1 .0 .1) _ (c .before .before .before .before .before .components .ensures) in
     omega (arith, g .ordered)
 
 open-all-requires : tie.Need-open-all-requires
 open-all-requires c κs =
-    let b = c .before .before .before .before .before .before .before .before .before .before .before .before .before in
+    let b = c .before .before .before .before .before .before .before .before .before .before .before .before in
     let a = b .args in
     let p = b .pre in
     let z = p .1 .1 .1 .1 in
     let g = gap-sound (a .template) (p .0) (a .component) (p .1 .0 .0) (p .1 .0 .1) _ (c .before .before .before .before .before .before .before .components .ensures) in
-    ((p .1 .0 .2, omega (arith, g .ordered)), (p .1 .1 .0, (p .1 .1 .1 .0, (omega (arith, z .0, z .1), omega (arith, z .1, z .2), omega (arith, z .1, z .3)))))
+    ((p .1 .0 .2, omega (arith, g .ordered)), (p .1 .1 .0, (p .1 .1 .1 .0, (omega (arith, z .0, z .2), omega (arith, z .1, z .2)))))
 
 same-length : tie.Need-same-length
 same-length c = search needs
@@ -66,12 +66,12 @@ same-length-2 c = search needs
 
 returns : tie.Need-returns
 returns c =
-    let b = c .before .before .before .before .before .before .before .before .before .before .before .before .before .before .before .before .before .before in
+    let b = c .before .before .before .before .before .before .before .before .before .before .before .before .before .before .before .before .before in
     let a = b .args in
     let p = b .pre in
     let o = c .before .before .before .before .open-all .ensures in
     let e = c .before .before .before .before .before .before .before .before .before .before .before .before .components .ensures in
-    (o .1 .1, (o .0, opened-slot (a .template) (p .0) (a .component) (p .1 .0 .0) (p .1 .0 .1) _ e (a .lengths .now) (a .row .now) _ (o .1 .0)))
+    (o .1 .1, (o .0, opened-slot (a .template) (p .0) (a .component) (p .1 .0 .0) (p .1 .0 .1) _ e (a .lengths .now) (a .slot .now) _ (o .1 .0)))
 
 pub open-slot-spec : {M : Type 1} → statement M
 open-slot-spec =

@@ -1,15 +1,12 @@
--- The slot of the prefix one letter shorter is cut from the table.
-use Prim.Native.Nat.{_-_}
+-- The slot of the prefix one letter shorter is cut from its table.
+use Prim.Native.Nat.{_-_, _/_}
 use native.Mathlib.Omega.{arith}
 use Rattle.matching.specs.Path.{row-slot}
 use Rattle.rows.specs.Set.{between}
-use Rattle.matching.proofs.Slots.{parent, row-long}
+use Rattle.matching.proofs.Slots.{parent-even, parent-odd, row-long}
 use borrow.Author.Needs.{needs}
 use Rattle.matching.proofs.path.support.Statement.{statement}
 use Rattle.matching.proofs.path.support.Tie as tie
-use Rattle.matching.proofs.path.support.Reads as reads
-use Rattle.matching.proofs.path.support.Lts as lts
-use Rattle.matching.proofs.path.extend.Reads as extend-reads
 
 sub-below : tie.Need-sub-below
 sub-below c = search needs
@@ -35,20 +32,50 @@ part-extend-end c = search needs
 extend-requires : tie.Need-extend-requires
 unfolding row-slot between
 extend-requires c κs =
-    let b = c .before .before .before .before .before .before .before .before .before in
+    let b = c .before .before .before .before .before .before .before .before .before .before .before in
     let a = b .args in
     let p = b .pre in
     let deep = p .1 .1 .0 in
     let room = p .1 .1 .1 .1 .1 in
-    let slot = parent (a .template) (a .lengths .now) (a .letters .now) (a .rows .now) (a .size) (a .number) (p .1 .1 .1 .1 .0) (deep .0) in
-    let long = row-long (a .size - 1) (a .rows .now) (omega (arith, room .0, deep .0)) in
-    (p .0, (p .1 .0, (deep, (p .1 .1 .1 .0, (slot, (long, room .1))))))
+    let slot = parent-even (a .template) (a .lengths .now) (a .letters .now) (a .evens .now) (a .odds .now) (a .size) (a .number) (p .1 .1 .1 .1 .0) (deep .0) (c .before .before .if1 .taken) in
+    let long = row-long ((a .size - 1) / 2) (a .evens .now) (omega (arith, room .0, deep, p .0 .deep)) in
+    (p .0, (p .1 .0, (deep, (p .1 .1 .1 .0, (slot, (long, room .2))))))
 
 same-length : tie.Need-same-length
 same-length c = search needs
 
 returns : tie.Need-returns
 returns c = search needs
+
+mul-extend-2 : tie.Need-mul-extend-2
+mul-extend-2 c = search needs
+
+sub-extend-2 : tie.Need-sub-extend-2
+sub-extend-2 c = search needs
+
+part-extend-start-2 : tie.Need-part-extend-start-2
+part-extend-start-2 c = search needs
+
+part-extend-end-2 : tie.Need-part-extend-end-2
+part-extend-end-2 c = search needs
+
+extend-requires-2 : tie.Need-extend-requires-2
+unfolding row-slot between
+extend-requires-2 c κs =
+    let b = c .before .before .before .before .before .before .before .before .before .before .before in
+    let a = b .args in
+    let p = b .pre in
+    let deep = p .1 .1 .0 in
+    let room = p .1 .1 .1 .1 .1 in
+    let slot = parent-odd (a .template) (a .lengths .now) (a .letters .now) (a .evens .now) (a .odds .now) (a .size) (a .number) (p .1 .1 .1 .1 .0) (deep .0) (omega (arith, c .before .before .if1 .left)) in
+    let long = row-long ((a .size - 1) / 2) (a .odds .now) (omega (arith, room .1, deep, p .0 .deep)) in
+    (p .0, (p .1 .0, (deep, (p .1 .1 .1 .0, (slot, (long, room .2))))))
+
+same-length-2 : tie.Need-same-length-2
+same-length-2 c = search needs
+
+returns-2 : tie.Need-returns-2
+returns-2 c = search needs
 
 pub support-spec : {M : Type 1} → statement M
 support-spec =
@@ -63,4 +90,11 @@ support-spec =
     part-extend-end
     extend-requires
     same-length
-    returns)
+    returns
+    mul-extend-2
+    sub-extend-2
+    part-extend-start-2
+    part-extend-end-2
+    extend-requires-2
+    same-length-2
+    returns-2)

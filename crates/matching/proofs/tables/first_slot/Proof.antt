@@ -1,36 +1,23 @@
--- The first words of the table get every mark and every bit, which is what the first letter is added to.
-use borrow.Author.Needs.{needs}
-use mathlib.Core.Path.{sym}
+-- The slot gets every mark and every bit, which is what the first letter is added to.
 use native.Mathlib.Omega.{arith}
-use Rattle.matching.proofs.First.{slot-long, table-long, first-path}
+use Rattle.matching.proofs.First.{first-slot}
+use borrow.Author.Needs.{needs}
 use Rattle.matching.proofs.tables.first_slot.Statement.{statement}
 use Rattle.matching.proofs.tables.first_slot.Tie as tie
 
-slice-relend-prefix-begin : tie.Need-slice-relend-prefix-begin
-slice-relend-prefix-begin c = search needs
-
-slice-aggregate-begin : tie.Need-slice-aggregate-begin
-slice-aggregate-begin c = let s = c .before .before .before .before in sym (slot-long (s .args .rows .now) (s .pre .1 .1))
-
 begin-requires : tie.Need-begin-requires
-begin-requires c κs = let s = c .before .before .before .before in (s .pre .1 .0 .few, omega (arith, slot-long (s .args .rows .now) (s .pre .1 .1)))
+begin-requires c κs = search needs
 
 same-length : tie.Need-same-length
-same-length c =
-    let s = c .before .before .before .before .before .before .before in
-    let b = c .before .before .begin in
-    table-long (s .args .rows .now) (s .pre .1 .1) (b .last .1 .0) (b .ensures .1 .0)
+same-length c = search needs
 
 returns : tie.Need-returns
 returns c =
-    let s = c .before .before .before .before .before .before .before in
-    let a = s .args in
-    let p = s .pre in
-    let b = c .before .before .begin in
-    let o = b .ensures in
-    (first-path (a .rows .now) (p .1 .1) (b .last .1 .0) (o .1 .0) (a .template) (p .0) (a .letters .now) (a .lengths .now) (p .1 .0) (o .0) (o .1 .1), table-long (a .rows .now) (p .1 .1) (b .last .1 .0) (o .1 .0))
+    let b = c .before .before .before .before .before .before .before in
+    let a = b .args in
+    let p = b .pre in
+    let o = c .before .before .begin .ensures in
+    (first-slot (a .letters .now) (a .lengths .now) (p .1 .0) _ (o .0) (λ q h u. o .1 .1 q h (omega (arith, u, p .1 .1))) (a .template) (p .0), o .1 .0)
 
 pub first-slot-spec : {M : Type 1} → statement M
-first-slot-spec =
-    tie.close
-    (tie.spec slice-relend-prefix-begin slice-aggregate-begin begin-requires same-length returns)
+first-slot-spec = tie.close (tie.spec begin-requires same-length returns)

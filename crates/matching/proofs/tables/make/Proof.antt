@@ -11,7 +11,7 @@ lay-out-requires c κs =
     let p = c .before .before .before .before .before .before .before .before .before .before .before .before .before .before .pre in
     let set = p .1 .0 in
     let z = p .1 .1 in
-    ((set .few, omega (arith, set .adds, set .short)), (z .1, z .2))
+    ((set .few, omega (arith, set .adds, set .short)), (omega (arith, z .1), z .2))
 
 letter-rows-requires : tie.Need-letter-rows-requires
 letter-rows-requires c κs =

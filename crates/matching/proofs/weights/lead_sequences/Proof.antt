@@ -1,7 +1,7 @@
 -- The sequences up to the next mark have none and are passed over; the one there gets its counts, and all others keep theirs.
 use borrow.Author.Needs.{needs}
 use mathlib.Core.List.{List}
-use mathlib.Core.Path.{_≡_, refl, ap, _∙_}
+use mathlib.Core.Path.{_≡_, refl, sym, ap, _∙_}
 use Prim.Native.Nat.{ℕ, _+_, _-_, _*_, _/_, _^_, _≤_, _<_}
 use native.Mathlib.Omega.{arith}
 use lib.Count.{trailingZeros}
@@ -10,40 +10,40 @@ use Rattle.rules.specs.Lists.{sum}
 use Rattle.rows.specs.Bits.{held}
 use Rattle.rows.specs.Flags.{added, masked}
 use Rattle.rows.specs.Set.{between, marked?}
-use Rattle.matching.specs.Weights.{kept-counts}
-use Rattle.matching.proofs.Leads.{led-at, Led, led-none, led-end, led-turn, kept-are-at, kept-same, counts-lie, counts-room}
-use Rattle.rows.proofs.Sets.{turn-lies}
+use Rattle.matching.specs.Weights.{begun, begun-counts}
+use Rattle.matching.proofs.Leads.{led-at, Led, led-none, led-end, led-turn, begun-are-at, begun-same, counts-lie, counts-room}
+use Rattle.rows.proofs.Sets.{bits-are-at, turn-lies}
 use Rattle.rows.proofs.Walk.{Next, all-left, rest-none, next, next-rest, next-less}
 use Rattle.matching.proofs.weights.lead_sequences.Statement.{statement}
 use Rattle.matching.proofs.weights.lead_sequences.Tie as tie
 
 abbrev Inv-loop : tie.InvT-loop
-Inv-loop w lengths firsts offsets row d n counts₀ rest₀ k₀ counts rest k =
+Inv-loop w lengths firsts offsets row opened first d n counts₀ rest₀ k₀ counts rest k =
     (w * 64 ≤ k)
     × (length counts ≡ length counts₀)
     × (rest ≡ getD row w 0 / 2 ^ (k - w * 64))
-    × (Led (marked? row) (led-at d n lengths row counts₀) lengths (w * 64) k counts₀ counts)
+    × (Led (marked? row) (led-at first d n lengths row counts₀) lengths opened (w * 64) k counts₀ counts)
     × (k ≤ w * 64 + 64)
 
 abbrev μ-loop : tie.MeasureT-loop
-μ-loop w lengths firsts offsets row d n counts₀ rest₀ k₀ counts rest k = rest
+μ-loop w lengths firsts offsets row opened first d n counts₀ rest₀ k₀ counts rest k = rest
 
 -- at a turn there is a next mark
 module _ (t : tie.In-loop Inv-loop μ-loop) where
   abbrev ns : List ℕ
-  ns = t .before .before .before .before .before .before .before .before .args .lengths .now
+  ns = t .before .before .before .before .before .before .before .before .before .args .lengths .now
 
   abbrev firsts : List ℕ
-  firsts = t .before .before .before .before .before .before .before .before .args .firsts .now
+  firsts = t .before .before .before .before .before .before .before .before .before .args .firsts .now
 
   abbrev offsets : List ℕ
-  offsets = t .before .before .before .before .before .before .before .before .args .offsets .now
+  offsets = t .before .before .before .before .before .before .before .before .before .args .offsets .now
 
   abbrev row : List ℕ
-  row = t .before .before .before .before .before .before .before .before .args .row .now
+  row = t .before .before .before .before .before .before .before .before .before .args .row .now
 
   abbrev w : ℕ
-  w = t .before .before .before .before .before .before .before .before .args .w
+  w = t .before .before .before .before .before .before .before .before .before .args .w
 
   abbrev k : ℕ
   k = t .before .loop .k
@@ -58,11 +58,11 @@ module _ (t : tie.In-loop Inv-loop μ-loop) where
   some = omega (arith, t .loop-test .taken)
 
   fits : getD row w 0 < 2 ^ 64
-  fits = t .before .before .shared-slice-known5 .given w .fits
+  fits = t .before .before .shared-slice-known6 .given w .fits
 
   found : Next ns firsts row w k at
   found =
-      let p = t .before .before .before .before .before .before .before .before .pre in
+      let p = t .before .before .before .before .before .before .before .before .before .pre in
       let i = t .before .loop .inv in
       next row w fits k rest (i .0) (i .2) some ns _ (p .1 .1 .1 .0) (p .1 .0) (p .0 .0)
 
@@ -70,37 +70,37 @@ module _ (t : tie.In-loop Inv-loop μ-loop) where
   high = found .in-word
 
   few : at < 1024
-  few = omega (arith, high, t .before .before .before .before .before .before .before .before .pre .0)
+  few = omega (arith, high, t .before .before .before .before .before .before .before .before .before .pre .0)
 
   inside : at < length ns
   inside = found .inside
 
   begins : getD offsets at 0 ≡ sum (take at ns)
-  begins = t .before .before .before .before .before .before .before .before .pre .1 .1 .0 .same at (omega (arith, inside))
+  begins = t .before .before .before .before .before .before .before .before .before .pre .1 .1 .0 .same at (omega (arith, inside))
 
   ends : getD offsets (at + 1) 0 ≡ sum (take (at + 1) ns)
-  ends = t .before .before .before .before .before .before .before .before .pre .1 .1 .0 .same (at + 1) (omega (arith, inside))
+  ends = t .before .before .before .before .before .before .before .before .before .pre .1 .1 .0 .same (at + 1) (omega (arith, inside))
 
   -- whose counts are still as they were
-  own : masked (held (between (getD firsts at 0) (getD firsts (at + 1) 0) row)) (between (getD offsets at 0) (getD offsets (at + 1) 0) (t .before .loop .counts))
-      ≡ kept-counts ns row (t .before .before .before .before .before .before .before .before .args .counts .now) at
+  own : masked (held (between (getD firsts at 0) (getD firsts (at + 1) 0) row)) (begun (t .before .before .before .before .before .before .before .before .before .args .first) (between (getD offsets at 0) (getD offsets (at + 1) 0) (t .before .loop .counts)))
+      ≡ begun-counts (t .before .before .before .before .before .before .before .before .before .args .first) ns row (t .before .before .before .before .before .before .before .before .before .args .counts .now) at
   own =
-      kept-are-at ns at inside begins ends (found .begins) (found .ends) row (t .before .loop .counts)
-      ∙ kept-same ns row (t .before .before .before .before .before .before .before .before .args .counts .now) (t .before .loop .counts) at (t .before .loop .inv .3 .later at (found .later) inside)
+      begun-are-at ns at inside begins ends (t .before .before .before .before .before .before .before .before .before .args .first) (found .begins) (found .ends) row (t .before .loop .counts)
+      ∙ begun-same (t .before .before .before .before .before .before .before .before .before .args .first) ns row (t .before .before .before .before .before .before .before .before .before .args .counts .now) (t .before .loop .counts) at (t .before .loop .inv .3 .later at (found .later) inside)
 
 mul-rest : tie.Need-mul-rest Inv-loop μ-loop
 mul-rest c = search needs
 
 shared-slice-read-rest : tie.Need-shared-slice-read-rest Inv-loop μ-loop
-shared-slice-read-rest c = omega (arith, c .before .before .before .before .before .before .pre .0, c .before .before .before .before .before .before .pre .1 .1 .1 .1 .0)
+shared-slice-read-rest c = omega (arith, c .before .before .before .before .before .before .before .pre .0, c .before .before .before .before .before .before .before .pre .1 .1 .1 .1 .0)
 
 mul-k : tie.Need-mul-k Inv-loop μ-loop
 mul-k c = search needs
 
 loop-holds : tie.Need-loop-holds Inv-loop μ-loop
 loop-holds c =
-    let a = c .before .before .before .before .before .before .args in
-    (omega arith, refl, all-left (a .row .now) (a .w) (omega arith), led-none _ _ _ _ _ _ (omega arith), omega arith)
+    let a = c .before .before .before .before .before .before .before .args in
+    (omega arith, refl, all-left (a .row .now) (a .w) (omega arith), led-none _ _ _ _ _ _ _ (omega arith), omega arith)
 
 cast-at : tie.Need-cast-at Inv-loop μ-loop
 cast-at c = omega (arith, few c)
@@ -112,10 +112,10 @@ mul-from : tie.Need-mul-from Inv-loop μ-loop
 mul-from c = omega (arith, few c)
 
 shared-slice-read-from : tie.Need-shared-slice-read-from Inv-loop μ-loop
-shared-slice-read-from c = omega (arith, inside (c .before), c .before .before .before .before .before .before .before .before .before .pre .1 .0 .long)
+shared-slice-read-from c = omega (arith, inside (c .before), c .before .before .before .before .before .before .before .before .before .before .pre .1 .0 .long)
 
 cast-from : tie.Need-cast-from Inv-loop μ-loop
-cast-from c = omega (arith, c .shared-slice-known6 .given (at (c .before)) .fits)
+cast-from c = omega (arith, c .shared-slice-known7 .given (at (c .before)) .fits)
 
 add-to : tie.Need-add-to Inv-loop μ-loop
 add-to c = omega (arith, few (c .before))
@@ -124,19 +124,19 @@ mul-to : tie.Need-mul-to Inv-loop μ-loop
 mul-to c = omega (arith, few (c .before))
 
 shared-slice-read-to : tie.Need-shared-slice-read-to Inv-loop μ-loop
-shared-slice-read-to c = omega (arith, inside (c .before .before), c .before .before .before .before .before .before .before .before .before .before .pre .1 .0 .long)
+shared-slice-read-to c = omega (arith, inside (c .before .before), c .before .before .before .before .before .before .before .before .before .before .before .pre .1 .0 .long)
 
 cast-to : tie.Need-cast-to Inv-loop μ-loop
-cast-to c = omega (arith, c .shared-slice-known7 .given (at (c .before .before) + 1) .fits)
+cast-to c = omega (arith, c .shared-slice-known8 .given (at (c .before .before) + 1) .fits)
 
 mul-a : tie.Need-mul-a Inv-loop μ-loop
 mul-a c = omega (arith, few (c .before .before))
 
 shared-slice-read-a : tie.Need-shared-slice-read-a Inv-loop μ-loop
-shared-slice-read-a c = omega (arith, inside (c .before .before .before), c .before .before .before .before .before .before .before .before .before .before .before .pre .1 .1 .0 .long)
+shared-slice-read-a c = omega (arith, inside (c .before .before .before), c .before .before .before .before .before .before .before .before .before .before .before .before .pre .1 .1 .0 .long)
 
 cast-a : tie.Need-cast-a Inv-loop μ-loop
-cast-a c = omega (arith, c .shared-slice-known8 .given (at (c .before .before .before)) .fits)
+cast-a c = omega (arith, c .shared-slice-known9 .given (at (c .before .before .before)) .fits)
 
 add-e : tie.Need-add-e Inv-loop μ-loop
 add-e c = omega (arith, few (c .before .before .before))
@@ -145,22 +145,31 @@ mul-e : tie.Need-mul-e Inv-loop μ-loop
 mul-e c = omega (arith, few (c .before .before .before))
 
 shared-slice-read-e : tie.Need-shared-slice-read-e Inv-loop μ-loop
-shared-slice-read-e c = omega (arith, inside (c .before .before .before .before), c .before .before .before .before .before .before .before .before .before .before .before .before .pre .1 .1 .0 .long)
+shared-slice-read-e c = omega (arith, inside (c .before .before .before .before), c .before .before .before .before .before .before .before .before .before .before .before .before .before .pre .1 .1 .0 .long)
 
 cast-e : tie.Need-cast-e Inv-loop μ-loop
-cast-e c = omega (arith, c .shared-slice-known9 .given (at (c .before .before .before .before) + 1) .fits)
+cast-e c = omega (arith, c .shared-slice-known10 .given (at (c .before .before .before .before) + 1) .fits)
 
 lead-between-requires : tie.Need-lead-between-requires Inv-loop μ-loop
 lead-between-requires c κs =
-    let s = c .before .before .before .before .before .before .before .before .before .before .before .before .before in
+    let s = c .before .before .before .before .before .before .before .before .before .before .before .before .before .before in
     let t = c .before .before .before .before .before in
     let l = c .before .before .before .before .before .before .loop in
     let n = found t in
     let u = turn-lies _ _ (n .inside) (n .begins) (n .ends) in
     let v = counts-lie _ _ (n .inside) (begins t) (ends t) in
-    let m = counts-room _ _ (n .inside) (begins t) (ends t) (n .begins) (n .ends) in (
-      (u .0, omega (arith, u .1, s .pre .1 .1 .1 .1 .0), v .0, omega (arith, v .1, s .pre .1 .1 .1 .1 .0, l .inv .1), m),
-      ((s .pre .0 .2, s .pre .0 .3, s .pre .0 .4, s .pre .0 .5), λ i. rw (own t) (s .pre .1 .1 .1 .1 .1 (at t) (omega (arith, n .later, l .inv .0)) (n .inside) (n .marked) i)),
+    let m = counts-room _ _ (n .inside) (begins t) (ends t) (n .begins) (n .ends) in
+    let o = s .pre .1 .1 .1 .1 .0 in
+    let q = s .pre .1 .1 .1 .1 .1 in
+    let low : w t * 64 ≤ at t = omega (arith, n .later, l .inv .0) in (
+      (u .0, omega (arith, u .1, o), omega (arith, u .1, o), v .0, omega (arith, v .1, o, l .inv .1), m),
+      (
+        (s .pre .0 .2, s .pre .0 .3, s .pre .0 .4, s .pre .0 .5),
+        (
+          (λ i. rw (own t) (q .0 (at t) low (n .inside) (n .marked) i)),
+          (λ i z. rw (own t) (q .1 (at t) low (n .inside) (n .marked) i (sym (ap (λ (ks : List ℕ). getD ks i 0) (bits-are-at (ns t) (at t) (n .inside) (n .begins) (n .ends) (s .args .opened .now))) ∙ z))),
+        ),
+      ),
     )
 
 cast-rest : tie.Need-cast-rest Inv-loop μ-loop
@@ -186,7 +195,7 @@ loop-again c =
       omega (arith, l .inv .0),
       e .0 .2 ∙ l .inv .1,
       next-rest (row t) (w t) (fits t) (k t) (rest t) (l .inv .0) (l .inv .2) (some t),
-      led-turn _ _ _ _ _ _ _ (l .inv .3) _ (n .skips) _ (omega (arith, l .inv .0, n .later)) (n .later) (n .inside) (begins t) (ends t) (e .0 .0) (e .0 .1) (e .1 ∙ ap (added _ _) (own t)),
+      led-turn _ _ _ _ _ _ _ _ (l .inv .3) _ (n .skips) _ (omega (arith, l .inv .0, n .later)) (n .later) (n .inside) (begins t) (ends t) (e .0 .0) (e .0 .1) (n .begins) (n .ends) (e .1 ∙ ap (added _ _) (own t)),
       omega (arith, n .in-word),
     )
 
@@ -195,10 +204,10 @@ same-length c = search needs
 
 returns : tie.Need-returns Inv-loop μ-loop
 returns c =
-    let s = c .before .before .before .before .before .before .before .before in
+    let s = c .before .before .before .before .before .before .before .before .before in
     let l = c .before .loop in
-    let none = rest-none (s .args .row .now) (s .args .w) (c .before .before .shared-slice-known5 .given (s .args .w) .fits) (l .k) (l .rest) (l .inv .0) (l .inv .2) (search needs) in
-    (led-end _ _ _ _ _ _ _ (l .inv .3) (s .args .w * 64 + 64) none, (l .inv .3 .earlier, (λ m h u. l .inv .3 .later m (omega (arith, l .inv .4)) u, l .inv .1)))
+    let none = rest-none (s .args .row .now) (s .args .w) (c .before .before .shared-slice-known6 .given (s .args .w) .fits) (l .k) (l .rest) (l .inv .0) (l .inv .2) (search needs) in
+    (led-end _ _ _ _ _ _ _ _ (l .inv .3) (s .args .w * 64 + 64) none, (l .inv .3 .earlier, (λ m h u. l .inv .3 .later m (omega (arith, l .inv .4)) u, l .inv .1)))
 
 pub lead-sequences-spec : {M : Type 1} → statement M
 lead-sequences-spec =

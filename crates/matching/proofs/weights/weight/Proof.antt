@@ -28,7 +28,7 @@ same-counted {counted = counted} {prefix = prefix} e f = let z : counted - 1 ≡
 -- after the branch
 module _ (j : tie.Joined1) where
   abbrev start : tie.Start
-  start = j .before .before .before .before .before .before .before .before .before .before .before
+  start = j .before .before .before .before .before .before .before .before .before .before .before .before
 
   leads : Leads (start .args .template) (start .args .lengths .now) (start .args .letters .now) (prefix-of (start .args .template) (start .args .motif)) (j .if1 .ways)
   leads =
@@ -44,15 +44,15 @@ module _ (j : tie.Joined1) where
 
 add-fresh : tie.Need-add-fresh
 add-fresh c =
-    let s = c .before .before .before .before .before .before .before .before .before .before in
+    let s = c .before .before .before .before .before .before .before .before .before .before .before in
     let p = s .pre .1 .1 .0 in
     omega (arith, p .2, prefix-small (s .args .template) (s .pre .0) (s .args .motif) (s .args .depth) (p .0) (p .1))
 
 count-ways-requires : tie.Need-count-ways-requires
 count-ways-requires c κs =
-    let p = c .before .before .before .before .before .before .before .before .before .before .before .before .before .pre in
+    let p = c .before .before .before .before .before .before .before .before .before .before .before .before .before .before .pre in
     let n = p .1 .1 .1 .1 .1 .1 .1 .1 in
-    (p .0, (p .1 .0, ((p .1 .1 .0 .0, p .1 .1 .0 .1), (p .1 .1 .1 .0, (p .1 .1 .1 .1 .0, (p .1 .1 .1 .1 .1 .0, (n .0, n .2, n .3)))))))
+    (p .0, (p .1 .0, ((p .1 .1 .0 .0, p .1 .1 .0 .1), (p .1 .1 .1 .0, (p .1 .1 .1 .1 .0, (p .1 .1 .1 .1 .1 .0, (n .0, n .1, n .3, n .4)))))))
 
 add-all-requires : tie.Need-add-all-requires
 add-all-requires c κs =
@@ -70,7 +70,7 @@ add-all-requires c κs =
           (
             row-bounded _ _ (o .adds) (o .few) _ (prefix-long (s .args .template) _ _) _ r,
             (
-              (omega (arith, enough _ _ o, n .1), omega (arith, n .1), omega (arith, o .adds, n .3, ways-long j)),
+              (omega (arith, enough _ _ o, n .2), omega (arith, n .2), omega (arith, o .adds, n .4, ways-long j)),
               (
                 bits-past (s .args .template) (p .0) _ _ o _ _ (p .1 .1 .0 .0) _ r,
                 weighed-small (s .args .template) (p .0) _ _ o (s .args .motif) _ (p .1 .1 .0 .0) _ r _ (leads j),

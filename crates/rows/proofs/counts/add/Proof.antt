@@ -1,7 +1,7 @@
 -- The loop's invariant: the sum so far with what the words from `q` on add is that of all. So no sum on the way is larger than the last.
 use mathlib.Core.List.{List}
 use mathlib.Core.Path.{_≡_}
-use Prim.Native.Nat.{ℕ, _+_, _-_, _*_, _≤_}
+use Prim.Native.Nat.{ℕ, _+_, _-_, _*_, _≤_, min}
 use native.Mathlib.Omega.{arith}
 use lib.ListN.{length, take, drop}
 use borrow.Author.Needs.{needs}
@@ -13,63 +13,57 @@ use Rattle.rows.proofs.counts.add.Statement.{statement}
 use Rattle.rows.proofs.counts.add.Tie as tie
 
 abbrev Inv-loop : tie.InvT-loop
-Inv-loop row counts words n total₀ q₀ total q = (q ≤ length row) × (total + row-left row counts q ≡ sum (masked (held row) counts))
+Inv-loop row counts words total₀ q₀ total q = (q ≤ length row) × (64 * q ≤ length counts) × (total + row-left row counts q ≡ sum (masked (held row) counts))
 
 abbrev μ-loop : tie.MeasureT-loop
-μ-loop row counts words n total₀ q₀ total q = length row - q
+μ-loop row counts words total₀ q₀ total q = length row - q
 
 -- at a turn, what one stretch adds
-module _ (t : tie.After-least2 Inv-loop μ-loop) where
+module _ (t : tie.In-loop Inv-loop μ-loop) where
   abbrev row : List ℕ
-  row = t .before .before .before .before .before .before .before .args .row .now
+  row = t .before .before .before .before .args .row .now
 
   abbrev counts : List ℕ
-  counts = t .before .before .before .before .before .before .before .args .counts .now
+  counts = t .before .before .before .before .args .counts .now
 
   abbrev q : ℕ
-  q = t .before .before .before .loop .q
+  q = t .before .loop .q
 
-  abbrev end : ℕ
-  end = t .before .least .result
+  ends : 64 * q + 1024 ≡ min (64 * (q + 16)) (length counts)
+  ends = omega (arith, t .before .before .before .before .pre .0 .0, t .loop-test .taken)
 
-  low : 64 * q ≤ length counts
-  low = omega (arith, t .before .before .before .before .before .before .before .pre .0 .0, t .before .before .loop-test .taken)
+  inside : q + 16 ≤ length row
+  inside = omega (arith, t .loop-test .taken)
 
-  some : q ≤ end
-  some = omega (arith, t .before .least .ensures, t .before .before .loop-test .taken)
+  next : row-left row counts q ≡ sum (masked (held (take (q + 16 - q) (drop q row))) (part counts q (64 * q + 1024))) + row-left row counts (q + 16)
+  next = stretch-next row counts q (q + 16) ends (t .before .loop .inv .1) (omega arith) inside
 
-  inside : end ≤ length row
-  inside = omega (arith, t .before .least .ensures)
+-- and what those past the last stretch add
+module _ (t : tie.After-loop Inv-loop μ-loop) where
+  abbrev whole : List ℕ
+  whole = t .before .before .before .before .args .row .now
 
-  abbrev stretch : List ℕ
-  stretch = take (end - q) (drop q row)
+  abbrev all : List ℕ
+  all = t .before .before .before .before .args .counts .now
 
-  next : row-left row counts q ≡ sum (masked (held stretch) (part counts q (t .least2 .result))) + row-left row counts end
-  next = stretch-next row counts q end (t .least2 .ensures) low some inside
+  abbrev at : ℕ
+  at = t .before .loop .q
 
-add-words-requires : tie.Need-add-words-requires Inv-loop μ-loop
-add-words-requires c κs = search needs
+  last : length all ≡ min (64 * length whole) (length all)
+  last = omega (arith, t .before .before .before .before .pre .0 .1)
 
-returns : tie.Need-returns Inv-loop μ-loop
-returns c = search needs
+  rest : row-left whole all at ≡ sum (masked (held (take (length whole - at) (drop at whole))) (part all at (length all)))
+  rest =
+      omega (arith, stretch-next whole all at (length whole) last (t .before .loop .inv .1) (t .before .loop .inv .0) (omega arith), row-end whole all (length whole) (omega (arith, t .before .before .before .before .pre .0 .1)))
 
 loop-holds : tie.Need-loop-holds Inv-loop μ-loop
-loop-holds c = (search needs, row-all _ _)
+loop-holds c = (search needs, search needs, row-all _ _)
 
-add-least : tie.Need-add-least Inv-loop μ-loop
-add-least c = search needs
+sub-loop : tie.Need-sub-loop Inv-loop μ-loop
+sub-loop c = search needs
 
-least-requires : tie.Need-least-requires Inv-loop μ-loop
-least-requires c κs = search needs
-
-mul-from : tie.Need-mul-from Inv-loop μ-loop
-mul-from c = search needs
-
-mul-least : tie.Need-mul-least Inv-loop μ-loop
-mul-least c = search needs
-
-least-requires-2 : tie.Need-least-requires-2 Inv-loop μ-loop
-least-requires-2 c κs = search needs
+add-add-stretch : tie.Need-add-add-stretch Inv-loop μ-loop
+add-add-stretch c = search needs
 
 mul-add-stretch : tie.Need-mul-add-stretch Inv-loop μ-loop
 mul-add-stretch c = search needs
@@ -86,6 +80,18 @@ part-add-stretch-end c = search needs
 mul-add-stretch-2 : tie.Need-mul-add-stretch-2 Inv-loop μ-loop
 mul-add-stretch-2 c = search needs
 
+mul-add-stretch-3 : tie.Need-mul-add-stretch-3 Inv-loop μ-loop
+mul-add-stretch-3 c = search needs
+
+mul-add-stretch-4 : tie.Need-mul-add-stretch-4 Inv-loop μ-loop
+mul-add-stretch-4 c = search needs
+
+add-add-stretch-2 : tie.Need-add-add-stretch-2 Inv-loop μ-loop
+add-add-stretch-2 c = search needs
+
+mul-add-stretch-5 : tie.Need-mul-add-stretch-5 Inv-loop μ-loop
+mul-add-stretch-5 c = search needs
+
 sub-add-stretch-2 : tie.Need-sub-add-stretch-2 Inv-loop μ-loop
 sub-add-stretch-2 c = search needs
 
@@ -98,24 +104,66 @@ part-add-stretch-end-2 c = search needs
 add-stretch-requires : tie.Need-add-stretch-requires Inv-loop μ-loop
 add-stretch-requires c κs =
     let t = c .before .before in
-    let p = t .before .before .before .before .before .before .before .pre in (
-      stretch-counts (row t) (counts t) (q t) (end t) (t .least2 .ensures) (low t) (some t) (inside t) (p .0 .0),
-      (stretch-dark (row t) (counts t) (q t) (end t) (t .least2 .ensures) (low t) (some t) (inside t) (p .1 .0), omega (arith, next t)),
+    let p = t .before .before .before .before .pre in
+    let low = t .before .loop .inv .1 in (
+      stretch-counts (row t) (counts t) (q t) (q t + 16) (ends t) low (omega arith) (inside t) (p .0 .0),
+      (stretch-dark (row t) (counts t) (q t) (q t + 16) (ends t) low (omega arith) (inside t) (p .1 .0), omega (arith, next t)),
     )
 
 add-total : tie.Need-add-total Inv-loop μ-loop
 add-total c = omega (arith, next (c .before .before .before))
 
+add-q : tie.Need-add-q Inv-loop μ-loop
+add-q c = search needs
+
 loop-less : tie.Need-loop-less Inv-loop μ-loop
 loop-less c = search needs
 
 loop-again : tie.Need-loop-again Inv-loop μ-loop
-loop-again c = (search needs, omega (arith, next (c .before .before .before)))
+loop-again c = (search needs, omega (arith, ends (c .before .before .before)), omega (arith, next (c .before .before .before)))
 
-returns-2 : tie.Need-returns-2 Inv-loop μ-loop
-returns-2 c =
-    let a = c .before .before .before .before .before .args in
-    omega (arith, row-end (a .row .now) (a .counts .now) (c .before .loop .q) (omega arith))
+mul-add-words : tie.Need-mul-add-words Inv-loop μ-loop
+mul-add-words c = search needs
+
+sub-add-words : tie.Need-sub-add-words Inv-loop μ-loop
+sub-add-words c = search needs
+
+part-add-words-start : tie.Need-part-add-words-start Inv-loop μ-loop
+part-add-words-start c = search needs
+
+part-add-words-end : tie.Need-part-add-words-end Inv-loop μ-loop
+part-add-words-end c = search needs
+
+mul-add-words-2 : tie.Need-mul-add-words-2 Inv-loop μ-loop
+mul-add-words-2 c = search needs
+
+mul-add-words-3 : tie.Need-mul-add-words-3 Inv-loop μ-loop
+mul-add-words-3 c = search needs
+
+sub-add-words-2 : tie.Need-sub-add-words-2 Inv-loop μ-loop
+sub-add-words-2 c = search needs
+
+part-add-words-start-2 : tie.Need-part-add-words-start-2 Inv-loop μ-loop
+part-add-words-start-2 c = search needs
+
+part-add-words-end-2 : tie.Need-part-add-words-end-2 Inv-loop μ-loop
+part-add-words-end-2 c = search needs
+
+add-words-requires : tie.Need-add-words-requires Inv-loop μ-loop
+add-words-requires c κs =
+    let t = c .before .before in
+    let p = t .before .before .before .before .pre in
+    let low = t .before .loop .inv .1 in
+    let some = t .before .loop .inv .0 in (
+      stretch-counts (whole t) (all t) (at t) (length (whole t)) (last t) low some (omega arith) (p .0 .0),
+      (stretch-dark (whole t) (all t) (at t) (length (whole t)) (last t) low some (omega arith) (p .1 .0), omega (arith, rest t)),
+    )
+
+add-result : tie.Need-add-result Inv-loop μ-loop
+add-result c = omega (arith, rest (c .before .before .before))
+
+returns : tie.Need-returns Inv-loop μ-loop
+returns c = omega (arith, rest (c .before .before .before))
 
 pub add-spec : {M : Type 1} → statement M
 add-spec =
@@ -123,24 +171,35 @@ add-spec =
     (tie.spec
     Inv-loop
     μ-loop
-    add-words-requires
-    returns
     loop-holds
-    add-least
-    least-requires
-    mul-from
-    mul-least
-    least-requires-2
+    sub-loop
+    add-add-stretch
     mul-add-stretch
     sub-add-stretch
     part-add-stretch-start
     part-add-stretch-end
     mul-add-stretch-2
+    mul-add-stretch-3
+    mul-add-stretch-4
+    add-add-stretch-2
+    mul-add-stretch-5
     sub-add-stretch-2
     part-add-stretch-start-2
     part-add-stretch-end-2
     add-stretch-requires
     add-total
+    add-q
     loop-less
     loop-again
-    returns-2)
+    mul-add-words
+    sub-add-words
+    part-add-words-start
+    part-add-words-end
+    mul-add-words-2
+    mul-add-words-3
+    sub-add-words-2
+    part-add-words-start-2
+    part-add-words-end-2
+    add-words-requires
+    add-result
+    returns)

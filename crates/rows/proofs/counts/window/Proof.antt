@@ -1,35 +1,37 @@
--- The loop's invariant: `total` is the sum of the first `k` counts. Each is at most `Count-MOST`, and there are at most 256.
+-- The loop's invariant: `total` is the sum of the first `k` counts that the row lets stand. Each is at most `Count-MOST`, and there are at
+-- most 256.
 use mathlib.Core.Path.{_≡_, ap, _∙_}
 use Prim.Native.Nat.{_+_, _-_, _≤_}
 use native.Mathlib.Omega.{arith}
 use borrow.Author.Needs.{needs}
-use Rattle.rows.specs.Flags.{Count-MOST, recent}
+use Rattle.rows.specs.Bits.{held}
+use Rattle.rows.specs.Flags.{Count-MOST, recent, masked}
 use Rattle.rows.proofs.Gaps.{ago-bound, recent-sum-bound}
 use Rattle.rows.proofs.Masks.{recent-zero, recent-more}
 use Rattle.rows.proofs.counts.window.Statement.{statement}
 use Rattle.rows.proofs.counts.window.Tie as tie
 
 abbrev Inv-loop : tie.InvT-loop
-Inv-loop counts o d n total₀ k₀ total k = (k ≤ n) × (total ≡ recent counts o d k)
+Inv-loop row counts o d n total₀ k₀ total k = (k ≤ n) × (total ≡ recent (masked (held row) counts) o d k)
 
 abbrev μ-loop : tie.MeasureT-loop
-μ-loop counts o d n total₀ k₀ total k = n - k
+μ-loop row counts o d n total₀ k₀ total k = n - k
 
 loop-holds : tie.Need-loop-holds Inv-loop μ-loop
 loop-holds c = (search needs, recent-zero _ _ _)
 
-add-before : tie.Need-add-before Inv-loop μ-loop
-add-before c = search needs
+add-held-before : tie.Need-add-held-before Inv-loop μ-loop
+add-held-before c = search needs
 
-before-requires : tie.Need-before-requires Inv-loop μ-loop
-before-requires c κs = search needs
+held-before-requires : tie.Need-held-before-requires Inv-loop μ-loop
+held-before-requires c κs = search needs
 
 add-total : tie.Need-add-total Inv-loop μ-loop
 add-total c =
-    let a = c .before .before .before .before .args in
-    let p = c .before .before .before .before .pre in
+    let a = c .before .before .before .before .before .args in
+    let p = c .before .before .before .before .before .pre in
     let l = c .before .before .loop in
-    omega (arith, recent-sum-bound (a .counts .now) Count-MOST (p .1) (a .o) (a .d) (l .k), ago-bound (a .counts .now) Count-MOST (p .1) (a .o) (a .d + l .k))
+    omega (arith, recent-sum-bound (masked (held (a .row .now)) (a .counts .now)) Count-MOST (p .1) (a .o) (a .d) (l .k), ago-bound (masked (held (a .row .now)) (a .counts .now)) Count-MOST (p .1) (a .o) (a .d + l .k))
 
 add-k : tie.Need-add-k Inv-loop μ-loop
 add-k c = search needs
@@ -38,7 +40,7 @@ loop-less : tie.Need-loop-less Inv-loop μ-loop
 loop-less c = search needs
 
 loop-again : tie.Need-loop-again Inv-loop μ-loop
-loop-again c = (search needs, recent-more _ _ _ _ (c .before .before .loop .inv .1) (c .before2 .ensures))
+loop-again c = (search needs, recent-more _ _ _ _ (c .before .before .loop .inv .1) (c .held-before .ensures))
 
 returns : tie.Need-returns Inv-loop μ-loop
 returns c = c .before .loop .inv .1 ∙ ap (recent _ _ _) (search needs)
@@ -50,8 +52,8 @@ window-spec =
     Inv-loop
     μ-loop
     loop-holds
-    add-before
-    before-requires
+    add-held-before
+    held-before-requires
     add-total
     add-k
     loop-less

@@ -2,7 +2,7 @@
 use borrow.Author.Needs.{needs}
 use mathlib.Core.Path.{sym, _∙_}
 use Prim.Native.Nat.{_-_}
-use borrow.Rule.Slice.PartMut.{mid-len, same-len-mid}
+use borrow.Rule.Slice.PartMut.{mid-len, same-len-mid, drop-put}
 use Rattle.rows.specs.Set.{between}
 use Rattle.rows.proofs.Sets.{part-opened}
 use Rattle.rows.proofs.gap.open_between.Statement.{statement}
@@ -32,23 +32,10 @@ part-open-gap-start-2 c = search needs
 part-open-gap-end-2 : tie.Need-part-open-gap-end-2
 part-open-gap-end-2 c = search needs
 
-mul-open-gap-3 : tie.Need-mul-open-gap-3
-mul-open-gap-3 c = search needs
-
-sub-open-gap-3 : tie.Need-sub-open-gap-3
-sub-open-gap-3 c = search needs
-
-part-open-gap-start-3 : tie.Need-part-open-gap-start-3
-part-open-gap-start-3 c = search needs
-
-part-open-gap-end-3 : tie.Need-part-open-gap-end-3
-part-open-gap-end-3 c = search needs
-
 open-gap-requires : tie.Need-open-gap-requires
 open-gap-requires c κs =
-    let a = c .before .before .before .before .before .before .args in
-    let n = mid-len (a .from) (a .to) (a .row .now) (search needs) in
-    (mid-len (a .from) (a .to) (a .spare .now) (search needs) ∙ sym n, mid-len (a .from) (a .to) (a .out .now) (search needs) ∙ sym n, search needs)
+    let a = c .before .before .before .before .args in
+    (mid-len (a .from) (a .to) (a .spare .now) (search needs) ∙ sym (mid-len (a .from) (a .to) (a .row .now) (search needs)), search needs)
 
 same-length : tie.Need-same-length
 same-length c = search needs
@@ -59,10 +46,13 @@ same-length-2 c = search needs
 returns : tie.Need-returns
 unfolding between
 returns c =
-    let a = c .before .before .before .before .before .before .before .before .before .before .before .args in
+    let a = c .before .before .before .before .before .before .before .before .before .args in
     let o = c .before .before .before .before .open-gap in
-    let e = part-opened (a .from) (a .to) (a .out .now) (search needs) (search needs) (o .last .1 .1 .1 .1 .0) (o .kept .1 .1 .1 .1 .0) (o .ensures) in
-    ((e .0, e .1, same-len-mid (a .from) (a .to - a .from) (a .spare .now) (o .last .1 .1 .1 .0) (o .kept .1 .1 .1 .0)), e .2)
+    let ys = o .last .1 .1 .1 .0 in
+    let n = o .kept .1 .1 .1 .0 in
+    let e = part-opened (a .from) (a .to) (a .row .now) (search needs) (search needs) ys n (o .ensures) in
+    let f = drop-put (a .from) (a .to) (a .row .now) ys (search needs) (search needs) (n ∙ mid-len (a .from) (a .to) (a .row .now) (search needs)) in
+    ((e .0, f), ((e .1, same-len-mid (a .from) (a .to - a .from) (a .spare .now) (o .last .1 .1 .0) (o .kept .1 .1 .0)), e .2))
 
 pub open-between-spec : {M : Type 1} → statement M
 open-between-spec =
@@ -76,10 +66,6 @@ open-between-spec =
     sub-open-gap-2
     part-open-gap-start-2
     part-open-gap-end-2
-    mul-open-gap-3
-    sub-open-gap-3
-    part-open-gap-start-3
-    part-open-gap-end-3
     open-gap-requires
     same-length
     same-length-2

@@ -11,27 +11,27 @@ sub-if1 c = search needs
 mul-open-word : tie.Need-mul-open-word
 mul-open-word c = search needs
 
-shared-slice-read-open-word : tie.Need-shared-slice-read-open-word
-shared-slice-read-open-word c = search needs
+slice-read-open-word : tie.Need-slice-read-open-word
+slice-read-open-word c = search needs
 
 open-word-requires : tie.Need-open-word-requires
 open-word-requires c κs = search needs
 
-mul-out : tie.Need-mul-out
-mul-out c = search needs
+mul-row : tie.Need-mul-row
+mul-row c = search needs
 
-slice-write-out : tie.Need-slice-write-out
-slice-write-out c = search needs
+slice-write-row : tie.Need-slice-write-row
+slice-write-row c = search needs
 
 same-length : tie.Need-same-length
 same-length c = search needs
 
 returns : tie.Need-returns
 returns c =
-    let a = c .before .before .before .before .before .before .args in
+    let a = c .before .before .before .before .before .args in
     let o = c .open-word in
-    let e = one-opened (a .from) (a .to) (a .d) (a .count) (a .row .now) (a .out .now) (search needs) (search needs) (search needs) (o .result) (o .ensures) in
-    ((e .0, e .1, refl), e .2)
+    let e = one-opened (a .from) (a .to) (a .d) (a .count) (a .row .now) (search needs) (search needs) (o .result) (o .ensures) in
+    ((e .0, e .1), ((e .2, refl), e .3))
 
 open-between-requires : tie.Need-open-between-requires
 open-between-requires c κs = search needs
@@ -51,10 +51,10 @@ open-sequence-spec =
     (tie.spec
     sub-if1
     mul-open-word
-    shared-slice-read-open-word
+    slice-read-open-word
     open-word-requires
-    mul-out
-    slice-write-out
+    mul-row
+    slice-write-row
     same-length
     returns
     open-between-requires

@@ -7,7 +7,7 @@ use native.Mathlib.Omega.{arith}
 use Rattle.rows.specs.Bits.{held}
 use Rattle.rows.specs.Rows.{window}
 use Rattle.rows.proofs.Window.{window-one, spread-more, open-end}
-use Rattle.rows.proofs.Turns.{bit-small}
+use Rattle.rows.proofs.Bits.{bit-small}
 use Rattle.rows.proofs.Opened.{joined-word}
 use Rattle.rows.proofs.gap.open_word.Statement.{statement}
 use Rattle.rows.proofs.gap.open_word.Tie as tie

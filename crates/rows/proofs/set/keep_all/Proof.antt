@@ -1,5 +1,5 @@
--- Each turn writes the sequences of one word of marks and then the word itself, which stands before all sequences; and those that are lost
--- are taken off those that can have a mark.
+-- A short set is left to a function that promises the same. In any other each turn writes the sequences of one word of marks and then the
+-- word itself, which stands before all sequences; and those that are lost are taken off those that can have a mark.
 use borrow.Author.Needs.{needs}
 use mathlib.Core.Path.{_≡_, refl, _∙_}
 use Prim.Native.Nat.{_-_, _≤_}
@@ -7,7 +7,7 @@ use native.Mathlib.Omega.{arith}
 use lib.ListN.{length, length-set}
 use Rattle.rows.specs.Set.{Row-MARKS}
 use Rattle.rows.proofs.Marks.{marks-in, mark-in}
-use Rattle.rows.proofs.Possible.{Possible, possible-begin, possible-most, possible-end, lost-most, possible-turn}
+use Rattle.rows.proofs.Possible.{Possible, possible-begin, stopped, ended, lost-most, possible-turn}
 use Rattle.rows.proofs.Sets.{first-past}
 use Rattle.rows.proofs.set.keep_all.Statement.{statement}
 use Rattle.rows.proofs.set.keep_all.Tie as tie
@@ -15,36 +15,62 @@ use Rattle.rows.proofs.set.keep_all.Reads as reads
 use Rattle.rows.proofs.set.keep_all.Lts as lts
 use Rattle.rows.proofs.set.count.Reads as count-reads
 use Rattle.rows.proofs.set.keep_sequences.Reads as keep-sequences-reads
+use Rattle.rows.proofs.set.keep_short.Reads as keep-short-reads
 
 abbrev Inv-loop : tie.InvT-loop
-Inv-loop lengths firsts row letter i quorum out₀ possible₀ w₀ out possible w = (w ≤ Row-MARKS) × (length out ≡ length out₀) × (Possible i lengths letter row quorum out possible w)
+Inv-loop lengths firsts row letter i quorum out₀ last possible₀ w₀ out possible w = (w ≤ Row-MARKS) × (length out ≡ length out₀) × (Possible i lengths letter row quorum out possible w)
 
 abbrev μ-loop : tie.MeasureT-loop
-μ-loop lengths firsts row letter i quorum out₀ possible₀ w₀ out possible w = Row-MARKS - w
+μ-loop lengths firsts row letter i quorum out₀ last possible₀ w₀ out possible w = Row-MARKS - w
 
-count-requires : tie.Need-count-requires Inv-loop μ-loop
-count-requires c κs =
+sub-last : tie.Need-sub-last Inv-loop μ-loop
+sub-last c =
     let s = c .before .before .before .before .before in
-    omega (arith, s .pre .1 .1 .1 .0, first-past (s .args .lengths .now) (length (s .args .lengths .now)))
+    omega (arith, s .pre .1 .0 .long)
 
-loop-holds : tie.Need-loop-holds Inv-loop μ-loop
-loop-holds c =
+mul-if1 : tie.Need-mul-if1 Inv-loop μ-loop
+mul-if1 c =
+    let s = c .before .before .before .before .before in
+    omega (arith, s .good .1 .0)
+
+shared-slice-read-if1 : tie.Need-shared-slice-read-if1 Inv-loop μ-loop
+shared-slice-read-if1 c =
     let s = c .before .before .before .before .before .before in
-    (omega arith, refl, possible-begin (s .args .i) (s .args .lengths .now) (s .args .letter .now) (s .args .row .now) (s .args .quorum) (s .args .out .now) (omega (arith, s .pre .1 .1 .1 .0, first-past (s .args .lengths .now) (length (s .args .lengths .now)))) (c .count .ensures))
+    omega (arith, s .pre .1 .0 .long)
+
+keep-short-requires : tie.Need-keep-short-requires Inv-loop μ-loop
+keep-short-requires c κs =
+    let s = c .before .before .before .before .before .before .before .before in
+    (s .pre .0, (s .pre .1 .0, (c .before .if1 .taken, (s .pre .1 .1 .0, s .pre .1 .1 .1))))
 
 same-length : tie.Need-same-length Inv-loop μ-loop
 same-length c = search needs
 
 returns : tie.Need-returns Inv-loop μ-loop
-returns c =
-    let s = c .before .before .before .before .before .before .before .before .before in
+returns c = c .before .before .keep-short .ensures
+
+count-requires : tie.Need-count-requires Inv-loop μ-loop
+count-requires c κs =
+    let s = c .before .before .before .before .before .before .before in
+    omega (arith, s .pre .1 .1 .1 .0, first-past (s .args .lengths .now) (length (s .args .lengths .now)))
+
+loop-holds : tie.Need-loop-holds Inv-loop μ-loop
+loop-holds c =
+    let s = c .before .before .before .before .before .before .before .before in
+    (omega arith, refl, possible-begin (s .args .i) (s .args .lengths .now) (s .args .letter .now) (s .args .row .now) (s .args .quorum) (s .args .out .now) (omega (arith, s .pre .1 .1 .1 .0, first-past (s .args .lengths .now) (length (s .args .lengths .now)))) (c .count .ensures))
+
+same-length-2 : tie.Need-same-length-2 Inv-loop μ-loop
+same-length-2 c = search needs
+
+returns-2 : tie.Need-returns-2 Inv-loop μ-loop
+returns-2 c =
+    let s = c .before .before .before .before .before .before .before .before .before .before .before in
     let l = c .before .before .loop in
-    let few = c .if1 .taken in
-    (possible-most (s .args .i) (s .args .lengths .now) (s .args .letter .now) (s .args .row .now) (s .args .quorum) (l .out) (l .possible) (l .w) (l .inv .2) (l .inv .0), ((λ h. absurd (omega (arith, h, few))), ((λ h. absurd (omega (arith, h, few))), ((λ h. absurd (omega (arith, h, few))), l .inv .1))))
+    stopped (s .args .i) (s .args .lengths .now) (s .args .letter .now) (s .args .row .now) (s .args .quorum) (l .out) (l .possible) (l .w) (l .inv .2) (l .inv .0) (c .if2 .taken) (l .inv .1)
 
 keep-sequences-requires : tie.Need-keep-sequences-requires Inv-loop μ-loop
 keep-sequences-requires c κs =
-    let s = c .before .before .before .before .before .before .before .before .before .before in
+    let s = c .before .before .before .before .before .before .before .before .before .before .before .before in
     let l = c .before .before .before .loop in
     ((search needs, s .pre .0 .0, s .pre .0 .1), (s .pre .1 .0, (s .pre .1 .1 .0, (s .pre .1 .1 .1 .0, s .pre .1 .1 .1 .1, l .inv .1 ∙ s .pre .1 .1 .1 .2))))
 
@@ -53,18 +79,18 @@ mul-out c = search needs
 
 slice-write-out : tie.Need-slice-write-out Inv-loop μ-loop
 slice-write-out c =
-    let s = c .before .before .before .before .before .before .before .before .before .before .before .before .before in
+    let s = c .before .before .before .before .before .before .before .before .before .before .before .before .before .before .before in
     let l = c .before .before .before .before .before .before .loop in
     let e = c .before .before .keep-sequences .ensures in
-    mark-in _ _ (e .1 .1 .1 .0 .1) (l .inv .1) (s .pre .1 .1 .1 .2) (s .pre .1 .1 .1 .0) _ (search needs)
+    mark-in _ _ (e .1 .1 .0 .1) (l .inv .1) (s .pre .1 .1 .1 .2) (s .pre .1 .1 .1 .0) _ (search needs)
 
 sub-possible : tie.Need-sub-possible Inv-loop μ-loop
 sub-possible c =
-    let s = c .before .before .before .before .before .before .before .before .before .before .before .before .before .before in
+    let s = c .before .before .before .before .before .before .before .before .before .before .before .before .before .before .before .before in
     let l = c .before .before .before .before .before .before .before .loop in
     let k = c .before .before .before .keep-sequences in
     let e = k .ensures in
-    let h = c .before .before .before .before .before .if1 .left in
+    let h = c .before .before .before .before .before .if2 .left in
     let i = c .before .before .before .before .before .before .loop-test .taken in
     omega (arith, lost-most (s .args .i) (s .args .lengths .now) (s .args .letter .now) (s .args .row .now) (s .args .quorum) (l .out) (l .possible) (l .w) (l .inv .2) (omega (arith, h)) i (k .result .lost) (e .0))
 
@@ -76,27 +102,44 @@ loop-less c = search needs
 
 loop-again : tie.Need-loop-again Inv-loop μ-loop
 loop-again c =
-    let s = c .before .before .before .before .before .before .before .before .before .before .before .before .before .before in
+    let s = c .before .before .before .before .before .before .before .before .before .before .before .before .before .before .before .before in
     let l = c .before .before .before .before .before .before .before .loop in
     let k = c .before .before .before .keep-sequences in
     let e = k .ensures in
-    let h = c .before .before .before .before .before .if1 .left in
+    let h = c .before .before .before .before .before .if2 .left in
     let i = c .before .before .before .before .before .before .loop-test .taken in
-    let long = marks-in _ _ (e .1 .1 .1 .0 .1) (l .inv .1) (s .pre .1 .1 .1 .2) (s .pre .1 .1 .1 .0) in (
+    let long = marks-in _ _ (e .1 .1 .0 .1) (l .inv .1) (s .pre .1 .1 .1 .2) (s .pre .1 .1 .1 .0) in (
       search needs,
-      length-set (k .last .1 .1 .1 .1 .1 .1 .1 .0) (l .w) (k .result .left) ∙ e .1 .1 .1 .0 .1 ∙ l .inv .1,
-      possible-turn (s .args .i) (s .args .lengths .now) (s .args .letter .now) (s .args .row .now) (s .args .quorum) (l .out) (l .possible) (l .w) (l .inv .2) (omega (arith, h)) i (k .result .lost) (e .0) _ (k .result .left) (e .1 .1 .1 .0 .0) long (e .1 .0) (e .1 .1 .0) (e .1 .1 .1 .1),
+      length-set (k .last .1 .1 .1 .1 .1 .1 .1 .0) (l .w) (k .result .left) ∙ e .1 .1 .0 .1 ∙ l .inv .1,
+      possible-turn (s .args .i) (s .args .lengths .now) (s .args .letter .now) (s .args .row .now) (s .args .quorum) (l .out) (l .possible) (l .w) (l .inv .2) (omega (arith, h)) i (k .result .lost) (e .0) _ (k .result .left) (e .1 .1 .0 .0) long (e .1 .0) (e .1 .1 .1 .0),
     )
 
-same-length-2 : tie.Need-same-length-2 Inv-loop μ-loop
-same-length-2 c = search needs
+same-length-3 : tie.Need-same-length-3 Inv-loop μ-loop
+same-length-3 c = search needs
 
-returns-2 : tie.Need-returns-2 Inv-loop μ-loop
-returns-2 c =
-    let s = c .before .before .before .before .before .before .before .before in
-    let l = c .before .loop in
-    let all = possible-end (s .args .i) (s .args .lengths .now) (s .args .letter .now) (s .args .row .now) (s .args .quorum) (l .out) (l .possible) (l .w) (l .inv .2) (omega (arith, l .inv .0, c .loop-test .left)) (s .pre .0 .0) in
-    (possible-most (s .args .i) (s .args .lengths .now) (s .args .letter .now) (s .args .row .now) (s .args .quorum) (l .out) (l .possible) (l .w) (l .inv .2) (l .inv .0), ((λ h. all h .0), ((λ h. all h .1), ((λ h. all h .2), l .inv .1))))
+returns-3 : tie.Need-returns-3 Inv-loop μ-loop
+returns-3 c =
+    let s = c .before .before .before .before .before .before .before .before .before .before .before in
+    let l = c .before .before .loop in
+    stopped (s .args .i) (s .args .lengths .now) (s .args .letter .now) (s .args .row .now) (s .args .quorum) (l .out) (l .possible) (l .w) (l .inv .2) (l .inv .0) (c .if3 .taken) (l .inv .1)
+
+count-requires-2 : tie.Need-count-requires-2 Inv-loop μ-loop
+count-requires-2 c κs =
+    let s = c .before .before .before .before .before .before .before .before .before .before .before .before in
+    let l = c .before .before .before .loop in
+    marks-in _ _ refl (l .inv .1) (s .pre .1 .1 .1 .2) (s .pre .1 .1 .1 .0)
+
+same-length-4 : tie.Need-same-length-4 Inv-loop μ-loop
+same-length-4 c = search needs
+
+returns-4 : tie.Need-returns-4 Inv-loop μ-loop
+returns-4 c =
+    let s = c .before .before .before .before .before .before .before .before .before .before .before .before .before in
+    let l = c .before .before .before .before .loop in
+    let w : l .w ≡ Row-MARKS = omega (arith, l .inv .0, c .before .before .before .loop-test .left) in
+    let q : s .args .quorum ≤ l .possible = omega (arith, c .before .before .if3 .left) in
+    let wide = marks-in _ _ refl (l .inv .1) (s .pre .1 .1 .1 .2) (s .pre .1 .1 .1 .0) in
+    ended (s .args .i) (s .args .lengths .now) (s .args .letter .now) (s .args .row .now) (s .args .quorum) (l .out) (l .possible) (l .w) (l .inv .2) w q (s .pre .0 .0) wide (c .count2 .ensures) (l .inv .1)
 
 pub keep-all-spec : {M : Type 1} → statement M
 keep-all-spec =
@@ -104,10 +147,16 @@ keep-all-spec =
     (tie.spec
     Inv-loop
     μ-loop
-    count-requires
-    loop-holds
+    sub-last
+    mul-if1
+    shared-slice-read-if1
+    keep-short-requires
     same-length
     returns
+    count-requires
+    loop-holds
+    same-length-2
+    returns-2
     keep-sequences-requires
     mul-out
     slice-write-out
@@ -115,5 +164,8 @@ keep-all-spec =
     add-w
     loop-less
     loop-again
-    same-length-2
-    returns-2)
+    same-length-3
+    returns-3
+    count-requires-2
+    same-length-4
+    returns-4)

@@ -6,12 +6,12 @@ use native.Mathlib.Omega.{arith}
 use lib.ListN.{length, length-set, getD}
 use Rattle.rows.specs.Set.{Row-MARKS, first-word}
 use Rattle.rows.proofs.Sets.{first-none, first-next}
-use Rattle.rows.proofs.Offsets.{offset-of, offset-none, offset-next, offset-most, length-most, first-bound, Tabled, tabled-first, tabled-more, tabled-firsts, tabled-offsets}
+use Rattle.rows.proofs.Offsets.{offset-of, offset-none, offset-next, offset-most, length-most, first-bound, Short, short-none, short-more, Tabled, tabled-first, tabled-more, tabled-firsts, tabled-offsets}
 use Rattle.rows.proofs.set.lay_out.Statement.{statement}
 use Rattle.rows.proofs.set.lay_out.Tie as tie
 
 abbrev Inv-loop : tie.InvT-loop
-Inv-loop lengths firsts₀ offsets₀ first₀ offset₀ k₀ firsts offsets first offset k =
+Inv-loop lengths firsts₀ offsets₀ first₀ offset₀ short₀ k₀ firsts offsets first offset short k =
     (k ≤ length lengths)
     × (length firsts ≡ length firsts₀)
     × (length offsets ≡ length offsets₀)
@@ -19,9 +19,10 @@ Inv-loop lengths firsts₀ offsets₀ first₀ offset₀ k₀ firsts offsets fir
     × (offset ≡ offset-of lengths k)
     × (Tabled (first-word lengths) k firsts)
     × (Tabled (offset-of lengths) k offsets)
+    × (Short lengths k short)
 
 abbrev μ-loop : tie.MeasureT-loop
-μ-loop lengths firsts₀ offsets₀ first₀ offset₀ k₀ firsts offsets first offset k = length lengths - k
+μ-loop lengths firsts₀ offsets₀ first₀ offset₀ short₀ k₀ firsts offsets first offset short k = length lengths - k
 
 cast-first : tie.Need-cast-first Inv-loop μ-loop
 cast-first c = search needs
@@ -42,6 +43,7 @@ loop-holds c =
       offset-none (s .args .lengths .now),
       tabled-first _ (s .args .firsts .now) (first-none _) (search needs),
       tabled-first _ (s .args .offsets .now) (offset-none (s .args .lengths .now)) (search needs),
+      short-none _,
     )
 
 mul-n : tie.Need-mul-n Inv-loop μ-loop
@@ -107,10 +109,31 @@ loop-again c =
       o,
       tabled-more _ _ _ (l .inv .5) f (omega (arith, l .inv .1, length-set (s .args .firsts .now) 0 Row-MARKS, s .pre .1 .0)),
       tabled-more _ _ _ (l .inv .6) o (omega (arith, l .inv .2, length-set (s .args .offsets .now) 0 0, s .pre .1 .1)),
+      short-more _ _ _ (l .inv .7) (c .words-of .ensures),
     )
 
+sub-last : tie.Need-sub-last Inv-loop μ-loop
+sub-last c =
+    let s = c .before .before .before .before .before in
+    omega (arith, c .before .loop .inv .1, length-set (s .args .firsts .now) 0 Row-MARKS, s .pre .1 .0)
+
+cast-firsts : tie.Need-cast-firsts Inv-loop μ-loop
+cast-firsts c = search needs
+
+mul-firsts-2 : tie.Need-mul-firsts-2 Inv-loop μ-loop
+mul-firsts-2 c =
+    let s = c .before .before .before .before .before in
+    omega (arith, c .before .loop .inv .1, length-set (s .args .firsts .now) 0 Row-MARKS, s .good .1 .0)
+
+slice-write-firsts-3 : tie.Need-slice-write-firsts-3 Inv-loop μ-loop
+slice-write-firsts-3 c =
+    let s = c .before .before .before .before .before in
+    omega (arith, c .before .loop .inv .1, length-set (s .args .firsts .now) 0 Row-MARKS, s .pre .1 .0)
+
 same-length : tie.Need-same-length Inv-loop μ-loop
-same-length c = let s = c .before .before .before .before .before in c .before .loop .inv .1 ∙ length-set (s .args .firsts .now) 0 Row-MARKS
+same-length c =
+    let s = c .before .before .before .before .before in
+    length-set (c .before .loop .firsts) _ _ ∙ c .before .loop .inv .1 ∙ length-set (s .args .firsts .now) 0 Row-MARKS
 
 same-length-2 : tie.Need-same-length-2 Inv-loop μ-loop
 same-length-2 c = let s = c .before .before .before .before .before in c .before .loop .inv .2 ∙ length-set (s .args .offsets .now) 0 0
@@ -121,7 +144,7 @@ returns c =
     let l = c .before .loop in
     let f = l .inv .1 ∙ length-set (s .args .firsts .now) 0 Row-MARKS in
     let o = l .inv .2 ∙ length-set (s .args .offsets .now) 0 0 in
-    (tabled-firsts _ _ _ (search needs) (omega (arith, f, s .pre .1 .0)) (l .inv .5), (tabled-offsets _ _ _ (search needs) (omega (arith, o, s .pre .1 .1)) (l .inv .6), (f, o)))
+    (tabled-firsts _ _ _ (search needs) (omega (arith, f, s .pre .1 .0)) (l .inv .5) _ (l .inv .7), (tabled-offsets _ _ _ (search needs) (omega (arith, o, s .pre .1 .1)) (l .inv .6), (length-set (l .firsts) _ _ ∙ f, o)))
 
 pub lay-out-spec : {M : Type 1} → statement M
 lay-out-spec =
@@ -145,6 +168,10 @@ lay-out-spec =
     slice-write-offsets-2
     loop-less
     loop-again
+    sub-last
+    cast-firsts
+    mul-firsts-2
+    slice-write-firsts-3
     same-length
     same-length-2
     returns)

@@ -1,6 +1,6 @@
 -- Spread over the window and then shifted by the distance of its nearest bit.
-use mathlib.Core.Path.{ap, _∙_}
 use borrow.Author.Needs.{needs}
+use mathlib.Core.Path.{ap, _∙_}
 use Rattle.rows.specs.Bits.{held}
 use Rattle.rows.specs.Rows.{window}
 use Rattle.rows.proofs.Window.{open-end}

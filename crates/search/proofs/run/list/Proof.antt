@@ -13,7 +13,7 @@ use Rattle.search.proofs.run.list.Tie as tie
 -- where it is a motif
 module _ (t : tie.Then1) where
   abbrev start : tie.Start
-  start = t .before .before .before .before .before .before .before .before .before .before .before .before .before .before
+  start = t .before .before .before .before .before .before .before .before .before .before .before .before .before .before .before
 
   room : (start .args .rows < length (start .args .motifs .now)) × (start .args .rows < length (start .args .supports .now)) × (start .args .rows < length (start .args .weights .now))
   room = start .pre .1 .1 .1 .1 .0 (t .if1 .taken)
@@ -39,7 +39,7 @@ weight-requires c κs =
                 m .path,
                 (
                   p .1 .1 .1 .1 .1 .1 .1 .0 h,
-                  (p .1 .1 .1 .1 .1 .1 .1 .1, (omega (arith, w .0, p .1 .0 .deep, o .rows-long), o .work-long, o .spare-long, p .1 .1 .1 .0)),
+                  (p .1 .1 .1 .1 .1 .1 .1 .1, (o .evens-long, o .odds-long, o .work-long, o .spare-long, p .1 .1 .1 .0)),
                 ),
               ),
             ),
@@ -96,7 +96,7 @@ returns c =
 
 returns-2 : tie.Need-returns-2
 returns-2 c =
-    let p = c .before .before .before .before .before .before .before .before .before .before .before .before .before .before .pre in
+    let p = c .before .before .before .before .before .before .before .before .before .before .before .before .before .before .before .pre in
     rw (c .if1 .left) (refl, (refl, (refl, (refl, (p .1 .1 .1 .1 .1 .1 .1 .1, (refl, refl))))))
 
 pub list-spec : {M : Type 1} → statement M

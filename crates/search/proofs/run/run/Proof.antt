@@ -22,27 +22,28 @@ use Rattle.matching.specs.Path.{Made}
 use Rattle.matching.specs.Weights.{prefix-of, Counted}
 use Rattle.search.specs.Told.{room-of}
 use Rattle.search.proofs.Follow.{follow-ended, follow-spent, follow-full}
-use Rattle.search.proofs.Round.{Running, run-start, run-depth, run-below, run-step, run-done, motif-is, next-is, frequent-is, hit-reaches, down-reaches, row-left, run-lengths}
-use Rattle.search.proofs.Turn.{tables-still, none-counted, hit-whole, down-short, prefix-fits, counted-as, below-whole, made-whole, row-whole, made-next}
+use Rattle.search.proofs.Round.{Running, run-start, run-depth, run-below, run-step, run-done, motif-is, next-is, frequent-is, hit-reaches, good-reaches, row-left, run-lengths}
+use Rattle.search.proofs.Rowed.{path-first}
+use Rattle.search.proofs.Turn.{tables-still, none-counted, hit-whole, prefix-fits, counted-as, below-whole, made-whole, row-whole, made-still, made-next}
 use Rattle.search.proofs.run.run.Statement.{statement}
 use Rattle.search.proofs.run.run.Tie as tie
 
 abbrev Inv-loop : tie.InvT-loop
-Inv-loop letters lengths s budget motifs₀ supports₀ weights₀ inside firsts offsets standing slots₀ work₀ spare₀ ways₀ template quorum reach depth room bits j₀ m₀ steps₀ rows₀ counted₀ motifs supports weights slots work spare ways j m steps rows counted =
+Inv-loop letters lengths s budget motifs₀ supports₀ weights₀ inside firsts offsets standing evens₀ odds₀ work₀ spare₀ ways₀ template quorum reach depth room bits j₀ m₀ steps₀ rows₀ counted₀ motifs supports weights evens odds work spare ways j m steps rows counted =
     (o : SoundSearch letters lengths s) × Running letters lengths s o budget room motifs₀ supports₀ weights₀ motifs supports weights steps rows (place j m)
-    × (1 ≤ j → Made (s .template) lengths letters inside firsts offsets standing slots j m) × Counted (s .template) lengths letters counted ways
+    × (1 ≤ j → Made (s .template) lengths letters inside firsts offsets standing evens odds j m) × Counted (s .template) lengths letters counted ways
     × (depth ≡ size (s .template)) × (room ≡ room-of motifs₀ supports₀ weights₀)
     × (length motifs ≡ length motifs₀) × (length supports ≡ length supports₀) × (length weights ≡ length weights₀)
-    × (length slots ≡ length slots₀) × (length work ≡ length work₀) × (length spare ≡ length spare₀) × (length ways ≡ length ways₀)
+    × (length evens ≡ length evens₀) × (length odds ≡ length odds₀) × (length work ≡ length work₀) × (length spare ≡ length spare₀) × (length ways ≡ length ways₀)
 
 abbrev μ-loop : tie.MeasureT-loop
-μ-loop letters lengths s budget motifs₀ supports₀ weights₀ inside firsts offsets standing slots₀ work₀ spare₀ ways₀ template quorum reach depth room bits j₀ m₀ steps₀ rows₀ counted₀ motifs supports weights slots work spare ways j m steps rows counted =
+μ-loop letters lengths s budget motifs₀ supports₀ weights₀ inside firsts offsets standing evens₀ odds₀ work₀ spare₀ ways₀ template quorum reach depth room bits j₀ m₀ steps₀ rows₀ counted₀ motifs supports weights evens odds work spare ways j m steps rows counted =
     budget - steps
 
 -- at the loop's test
 module _ (l : tie.At-loop Inv-loop μ-loop) where
   abbrev start : tie.Start Inv-loop μ-loop
-  start = l .before .before .before .before .before .before .before .before .before .before .before .before .before .before .before .before .before .before .before .before
+  start = l .before .before .before .before .before .before .before .before .before .before .before .before .before .before .before .before .before .before .before .before .before
 
   deep : l .loop .j ≤ size (start .args .s .template)
   deep = run-depth _ _ _ (l .loop .inv .0) _ _ _ _ _ (l .loop .inv .1)
@@ -57,7 +58,7 @@ module _ (l : tie.At-loop Inv-loop μ-loop) where
 -- at a candidate within the budget, once it is known whether it is listed
 module _ (d : tie.After-listed Inv-loop μ-loop) where
   abbrev top : tie.At-loop Inv-loop μ-loop
-  top = d .before .before .before .before .before .before .before .before .before
+  top = d .before .before .before .before .before .before .before .before .before .before .before .before .before .before .before .before .before
 
   abbrev letters : List ℕ
   letters = start top .args .letters .now
@@ -68,17 +69,17 @@ module _ (d : tie.After-listed Inv-loop μ-loop) where
   abbrev s : Search
   s = start top .args .s
 
-  abbrev supported : tie.After-support Inv-loop μ-loop
-  supported = d .before .before .before .before
+  abbrev supported : tie.After-examine Inv-loop μ-loop
+  supported = d .before .before .before .before .before .before .before .before .before .before
 
   some : 1 ≤ top .loop .j
-  some = d .before .before .before .before .before .before .before .before .loop-test .taken
+  some = d .before .before .before .before .before .before .before .before .before .before .before .before .before .before .before .before .loop-test .taken
 
   less : top .loop .steps < start top .args .budget
-  less = omega (arith, top .loop .inv .1 .follow .steps, d .before .before .before .before .before .before .before .if1 .left)
+  less = omega (arith, top .loop .inv .1 .follow .steps, d .before .before .before .before .before .before .before .before .before .before .before .before .before .before .before .if1 .left)
 
   good : d .before .reaches .result ≡ frequent (s .template) (s .quorum) (sequences letters lengths) (top .loop .j) (top .loop .m)
-  good = frequent-is letters lengths s (place (top .loop .j) (top .loop .m)) some (supported .support .ensures .0) (supported .support .ensures .1 .0) (d .before .reaches .ensures)
+  good = frequent-is letters lengths s (place (top .loop .j) (top .loop .m)) some (supported .examine .ensures .0) (supported .examine .ensures .1 .0) (d .before .reaches .ensures)
 
   listed : motif (walk-of letters lengths s) (place (top .loop .j) (top .loop .m)) ≡ d .listed .result
   listed = motif-is letters lengths s (place (top .loop .j) (top .loop .m)) _ _ _ (top .loop .inv .4) good (d .listed .ensures)
@@ -87,7 +88,7 @@ module _ (d : tie.After-listed Inv-loop μ-loop) where
   whole = hit-whole (top .loop .j) _ _ (d .listed .ensures)
 
   -- and what was found of it reaches the quorum
-  hits : d .listed .result ≡ true → s .quorum ≤ supported .support .result
+  hits : d .listed .result ≡ true → s .quorum ≤ supported .examine .result
   hits = hit-reaches (eqb (top .loop .j) (top .before .before .before .before .before .letters .result)) (s .quorum) _ (d .listed .ensures) (d .before .reaches .ensures)
 
 -- once it is known that there is room for it
@@ -102,15 +103,15 @@ module _ (e : tie.Else2 Inv-loop μ-loop) where
 
 -- where it was known, from where its row is written if it is listed
 abbrev judged : tie.After-list Inv-loop μ-loop → tie.After-listed Inv-loop μ-loop
-judged w = w .before .before .before .before .before .before .before .before .before
+judged w = w .before .before .before .before .before .before .before .before .before .before
 
 -- and where that is, from before the next place
-abbrev written : tie.After-slice-known15 Inv-loop μ-loop → tie.After-list Inv-loop μ-loop
-written k = k .before .before .before .before .before .before .before .before .before .before .before .before .before .before .before .before .before .before .before
+abbrev written : tie.After-counted-for Inv-loop μ-loop → tie.After-list Inv-loop μ-loop
+written k = k .before .before .before .before .before .before .before .before .before .before .before
 
 cast-reach : tie.Need-cast-reach Inv-loop μ-loop
 cast-reach c =
-    let a = c .before .before .before .before .before .before .before .before .before .before .before .before .before .before in
+    let a = c .before .before .before .before .before .before .before .before .before .before .before .before .before .before .before in
     let o = search-sound (a .args .letters .now) (a .args .lengths .now) (a .args .s) (a .pre .0) in
     omega (arith, o .most, o .set .few)
 
@@ -119,7 +120,7 @@ letters-requires c κs = search needs
 
 cast-depth : tie.Need-cast-depth Inv-loop μ-loop
 cast-depth c =
-    let a = c .before .before .before .before .before .before .before .before .before .before .before .before .before .before .before in
+    let a = c .before .before .before .before .before .before .before .before .before .before .before .before .before .before .before .before in
     omega (arith, c .letters .ensures, search-sound (a .args .letters .now) (a .args .lengths .now) (a .args .s) (a .pre .0) .template .deep)
 
 least-requires : tie.Need-least-requires Inv-loop μ-loop
@@ -130,15 +131,15 @@ least-requires-2 c κs = search needs
 
 last-bits-requires : tie.Need-last-bits-requires Inv-loop μ-loop
 last-bits-requires c κs =
-    let a = c .before .before .before .before .before .before .before .before .before .before .before .before .before .before .before .before .before in
+    let a = c .before .before .before .before .before .before .before .before .before .before .before .before .before .before .before .before .before .before in
     search-sound (a .args .letters .now) (a .args .lengths .now) (a .args .s) (a .pre .0) .template
 
 loop-holds : tie.Need-loop-holds Inv-loop μ-loop
 loop-holds c =
-    let a = c .before .before .before .before .before .before .before .before .before .before .before .before .before .before .before .before .before .before .before in
+    let a = c .before .before .before .before .before .before .before .before .before .before .before .before .before .before .before .before .before .before .before .before in
     let o = search-sound (a .args .letters .now) (a .args .lengths .now) (a .args .s) (a .pre .0) in
     let e : c .before .before .least2 .result ≡ room-of (a .args .motifs .now) (a .args .supports .now) (a .args .weights .now) = omega (arith, c .before .before .least2 .ensures, c .before .before .before .least .ensures) in
-    (o, run-start _ _ _ o _ _ _ _ _, a .pre .1 .1 .1, none-counted _ _ _ _, c .before .before .before .before .letters .ensures, e, refl, refl, refl, refl, refl, refl, refl)
+    (o, run-start _ _ _ o _ _ _ _ _, a .pre .1 .1 .1, none-counted _ _ _ _, c .before .before .before .before .letters .ensures, e, refl, refl, refl, refl, refl, refl, refl, refl)
 
 stopped-requires : tie.Need-stopped-requires Inv-loop μ-loop
 stopped-requires c κs = search needs
@@ -148,14 +149,14 @@ returns c =
     let i = c .before .before .before .loop .inv in
     run-done _ _ _ (i .0) _ _ _ _ _ (i .1) spent (follow-spent _ _ _ _ _ _ _ _ _ (i .1 .follow) (omega arith) (c .before .if1 .taken)) refl (c .stopped .ensures) (i .5)
 
-support-requires : tie.Need-support-requires Inv-loop μ-loop
-support-requires c κs =
-    let l = c .before .before .before .before in
+examine-requires : tie.Need-examine-requires Inv-loop μ-loop
+examine-requires c κs =
+    let l = c .before .before .before .before .before .before in
     let i = l .loop .inv in
     let t = start l .pre .1 .0 in
-    let h = c .before .before .before .loop-test .taken in
+    let h = c .before .before .before .before .before .loop-test .taken in
     let m = i .2 h in
-    (i .0 .template, (i .0 .set, ((h, deep l), (m .ready, (m .path, (omega (arith, deep l, i .0 .template .deep, i .9, t .rows-long), i .10 ∙ t .work-long))))))
+    (i .0 .template, (i .0 .set, ((h, omega (arith, deep l, i .4), i .4), (m .ready, (m .path, (i .9 ∙ t .evens-long, i .10 ∙ t .odds-long, i .11 ∙ t .work-long, i .12 ∙ t .spare-long))))))
 
 reaches-requires : tie.Need-reaches-requires Inv-loop μ-loop
 reaches-requires c κs = search needs
@@ -166,6 +167,59 @@ listed-requires c κs = search needs
 stopped-requires-2 : tie.Need-stopped-requires-2 Inv-loop μ-loop
 stopped-requires-2 c κs = search needs
 
+-- where the tables are full, those for the work are as the candidate left them
+same-length-9 : tie.Need-same-length-9 Inv-loop μ-loop
+same-length-9 c =
+    let d = c .before .before in
+    let i = top d .loop .inv in
+    i .6
+
+same-length-10 : tie.Need-same-length-10 Inv-loop μ-loop
+same-length-10 c =
+    let d = c .before .before in
+    let i = top d .loop .inv in
+    i .7
+
+same-length-11 : tie.Need-same-length-11 Inv-loop μ-loop
+same-length-11 c =
+    let d = c .before .before in
+    let i = top d .loop .inv in
+    i .8
+
+same-length-12 : tie.Need-same-length-12 Inv-loop μ-loop
+same-length-12 c =
+    let d = c .before .before in
+    let i = top d .loop .inv in
+    let z = supported d .examine .ensures .1 .1 .1 .1 .1 in
+    z .0 ∙ i .9
+
+same-length-13 : tie.Need-same-length-13 Inv-loop μ-loop
+same-length-13 c =
+    let d = c .before .before in
+    let i = top d .loop .inv in
+    let z = supported d .examine .ensures .1 .1 .1 .1 .1 in
+    z .1 ∙ i .10
+
+same-length-14 : tie.Need-same-length-14 Inv-loop μ-loop
+same-length-14 c =
+    let d = c .before .before in
+    let i = top d .loop .inv in
+    let z = supported d .examine .ensures .1 .1 .1 .1 .1 in
+    z .2 ∙ i .11
+
+same-length-15 : tie.Need-same-length-15 Inv-loop μ-loop
+same-length-15 c =
+    let d = c .before .before in
+    let i = top d .loop .inv in
+    let z = supported d .examine .ensures .1 .1 .1 .1 .1 in
+    z .3 ∙ i .12
+
+same-length-16 : tie.Need-same-length-16 Inv-loop μ-loop
+same-length-16 c =
+    let d = c .before .before in
+    let i = top d .loop .inv in
+    i .13
+
 returns-2 : tie.Need-returns-2 Inv-loop μ-loop
 returns-2 c =
     let d = c .before .before in
@@ -174,31 +228,32 @@ returns-2 c =
     run-done _ _ _ (i .0) _ _ _ _ _ (i .1) full (follow-full _ _ _ _ _ _ _ _ _ (i .1 .follow) (some d) (less d) (listed d ∙ t .0) (eqb-true _ _ (t .1))) refl (c .stopped2 .ensures) (i .5)
 
 cast-prefix : tie.Need-cast-prefix Inv-loop μ-loop
-cast-prefix c = omega (arith, c .before .before .before .before .before .before .before .before .before .before .before .before .last-bits .ensures .1)
+cast-prefix c = omega (arith, c .before .before .before .before .before .before .before .before .before .before .before .before .before .before .before .before .before .before .before .before .last-bits .ensures .1)
 
 shr-prefix : tie.Need-shr-prefix Inv-loop μ-loop
-shr-prefix c = c .before .before .before .before .before .before .before .before .before .before .before .before .last-bits .ensures .1
+shr-prefix c = c .before .before .before .before .before .before .before .before .before .before .before .before .before .before .before .before .before .before .before .before .last-bits .ensures .1
 
 list-requires : tie.Need-list-requires Inv-loop μ-loop
 list-requires c κs =
-    let e = c .before .before .before .before .before .before .before in
+    let e = c .before .before .before .before .before .before .before .before in
     let d = e .before in
     let l = top d in
     let i = l .loop .inv in
     let p = start l .pre in
-    let r = supported d .support .ensures .1 .1 in (
+    let r = supported d .examine .ensures .1 .1 in
+    let n = r .1 .1 .1 in (
       i .0 .set,
       (
         i .0 .template,
         (
-          tables-still (p .1 .0) (i .9) (r .1 ∙ i .10) (i .11),
+          tables-still (p .1 .0) (n .0 ∙ i .9) (n .1 ∙ i .10) (n .2 ∙ i .11) (n .3 ∙ i .12),
           (
-            omega (arith, i .12, i .0 .set .short, p .1 .1 .0),
+            omega (arith, i .13, i .0 .set .short, p .1 .1 .0),
             (
               left e,
               (
                 λ h. (i .4, below-whole (l .loop .j) (l .loop .m) (whole d h) (below l), prefixed l),
-                (λ h. made-whole (l .loop .j) (l .loop .m) (whole d h) (i .2 (some d)), (λ h. row-whole (s d .template) (l .loop .j) (l .loop .m) (whole d h) (r .0 (hits d h)), i .3)),
+                (λ h. made-whole (l .loop .j) (l .loop .m) (whole d h) (made-still (i .2 (some d)) (r .1 .1 .0)), (λ h. row-whole (s d .template) (l .loop .j) (l .loop .m) (whole d h) (r .1 .0 (hits d h) (whole d h)), i .3)),
               ),
             ),
           ),
@@ -210,17 +265,6 @@ counted-for-requires : tie.Need-counted-for-requires Inv-loop μ-loop
 counted-for-requires c κs =
     let l = top (judged (c .before .before .before .before .before .before .before .before .before .before)) in
     prefix-fits _ (l .loop .inv .0 .template) _ (l .loop .m) _ (deep l) (below l) (prefixed l)
-
-keep-requires : tie.Need-keep-requires Inv-loop μ-loop
-keep-requires c κs =
-    let w = c .before .before .before .before .before .before .before .before .before .before .before .before .before .before in
-    let d = judged w in
-    let l = top d in
-    let i = l .loop .inv in
-    let t = start l .pre .1 .0 in
-    let m = i .2 (some d) in
-    let r = supported d .support .ensures .1 .1 in
-    (i .0 .set, (i .0 .template, ((some d, down-short (l .loop .j) _ _ (d .before .reaches .result) (i .4)), (m .ready .placed, (m .ready .laid, (m .path, ((λ h. r .0 (down-reaches _ (s d .quorum) _ (d .before .reaches .ensures) h)), (i .9 ∙ t .rows-long, r .1 ∙ i .10 ∙ t .work-long, w .list .ensures .1 .1 .1 .1 .1 .0 ∙ i .11 ∙ t .spare-long))))))))
 
 next-place-requires : tie.Need-next-place-requires Inv-loop μ-loop
 next-place-requires c κs =
@@ -239,26 +283,28 @@ loop-again c =
     let d = judged w in
     let l = top d in
     let i = l .loop .inv in
-    let v = supported d .support .ensures in
+    let v = supported d .examine .ensures in
+    let x = v .1 .1 in
+    let z = x .1 .1 .1 in
     let r = w .list .ensures in
-    let k = c .before .before .before .before .before .keep .ensures in
     let e = c .next-place .ensures _ (sym (good d)) in
-    let n = run-step _ _ _ (i .0) _ _ _ _ _ (i .1) (some d) (less d) (next-is (letters d) (lengths d) (s d) _ (place (l .loop .j) (l .loop .m)) (i .4) e) _ (listed d) (w .before .before .before .before .before .before .before .before .if2 .left)
+    let n = run-step _ _ _ (i .0) _ _ _ _ _ (i .1) (some d) (less d) (next-is (letters d) (lengths d) (s d) _ (place (l .loop .j) (l .loop .m)) (i .4) e) _ (listed d) (w .before .before .before .before .before .before .before .before .before .if2 .left)
     (omega (arith, i .5)) (omega (arith, i .5)) (omega (arith, i .5)) (λ h. v .1 .0 (hits d h)) (r .1 .0) (r .1 .1 .0) (r .1 .1 .1 .0) (r .0) in
     let t = run-lengths _ _ _ (i .0) _ _ _ _ _ n (i .5) in (
       i .0,
       n,
-      λ h. made-next (s d .template) (lengths d) (letters d) (l .loop .j) (l .loop .m) _ _ (i .2 (some d)) (good d) (k .0) (k .1 .0) e,
-      counted-as (c .before .before .before .before .before .before .before .before .before .counted-for .ensures) (r .1 .1 .1 .1 .0),
+      λ h. made-next (s d .template) (lengths d) (letters d) (l .loop .j) (l .loop .m) _ _ (made-still (i .2 (some d)) (x .1 .1 .0)) (λ g h. path-first (l .loop .m) (x .0 (good-reaches (s d .quorum) _ (d .before .reaches .ensures) (good d ∙ g)) h)) e,
+      counted-as (c .before .counted-for .ensures) (r .1 .1 .1 .1 .0),
       i .4,
       i .5,
       t .0,
       t .1,
       t .2,
-      k .1 .1 .0 ∙ i .9,
-      v .1 .1 .1 ∙ i .10,
-      k .1 .1 .1 ∙ r .1 .1 .1 .1 .1 .0 ∙ i .11,
-      r .1 .1 .1 .1 .1 .1 ∙ i .12,
+      z .0 ∙ i .9,
+      z .1 ∙ i .10,
+      z .2 ∙ i .11,
+      r .1 .1 .1 .1 .1 .0 ∙ z .3 ∙ i .12,
+      r .1 .1 .1 .1 .1 .1 ∙ i .13,
     )
 
 stopped-requires-3 : tie.Need-stopped-requires-3 Inv-loop μ-loop
@@ -269,14 +315,14 @@ returns-3 c =
     let i = c .before .before .loop .inv in
     run-done _ _ _ (i .0) _ _ _ _ _ (i .1) ended (follow-ended _ _ _ _ _ _ _ _ _ (i .1 .follow) (omega arith)) refl (c .stopped3 .ensures) (i .5)
 
--- at each return the seven tables have the lengths that they came with: the invariant says so, and the search finds it there
+-- at each return the eight tables have the lengths that they came with: the invariant says so, and where it is all the search finds it
 pub run-spec : {M : Type 1} → statement M
 run-spec =
     tie.close
     (tie.spec
     Inv-loop μ-loop cast-reach letters-requires cast-depth least-requires least-requires-2 last-bits-requires loop-holds
-    stopped-requires (λ c. search needs) (λ c. search needs) (λ c. search needs) (λ c. search needs) (λ c. search needs) (λ c. search needs) (λ c. search needs) returns
-    support-requires reaches-requires listed-requires
-    stopped-requires-2 (λ c. search needs) (λ c. search needs) (λ c. search needs) (λ c. search needs) (λ c. search needs) (λ c. search needs) (λ c. search needs) returns-2
-    cast-prefix shr-prefix list-requires counted-for-requires keep-requires next-place-requires add-steps loop-less loop-again
-    stopped-requires-3 (λ c. search needs) (λ c. search needs) (λ c. search needs) (λ c. search needs) (λ c. search needs) (λ c. search needs) (λ c. search needs) returns-3)
+    stopped-requires (λ c. search needs) (λ c. search needs) (λ c. search needs) (λ c. search needs) (λ c. search needs) (λ c. search needs) (λ c. search needs) (λ c. search needs) returns
+    examine-requires reaches-requires listed-requires
+    stopped-requires-2 same-length-9 same-length-10 same-length-11 same-length-12 same-length-13 same-length-14 same-length-15 same-length-16 returns-2
+    cast-prefix shr-prefix list-requires counted-for-requires next-place-requires add-steps loop-less loop-again
+    stopped-requires-3 (λ c. search needs) (λ c. search needs) (λ c. search needs) (λ c. search needs) (λ c. search needs) (λ c. search needs) (λ c. search needs) (λ c. search needs) returns-3)
