@@ -14,6 +14,6 @@ prints() { # NAME COMMAND..
     echo "examples/$name.c, $machine: as examples/$name.out says"
 }
 
-for program in legs fasta; do
+for program in legs mixed fasta; do
     over_library "examples/$program.c" prints "$program"
 done

@@ -12,7 +12,7 @@
 
 static uint8_t file[BYTES + 1], letters[TULFASHEQ_LETTERS];
 static uint32_t lengths[TULFASHEQ_SEQUENCES];
-static const uint16_t shape[6] = {6, 0, 0, 6, 15, 19};
+static const uint16_t shape[6] = {6, 0, 0, 6, 15, 19}, allowances[2] = {0, 0};
 
 static int refused(uint64_t answer, uint64_t place) {
     printf("refused %" PRIu64 " %" PRIu64 "\n", answer, place);
@@ -54,7 +54,8 @@ int main(void) {
     if (read_records(size, &used, &count))
         return 1;
 
-    uint64_t answer = tulfasheq_begin(letters, used, lengths, count, 2, shape, 6, 3, saved, sizeof saved, &place, &saved_size);
+    uint64_t answer = tulfasheq_begin(letters, used, lengths, count, TULFASHEQ_EXACT, 2, shape, 6, allowances, 2, 3, saved,
+                                      sizeof saved, &place, &saved_size);
     if (answer != TULFASHEQ_OK)
         return refused(answer, place);
     do {

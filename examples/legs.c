@@ -10,7 +10,7 @@
 
 static const uint8_t letters[12] = {'A', 'C', 'G', 'T', 'A', 'C', 'A', 'G', 'G', 'T', 'A', 'T'};
 static const uint32_t lengths[3] = {5, 5, 2};
-static const uint16_t shape[6] = {1, 0, 0, 1, 0, 1};
+static const uint16_t shape[6] = {1, 0, 0, 1, 0, 1}, allowances[2] = {0, 0};
 
 /* What is wrong with saved bytes. */
 static const char *fault(uint64_t answer) {
@@ -52,7 +52,8 @@ static int leg(uint8_t *saved, size_t size, uint64_t budget) {
 int main(void) {
     uint8_t saved[TULFASHEQ_SAVED_MOST], copy[TULFASHEQ_SAVED_MOST];
     uint64_t place, size;
-    uint64_t answer = tulfasheq_begin(letters, 12, lengths, 3, 2, shape, 6, 2, saved, sizeof saved, &place, &size);
+    uint64_t answer = tulfasheq_begin(letters, 12, lengths, 3, TULFASHEQ_EXACT, 2, shape, 6, allowances, 2, 2, saved, sizeof saved,
+                                      &place, &size);
     if (answer != TULFASHEQ_OK)
         return refused(answer, place);
     if (leg(saved, size, 4))

@@ -1,5 +1,5 @@
-/* What header.c, header_fasta.c and stack.c share: numbers and arrays are compared with what they should be, and what differs is
- * printed, with its line. */
+/* What header.c, header_mixed.c, header_fasta.c and stack.c share: numbers and arrays are compared with what they should be, and
+ * what differs is printed, with its line. */
 #include <inttypes.h>
 #include <stddef.h>
 #include <stdio.h>

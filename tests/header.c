@@ -1,17 +1,19 @@
 /* The header held to the paper: the number of each name that it declares, and the functions of a search on the paper's set E, each
- * answered and refused. header_fasta.c has the reader of FASTA files. header.sh builds both over the library, runs them, and sees
- * to it that each name of the header is in a CHECK.
+ * answered and refused. header_mixed.c has the mixed profile, and header_fasta.c the reader of FASTA files. header.sh builds all
+ * three over the library, runs them, and sees to it that each name of the header is in a CHECK.
  *
  * What a call may write holds 7s before it, so that what it sets to 0 shows, and what it leaves. Each number of 64 bits that is
  * passed is once above 2^32, where its low half alone would have another answer. */
 #include "check.h"
 #include "tulfasheq.h"
 
-/* The set ACGTA, CAGGT, AT and the template N[0,1]N, as the calls take them. */
+/* The set ACGTA, CAGGT, AT and the template N[0,1]N of the exact profile, as the calls take them. Its allowances are not looked
+ * at. */
 static const uint8_t letters[12] = {'A', 'C', 'G', 'T', 'A', 'C', 'A', 'G', 'G', 'T', 'A', 'T'};
 static const uint32_t lengths[3] = {5, 5, 2};
-static const uint16_t shape[6] = {1, 0, 0, 1, 0, 1};
+static const uint16_t shape[6] = {1, 0, 0, 1, 0, 1}, allowances[2] = {9, 65535};
 #define E letters, 12, lengths, 3
+#define PAIR(shape) TULFASHEQ_EXACT, 2, shape, 6, allowances, 2
 
 /* A save of its search, quorum 2: the size record and the two components', then the place record. */
 #define RECORDS                                      \
@@ -49,6 +51,10 @@ static void answers(void) {
     CHECK(TULFASHEQ_SAVED_BLANK, 21);
     CHECK(TULFASHEQ_SAVED_SUM, 22);
     CHECK(TULFASHEQ_PLACE_RULE, 23);
+    CHECK(TULFASHEQ_ALLOWANCE, 24);
+
+    CHECK(TULFASHEQ_EXACT, 0);
+    CHECK(TULFASHEQ_MIXED, 1);
 
     /* The paper tells stops apart in this order, without numbers. */
     CHECK(TULFASHEQ_ENDED, 1);
@@ -62,6 +68,7 @@ static void limits(void) {
     CHECK(TULFASHEQ_COMPONENTS, 6);
     CHECK(TULFASHEQ_LENGTH, 12);
     CHECK(TULFASHEQ_MOTIF, 32);
+    CHECK(TULFASHEQ_MIXED_MOTIF, 16);
     CHECK(TULFASHEQ_GAP, 255);
 
     CHECK(TULFASHEQ_SHAPE, 18);
@@ -76,17 +83,17 @@ static void begin(void) {
     static const uint16_t wide[6] = {1, 0, 0, 1, 0, 256};
     uint8_t saved[ROOM] = {UNTOUCHED};
     uint64_t place = 7, size = 7;
-    CHECK(tulfasheq_begin(E, 2, wide, 6, 2, saved, ROOM, &place, &size), 8);
+    CHECK(tulfasheq_begin(E, PAIR(wide), 2, saved, ROOM, &place, &size), 8);
     CHECK(place, 2);
     CHECK(size, 0);
     place = size = 7;
-    CHECK(tulfasheq_begin(E, 2, shape, 6, 4294967298, saved, ROOM, &place, &size), 9);
+    CHECK(tulfasheq_begin(E, PAIR(shape), 4294967298, saved, ROOM, &place, &size), 9);
     CHECK(place, 0);
     CHECK(size, 0);
     CHECK_ARRAY(saved, UNTOUCHED);
 
     place = size = 7;
-    CHECK(tulfasheq_begin(E, 2, shape, 6, 2, saved, ROOM, &place, &size), 0);
+    CHECK(tulfasheq_begin(E, PAIR(shape), 2, saved, ROOM, &place, &size), 0);
     CHECK(place, 0);
     CHECK(size, 64);
     CHECK_ARRAY(saved, RECORDS, PLACE(1, 0), 7, 7);
@@ -147,27 +154,31 @@ static void restore(void) {
     static const uint8_t saved[64] = {RECORDS, PLACE(2, 3)};
     uint64_t place = 7, quorum = 7, next_number = 7;
     uint32_t sequences = 7, total = 7;
-    uint16_t components = 7, told[20] = {SEVENS, 7, 7, 7, 7};
+    uint16_t profile = 7, components = 7, told[20] = {SEVENS, 7, 7, 7, 7}, told_allowances[8] = {7, 7, 7, 7, 7, 7, 7, 7};
     uint8_t next_letters = 7;
-    CHECK(tulfasheq_restore(E, saved, 63, &place, &components, told, 20, &quorum, &sequences, &total, &next_letters,
-                            &next_number),
+    CHECK(tulfasheq_restore(E, saved, 63, &place, &profile, &components, told, 20, told_allowances, 8, &quorum, &sequences, &total,
+                            &next_letters, &next_number),
           10);
     CHECK(place, 0);
+    CHECK(profile, 0);
     CHECK(components, 0);
     CHECK_ARRAY(told, SEVENS, 7, 7, 7, 7);
+    CHECK_ARRAY(told_allowances, 7, 7, 7, 7, 7, 7, 7, 7);
     CHECK(quorum, 0);
     CHECK(sequences, 0);
     CHECK(total, 0);
     CHECK(next_letters, 0);
     CHECK(next_number, 0);
 
-    place = 7;
-    CHECK(tulfasheq_restore(E, saved, 64, &place, &components, told, 20, &quorum, &sequences, &total, &next_letters,
-                            &next_number),
+    place = profile = 7;
+    CHECK(tulfasheq_restore(E, saved, 64, &place, &profile, &components, told, 20, told_allowances, 8, &quorum, &sequences, &total,
+                            &next_letters, &next_number),
           0);
     CHECK(place, 0);
+    CHECK(profile, 0);
     CHECK(components, 2);
     CHECK_ARRAY(told, 1, 0, 0, 1, 0, 1, 0, 0, 0, 0, 0, 0, 0, 0, 0, 0, 0, 0, 7, 7);
+    CHECK_ARRAY(told_allowances, 0, 0, 0, 0, 0, 0, 7, 7);
     CHECK(quorum, 2);
     CHECK(sequences, 3);
     CHECK(total, 12);
@@ -179,21 +190,21 @@ static void restore(void) {
 static void save(void) {
     uint8_t out[ROOM] = {UNTOUCHED};
     uint64_t place = 7, size = 7;
-    CHECK(tulfasheq_save(E, 2, shape, 6, 3, 3, 12, 2, 4, out, ROOM, &place, &size), 13);
+    CHECK(tulfasheq_save(E, PAIR(shape), 3, 3, 12, 2, 4, out, ROOM, &place, &size), 13);
     CHECK(place, 0);
     CHECK(size, 0);
     place = size = 7;
-    CHECK(tulfasheq_save(E, 2, shape, 6, 4294967298, 3, 12, 2, 3, out, ROOM, &place, &size), 9);
+    CHECK(tulfasheq_save(E, PAIR(shape), 4294967298, 3, 12, 2, 3, out, ROOM, &place, &size), 9);
     CHECK(place, 0);
     CHECK(size, 0);
     place = size = 7;
-    CHECK(tulfasheq_save(E, 2, shape, 6, 2, 3, 12, 2, 4294967299, out, ROOM, &place, &size), 23);
+    CHECK(tulfasheq_save(E, PAIR(shape), 2, 3, 12, 2, 4294967299, out, ROOM, &place, &size), 23);
     CHECK(place, 3);
     CHECK(size, 0);
     CHECK_ARRAY(out, UNTOUCHED);
 
     place = size = 7;
-    CHECK(tulfasheq_save(E, 2, shape, 6, 2, 3, 12, 2, 3, out, ROOM, &place, &size), 0);
+    CHECK(tulfasheq_save(E, PAIR(shape), 2, 3, 12, 2, 3, out, ROOM, &place, &size), 0);
     CHECK(place, 0);
     CHECK(size, 64);
     CHECK_ARRAY(out, RECORDS, PLACE(2, 3), 7, 7);
@@ -203,19 +214,19 @@ static void save(void) {
 static void recover(void) {
     uint32_t out[11] = {7, 7, 7, 7, 7, 7, 7, 7, 7, 7, 7};
     uint64_t place = 7, rows = 7, length = 7;
-    CHECK(tulfasheq_recover(E, 2, shape, 6, 4294967298, 0, out, 11, &place, &rows, &length), 14);
+    CHECK(tulfasheq_recover(E, PAIR(shape), 4294967298, 0, out, 11, &place, &rows, &length), 14);
     CHECK(place, 0);
     CHECK(rows, 0);
     CHECK(length, 0);
     place = rows = length = 7;
-    CHECK(tulfasheq_recover(E, 2, shape, 6, 2, 4294967296, out, 11, &place, &rows, &length), 15);
+    CHECK(tulfasheq_recover(E, PAIR(shape), 2, 4294967296, out, 11, &place, &rows, &length), 15);
     CHECK(place, 0);
     CHECK(rows, 0);
     CHECK(length, 0);
     CHECK_ARRAY(out, 7, 7, 7, 7, 7, 7, 7, 7, 7, 7, 7);
 
     place = rows = length = 7;
-    CHECK(tulfasheq_recover(E, 2, shape, 6, 2, 0, out, 11, &place, &rows, &length), 0);
+    CHECK(tulfasheq_recover(E, PAIR(shape), 2, 0, out, 11, &place, &rows, &length), 0);
     CHECK(place, 0);
     CHECK(rows, 3);
     CHECK(length, 3);

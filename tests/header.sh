@@ -1,18 +1,18 @@
 #!/bin/sh
-# The header, from C: its functions are declared as the proved source has them; header.c and header_fasta.c compare each of its
-# numbers, and what each function answers and leaves. A name that is in no CHECK of theirs is not tested, and fails too.
+# The header, from C: its functions are declared as the proved source has them; header.c, header_mixed.c and header_fasta.c compare
+# each of its numbers, and what each function answers and leaves. A name that is in no CHECK of theirs is not tested, and fails too.
 set -eu
 cd "$(dirname "$0")/.."
 # shellcheck source=examples/build.sh
 . examples/build.sh
 
-# ---- its names: all but that of the file and those of the two enums, which have no number
+# ---- its names: all but that of the file and those of the three enums, which have no number
 
 names=$(grep -o -i -w 'tulfasheq_[a-z0-9_]*' include/tulfasheq.h | sort -u |
-    grep -v -x -e TULFASHEQ_H -e tulfasheq_answer -e tulfasheq_stop)
+    grep -v -x -e TULFASHEQ_H -e tulfasheq_profile -e tulfasheq_answer -e tulfasheq_stop)
 untested=
 for name in $names; do
-    grep -q -w -e "CHECK($name" tests/header.c tests/header_fasta.c || untested="$untested $name"
+    grep -q -w -e "CHECK($name" tests/header.c tests/header_mixed.c tests/header_fasta.c || untested="$untested $name"
 done
 if [ -n "$untested" ]; then
     echo "tests/header.sh: in no CHECK:$untested"
@@ -51,6 +51,6 @@ holds() { # NAME COMMAND..
     echo "tests/$name.c, $machine: $(tail -n 1 "$work/out")"
 }
 
-for program in header header_fasta; do
+for program in header header_mixed header_fasta; do
     over_library "tests/$program.c" holds "$program"
 done

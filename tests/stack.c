@@ -1,5 +1,6 @@
-/* How much stack a call uses: each function of the header, answered and refused, over what is as large as it may be, on a thread
- * whose stack has STACK bytes. stack.sh builds it over the library, runs it, and sees to it that each function is in its table.
+/* How much stack a call uses: each function of the header, answered and refused, over what is as large as it may be, in both
+ * profiles, on a thread whose stack has STACK bytes. stack.sh builds it over the library, runs it, and sees to it that each function
+ * is in its table.
  *
  * The stack is memory of ours, so that it can be looked at from outside: it holds a pattern before a call, and is used down to the
  * lowest word that has changed since. What the thread itself takes counts too, and is the first row; a small call shows no more.
@@ -20,14 +21,19 @@
 /* Not 0, with which tables are cleared, and no number of a call's: where it is written, it does not show. */
 #define PATTERN UINT64_C(0xb5a7c3d1e9f58b6d)
 
-/* 32 letters in as many components as may be (a recovery goes down from each to the next), and more rows than the search has. */
+/* 32 letters, and 16 in the mixed profile, in as many components as may be (a recovery goes down from each to the next), and more
+ * rows than the search has. The last letter may be a mixed one. */
 #define ROWS 65536
-static const uint16_t shape[TULFASHEQ_SHAPE] = {12, 0, 0, 12, 0, 255, 5, 0, 255, 1, 0, 255, 1, 0, 255, 1, 0, 255};
+static const uint16_t shapes[2][TULFASHEQ_SHAPE] = {
+    [TULFASHEQ_EXACT] = {12, 0, 0, 12, 0, 255, 5, 0, 255, 1, 0, 255, 1, 0, 255, 1, 0, 255},
+    [TULFASHEQ_MIXED] = {6, 0, 0, 6, 0, 255, 1, 0, 255, 1, 0, 255, 1, 0, 255, 1, 0, 255},
+};
+static const uint16_t allowances[TULFASHEQ_COMPONENTS] = {0, 0, 0, 0, 0, 1};
 
 /* What the calls are passed; `room` is how many elements of an array a call may write. */
 static uint8_t file[TULFASHEQ_LETTERS + 3 * TULFASHEQ_SEQUENCES], letters[TULFASHEQ_LETTERS], saved[TULFASHEQ_SAVED_MOST];
 static uint32_t lengths[TULFASHEQ_SEQUENCES], supports[ROWS], positions[TULFASHEQ_LETTERS], out[7 * ROWS], sequences, total;
-static uint16_t components, told[TULFASHEQ_SHAPE];
+static uint16_t profile, told_profile, components, told[TULFASHEQ_SHAPE], told_allowances[TULFASHEQ_COMPONENTS];
 static uint8_t next_letters;
 static uint64_t motifs[ROWS], weights[ROWS], at, used, count, quorum, budget, first, next_number;
 static uint64_t place, size, stop, steps, rows, length, kept, found, name_start, name_end;
@@ -40,13 +46,14 @@ static size_t file_size, room;
         return name(__VA_ARGS__);      \
     }
 #define SET letters, used, lengths, count
-CALL(tulfasheq_begin, SET, 6, shape, TULFASHEQ_SHAPE, quorum, saved, room, &place, &size)
+#define TEMPLATE profile, 6, shapes[profile], TULFASHEQ_SHAPE, allowances, TULFASHEQ_COMPONENTS
+CALL(tulfasheq_begin, SET, TEMPLATE, quorum, saved, room, &place, &size)
 CALL(tulfasheq_leg, SET, saved, size, budget, motifs, room, supports, room, weights, room, &place, &stop, &steps, &rows)
-CALL(tulfasheq_restore, SET, saved, size, &place, &components, told, TULFASHEQ_SHAPE, &quorum, &sequences, &total, &next_letters,
-     &next_number)
-CALL(tulfasheq_save, SET, components, told, TULFASHEQ_SHAPE, quorum, sequences, total, next_letters, next_number, saved, room,
-     &place, &size)
-CALL(tulfasheq_recover, SET, 6, shape, TULFASHEQ_SHAPE, motifs[0], first, out, room, &place, &rows, &length)
+CALL(tulfasheq_restore, SET, saved, size, &place, &told_profile, &components, told, TULFASHEQ_SHAPE, told_allowances,
+     TULFASHEQ_COMPONENTS, &quorum, &sequences, &total, &next_letters, &next_number)
+CALL(tulfasheq_save, SET, told_profile, components, told, TULFASHEQ_SHAPE, told_allowances, TULFASHEQ_COMPONENTS, quorum, sequences,
+     total, next_letters, next_number, saved, room, &place, &size)
+CALL(tulfasheq_recover, SET, TEMPLATE, motifs[0], first, out, room, &place, &rows, &length)
 CALL(tulfasheq_join, positions, TULFASHEQ_LETTERS, positions, TULFASHEQ_LETTERS, 12, 0, 255, out, room, &place, &kept)
 
 /* The whole file: as many calls as it has records, and one more. */
@@ -126,8 +133,7 @@ static void write_file(size_t records) {
     }
 }
 
-/* Each component can begin with A or with C, so there are 2^6 rows. A refused call fails the last of its checks alone. */
-static void search(size_t records) {
+static void read_file(size_t records) {
     printf("-- %zu x %zu letters\n", records, TULFASHEQ_LETTERS / records);
     write_file(records);
     file[file_size - 2] = 'c';
@@ -136,15 +142,21 @@ static void search(size_t records) {
     RUN(tulfasheq_fasta, "the whole file", TULFASHEQ_OK);
     CHECK(used, TULFASHEQ_LETTERS);
     CHECK(count, records);
+}
 
+/* Each component can begin with A or with C, so there are 2^6 rows. The mixed letters for A or C are all but K: with G and T left
+ * out too, the last component has 11 in the mixed profile. A refused call fails the last of its checks alone. */
+static void search(size_t records, uint16_t in_profile) {
+    int mixed = in_profile == TULFASHEQ_MIXED;
+    profile = in_profile;
     quorum = records;
     room = sizeof saved - 1;
     RUN(tulfasheq_begin, "refused, no room", TULFASHEQ_ROOM);
     room = sizeof saved;
-    RUN(tulfasheq_begin, "32 letters, 6 components", TULFASHEQ_OK);
+    RUN(tulfasheq_begin, mixed ? "16 mixed letters, 6 components" : "32 letters, 6 components", TULFASHEQ_OK);
 
-    /* The place is A, and for two calls 32 As, to which the search does not come. */
-    saved[sizeof saved - 15] = 32;
+    /* The place is A, and for two calls as many As as a motif has letters, to which the search does not come. */
+    saved[sizeof saved - 15] = mixed ? TULFASHEQ_MIXED_MOTIF : TULFASHEQ_MOTIF;
     RUN(tulfasheq_leg, "refused, not a candidate", TULFASHEQ_NOT_A_CANDIDATE);
     RUN(tulfasheq_restore, "refused, not a candidate", TULFASHEQ_NOT_A_CANDIDATE);
     saved[sizeof saved - 15] = 1;
@@ -160,6 +172,8 @@ static void search(size_t records) {
     uint64_t before = 1 + rows;
 
     RUN(tulfasheq_restore, "amid the search", TULFASHEQ_OK);
+    CHECK(told_profile, profile);
+    CHECK(told_allowances[5], mixed);
     room = sizeof saved - 1;
     RUN(tulfasheq_save, "refused, no room", TULFASHEQ_ROOM);
     saved[0] = 0;
@@ -170,7 +184,7 @@ static void search(size_t records) {
     budget = UINT64_MAX;
     RUN(tulfasheq_leg, "to the end", TULFASHEQ_OK);
     CHECK(stop, TULFASHEQ_ENDED);
-    CHECK(before + rows, 64);
+    CHECK(before + rows, mixed ? 32 * 11 : 64);
 
     room = 7 * ROWS;
     first = 0;
@@ -184,8 +198,11 @@ static void search(size_t records) {
 int main(void) {
     make_stack();
     RUN(nothing, "the thread alone", TULFASHEQ_OK);
-    search(1);
-    search(TULFASHEQ_SEQUENCES);
+    for (size_t records = 1; records <= TULFASHEQ_SEQUENCES; records *= TULFASHEQ_SEQUENCES) {
+        read_file(records);
+        search(records, TULFASHEQ_EXACT);
+        search(records, TULFASHEQ_MIXED);
+    }
 
     printf("-- lists of %d positions\n", TULFASHEQ_LETTERS);
     for (uint32_t i = 0; i < TULFASHEQ_LETTERS; i++)

@@ -1,6 +1,7 @@
 #!/bin/sh
-# The stack that calls use, from C: stack.c runs each on a thread with little of it, and prints a table: a row for each call, with
-# the bytes that were used. A function of the header that has no row in it where it is refused, or none where it is not, fails too.
+# The stack that calls use, from C: stack.c runs each on a thread with little of it, in both profiles, and prints a table: a row for
+# each call, with the bytes that were used. A function of the header that has no row in it where it is refused, or none where it is
+# not, fails too.
 set -eu
 cd "$(dirname "$0")/.."
 # shellcheck source=examples/build.sh

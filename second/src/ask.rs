@@ -1,5 +1,5 @@
 //! Questions beside the paper's calls, for comparisons. Each takes a prefix
-//! of 1 to K letters, and refuses 1 to 8 as a recovery does, then 23 for
+//! of 1 to K letters, and refuses 1 to 8 and 24 as a recovery does, then 23 for
 //! anything else, with place 0: there is no record that it could tell.
 
 use crate::leg::examine;
@@ -19,7 +19,7 @@ fn counts(
 ) -> Result<Counts, Refusal> {
     let set = SequenceSet::lent(letters, lengths)?;
     template.check()?;
-    if prefix.letters == 0 || !prefix.keeps_its_rule(template.letters_in_all()) {
+    if prefix.letters == 0 || !prefix.keeps_its_rule(template) {
         return Err(Refusal::plain(Refusal::PLACE_RULE));
     }
     Ok(count(&set, template, prefix))

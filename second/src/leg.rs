@@ -48,7 +48,7 @@ pub(crate) fn examine(set: &SequenceSet, search: &Search) -> Examined {
     let counts = count(set, &search.template, &search.place);
     let frequent = u64::from(counts.support) >= search.quorum;
     let motif = frequent && u64::from(search.place.letters) == letters_in_all;
-    let next = search.place.after(frequent, letters_in_all);
+    let next = search.place.after(frequent, &search.template);
     Examined {
         counts,
         frequent,

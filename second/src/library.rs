@@ -31,7 +31,7 @@ fn answer(number: u64, place: u64, told: &[u64]) -> Result<(), Refusal> {
         assert_eq!(place, 0, "the place told without a refusal");
         return Ok(());
     }
-    assert!(matches!(number, 1..=17 | 19..=23), "refusal {number}");
+    assert!(matches!(number, 1..=17 | 19..=24), "refusal {number}");
     assert!(
         told.iter().all(|n| *n == 0),
         "told in refusal {number}: {told:?}"
@@ -57,9 +57,12 @@ pub fn begin(
             letters.len(),
             lengths.as_ptr(),
             lengths.len(),
+            template.profile,
             template.components,
             template.shape.as_ptr(),
             template.shape.len(),
+            template.allowances.as_ptr(),
+            template.allowances.len(),
             quorum,
             saved.as_mut_ptr(),
             saved.len(),
@@ -116,15 +119,17 @@ pub fn leg(
 }
 
 /// What a saved search is. As much of the shape as there is room for goes to
-/// `shape`.
+/// `shape`, and as many allowances to `allowances`.
 pub fn restore(
     letters: &[u8],
     lengths: &[u32],
     saved: &[u8],
     shape: &mut [u16],
+    allowances: &mut [u16],
 ) -> Result<Search, Refusal> {
     let mut place = UNTOLD;
     let mut told = Search {
+        profile: u16::MAX,
         components: u16::MAX,
         quorum: UNTOLD,
         sequences: u32::MAX,
@@ -142,9 +147,12 @@ pub fn restore(
             saved.as_ptr(),
             saved.len(),
             &mut place,
+            &mut told.profile,
             &mut told.components,
             shape.as_mut_ptr(),
             shape.len(),
+            allowances.as_mut_ptr(),
+            allowances.len(),
             &mut told.quorum,
             &mut told.sequences,
             &mut told.total,
@@ -156,6 +164,7 @@ pub fn restore(
         number,
         place,
         &[
+            told.profile.into(),
             told.components.into(),
             told.quorum,
             told.sequences.into(),
@@ -167,12 +176,14 @@ pub fn restore(
     Ok(told)
 }
 
-/// The save of a search of this shape, to the front of `out`: its length.
+/// The save of a search of this shape and these allowances, to the front of
+/// `out`: its length.
 pub fn save(
     letters: &[u8],
     lengths: &[u32],
     search: &Search,
     shape: &[u16],
+    allowances: &[u16],
     out: &mut [u8],
 ) -> Result<usize, Refusal> {
     let (mut place, mut size) = (UNTOLD, UNTOLD);
@@ -183,9 +194,12 @@ pub fn save(
             letters.len(),
             lengths.as_ptr(),
             lengths.len(),
+            search.profile,
             search.components,
             shape.as_ptr(),
             shape.len(),
+            allowances.as_ptr(),
+            allowances.len(),
             search.quorum,
             search.sequences,
             search.total,
@@ -219,9 +233,12 @@ pub fn recover(
             letters.len(),
             lengths.as_ptr(),
             lengths.len(),
+            template.profile,
             template.components,
             template.shape.as_ptr(),
             template.shape.len(),
+            template.allowances.as_ptr(),
+            template.allowances.len(),
             motif,
             first,
             out.as_mut_ptr(),

@@ -4,7 +4,7 @@ use crate::place::Place;
 use crate::sequences::{Position, Sequence, SequenceSet};
 use crate::template::Template;
 
-/// One component of a prefix: its letters as values and the gap range before.
+/// One component of a prefix: its letters as digits and the gap range before.
 #[derive(Clone, Debug)]
 pub(crate) struct Piece {
     pub letters: Vec<u8>,
@@ -15,19 +15,14 @@ pub(crate) struct Piece {
 /// "A prefix of j letters is the same with the last component cut short and
 /// later ones dropped."
 pub(crate) fn pieces(template: &Template, prefix: &Place) -> Vec<Piece> {
-    let mut left = prefix.values();
+    let letters = prefix.values(template.profile);
     let mut pieces = Vec::new();
-    for component in &template.components {
-        if left.is_empty() {
-            break;
-        }
-        let later = left.split_off(left.len().min(component.length as usize));
+    for (component, part) in template.dealt_out(&letters) {
         pieces.push(Piece {
-            letters: left,
+            letters: part.to_vec(),
             low: component.low,
             high: component.high,
         });
-        left = later;
     }
     pieces
 }

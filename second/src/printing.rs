@@ -70,13 +70,11 @@ fn motif_in_shape(template: &Template, motif: u64) -> String {
         letters: letters_in_all,
         number: motif,
     }
-    .values();
-    let mut letters = values.iter().map(|value| match value {
-        0 => 'A',
-        1 => 'C',
-        2 => 'G',
-        _ => 'T',
-    });
+    .values(template.profile);
+    let names = template.profile.letters();
+    let mut letters = values
+        .iter()
+        .map(|value| char::from(names[usize::from(*value)]));
     let mut shape = String::new();
     for (index, component) in template.components.iter().enumerate() {
         if index > 0 {

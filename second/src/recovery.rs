@@ -1,7 +1,7 @@
 //! Recovery of occurrences.
 
 use crate::occurrence::{next_starts, pieces, ways, Piece, Ways};
-use crate::place::{power_of_four, Place};
+use crate::place::Place;
 use crate::refusal::Refusal;
 use crate::sequences::{Position, SequenceSet};
 use crate::template::Template;
@@ -16,7 +16,8 @@ pub struct Recovered {
 }
 
 /// "Recovery takes a motif number and a first row number f (from 0)." It
-/// checks "1 to 8, 14, 15". "First row equal to the length gives no rows."
+/// checks "1 to 8, 14, 15", with 24 after 8. "First row equal to the length
+/// gives no rows."
 pub fn recover(
     letters: &[u8],
     lengths: &[u32],
@@ -27,15 +28,15 @@ pub fn recover(
 ) -> Result<Recovered, Refusal> {
     let set = SequenceSet::lent(letters, lengths)?;
     template.check()?;
-    let letters_in_all = template.letters_in_all();
-    if u128::from(motif) >= power_of_four(letters_in_all) {
-        return Err(Refusal::plain(Refusal::MOTIF_NUMBER));
-    }
-
+    // "A motif is K letters": what breaks the rule for a place of K letters "is
+    // 14 in recovery and 23 in a place".
     let motif = Place {
-        letters: letters_in_all as u8,
+        letters: template.letters_in_all() as u8,
         number: motif,
     };
+    if !motif.keeps_its_rule(template) {
+        return Err(Refusal::plain(Refusal::MOTIF_NUMBER));
+    }
     let pieces = pieces(template, &motif);
     let all_ways: Vec<Vec<Ways>> = set
         .sequences()

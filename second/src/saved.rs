@@ -2,6 +2,7 @@
 //! records."
 
 use crate::place::Place;
+use crate::profile::Profile;
 use crate::refusal::Refusal;
 use crate::search::Search;
 use crate::sequences::SequenceSet;
@@ -48,7 +49,7 @@ impl Record {
 }
 
 /// "size | 0: 1; 1: number of records; 2-3 quorum; 4-5 number of sequences;
-/// 6-7 K; 8-11 letters in all"
+/// 6-7 K; 8-11 letters in all"; "byte 12 is 0 or 1 for the profile"
 fn size_record(search: &Search) -> Record {
     let mut record = Record::new(Record::SIZE);
     let records = search.template.components.len() + Record::BESIDE_COMPONENTS;
@@ -57,17 +58,22 @@ fn size_record(search: &Search) -> Record {
     record.put(4, 5, u64::from(search.sequences));
     record.put(6, 7, search.template.letters_in_all());
     record.put(8, 11, u64::from(search.letters));
+    record.put(12, 12, u64::from(search.template.profile.number()));
     record
 }
 
 /// "component, one each | 0: 2; 1: its number from 1; 2: length; 4-5 l;
-/// 6-7 u"
-fn component_record(number: u64, component: &Component) -> Record {
+/// 6-7 u"; "a component's byte 3 is the allowance", which was checked to be
+/// at most the length. The exact profile has none: its saves are as they were.
+fn component_record(number: u64, component: &Component, profile: Profile) -> Record {
     let mut record = Record::new(Record::COMPONENT);
     record.put(1, 1, number);
     record.put(2, 2, u64::from(component.length));
     record.put(4, 5, u64::from(component.low));
     record.put(6, 7, u64::from(component.high));
+    if profile == Profile::Mixed {
+        record.put(3, 3, u64::from(component.allowance));
+    }
     record
 }
 
@@ -84,7 +90,7 @@ fn records(search: &Search) -> Vec<u8> {
     let mut bytes = Vec::new();
     bytes.extend(size_record(search).0);
     for (number, component) in (1..).zip(&search.template.components) {
-        bytes.extend(component_record(number, component).0);
+        bytes.extend(component_record(number, component, search.template.profile).0);
     }
     bytes.extend(place_record(&search.place).0);
     bytes
@@ -113,7 +119,7 @@ pub fn save(
 }
 
 /// "Restore: 1 to 4, 10, 5, 11, 6, 7, 8, 12, 9, 13", and "21 to 23 come after
-/// 11 in that order".
+/// 11 in that order", and 24 "after 8".
 pub fn restore(letters: &[u8], lengths: &[u32], bytes: &[u8]) -> Result<Search, Refusal> {
     let set = SequenceSet::lent(letters, lengths)?;
     let records = cut_into_records(bytes)?;
@@ -149,9 +155,14 @@ fn read_records(records: &[Record]) -> Result<Search, Refusal> {
         [size, components @ .., place] => (size, components, place),
         _ => return Err(Refusal::plain(Refusal::SAVED_LENGTH)),
     };
+    let profile = read_profile(size);
     let search = Search {
         template: Template {
-            components: components.iter().map(read_component).collect(),
+            profile,
+            components: components
+                .iter()
+                .map(|record| read_component(record, profile))
+                .collect(),
         },
         quorum: size.number(2, 3),
         sequences: size.number(4, 5) as u32,
@@ -162,7 +173,7 @@ fn read_records(records: &[Record]) -> Result<Search, Refusal> {
         },
     };
     search.template.check_number_of_components()?;
-    check_layout(records)?;
+    check_layout(records, profile)?;
     if size.number(6, 7) != search.template.letters_in_all() {
         // "K is not the sum", "with its record": K stands in the size record,
         // which is the first.
@@ -171,12 +182,27 @@ fn read_records(records: &[Record]) -> Result<Search, Refusal> {
     Ok(search)
 }
 
-/// "2: length; 4-5 l; 6-7 u"
-fn read_component(record: &Record) -> Component {
+/// "The size record's byte 12 is 0 or 1 for the profile": only 1 means the
+/// mixed one. What is neither is refused before the profile matters.
+fn read_profile(size: &Record) -> Profile {
+    if size.number(12, 12) == u64::from(Profile::Mixed.number()) {
+        Profile::Mixed
+    } else {
+        Profile::Exact
+    }
+}
+
+/// "2: length; 4-5 l; 6-7 u"; "a component's byte 3 is the allowance", in the
+/// exact profile 0.
+fn read_component(record: &Record, profile: Profile) -> Component {
     Component {
         length: record.number(2, 2) as u8,
         low: record.number(4, 5) as u16,
         high: record.number(6, 7) as u16,
+        allowance: match profile {
+            Profile::Exact => 0,
+            Profile::Mixed => record.number(3, 3) as u16,
+        },
     }
 }
 
@@ -188,27 +214,33 @@ enum Asked {
     Any,
     /// "Unnamed bytes are 0."
     Zero,
+    /// "0 or 1 for the profile, else 21"
+    ZeroOrOne,
 }
 
 /// What the table asks of a byte in the record of this number, counted from 0,
-/// of so many records.
-fn asked(records: usize, record: usize, byte: usize) -> Asked {
+/// of so many records, in a save of this profile.
+fn asked(records: usize, record: usize, byte: usize, profile: Profile) -> Asked {
     if record == 0 {
         // "size | 0: 1; 1: number of records; 2-3 quorum; 4-5 number of
-        // sequences; 6-7 K; 8-11 letters in all"
+        // sequences; 6-7 K; 8-11 letters in all"; "byte 12 is 0 or 1 for the
+        // profile"
         match byte {
             0 => Asked::Exactly(1),
             1..=11 => Asked::Any,
+            12 => Asked::ZeroOrOne,
             _ => Asked::Zero,
         }
     } else if record < records - 1 {
         // "component, one each | 0: 2; 1: its number from 1; 2: length;
         // 4-5 l; 6-7 u": the first component's record comes after the size
-        // record, so that the two countings say the same.
+        // record, so that the two countings say the same. "A component's
+        // byte 3 is the allowance": in the exact profile it is unnamed.
         match byte {
             0 => Asked::Exactly(2),
             1 => Asked::Exactly(record),
             2 | 4..=7 => Asked::Any,
+            3 if profile == Profile::Mixed => Asked::Any,
             _ => Asked::Zero,
         }
     } else {
@@ -226,13 +258,14 @@ fn asked(records: usize, record: usize, byte: usize) -> Asked {
 /// in that order, each with its record". Every byte of every record is judged
 /// by itself; of all that is wrong the lowest number is given, and of several
 /// records with it the first.
-fn check_layout(records: &[Record]) -> Result<(), Refusal> {
+fn check_layout(records: &[Record], profile: Profile) -> Result<(), Refusal> {
     let mut wrong = Vec::new();
     for (number, record) in records.iter().enumerate() {
         for (at, byte) in record.0.iter().enumerate() {
-            let refusal = match asked(records.len(), number, at) {
+            let refusal = match asked(records.len(), number, at, profile) {
                 Asked::Exactly(right) if usize::from(*byte) != right => Refusal::RECORD,
                 Asked::Zero if *byte != 0 => Refusal::UNNAMED_BYTE,
+                Asked::ZeroOrOne if *byte > 1 => Refusal::UNNAMED_BYTE,
                 _ => continue,
             };
             wrong.push(Refusal::at(refusal, number as u64));

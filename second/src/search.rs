@@ -30,7 +30,8 @@ fn check_quorum(set: &SequenceSet, quorum: u64) -> Result<(), Refusal> {
     }
 }
 
-/// "New search: 1 to 9." "A search visits candidates so: first A".
+/// "New search: 1 to 9", with "24 allowance above the length, after 8". "A
+/// search visits candidates so: first A".
 pub fn begin(
     letters: &[u8],
     lengths: &[u32],
@@ -41,7 +42,7 @@ pub fn begin(
     template.check()?;
     check_quorum(&set, quorum)?;
     Ok(Search {
-        template: template.clone(),
+        template: template.without_what_is_unused(),
         quorum,
         sequences: set.number_of_sequences(),
         letters: set.letters_in_all(),
@@ -52,13 +53,14 @@ pub fn begin(
 impl Search {
     /// "A leg or a save checks the search value it is given by restore's
     /// order without 10", and "a leg or save sees only the place rule" of the
-    /// records: after 1 to 4 these are 5, 23, 6, 7, 8, 12, 9, 13.
+    /// records: after 1 to 4 these are 5, 23, 6, 7, 8, 24, 12, 9, 13.
     pub(crate) fn check(&self, set: &SequenceSet) -> Result<(), Refusal> {
         self.template.check_number_of_components()?;
         self.check_place_rule()?;
         self.template.check_component_lengths()?;
         self.template.check_letters_in_all()?;
         self.template.check_gap_ranges()?;
+        self.template.check_allowances()?;
         self.check_counts(set)?;
         check_quorum(set, self.quorum)?;
         self.check_candidate(set)
@@ -68,7 +70,7 @@ impl Search {
     /// from 0, the place record comes after the size record and one record
     /// for each component.
     fn check_place_rule(&self) -> Result<(), Refusal> {
-        if self.place.keeps_its_rule(self.template.letters_in_all()) {
+        if self.place.keeps_its_rule(&self.template) {
             Ok(())
         } else {
             let place_record = self.template.components.len() + 1;
@@ -88,11 +90,11 @@ impl Search {
 
     /// Refusal 13: "place is neither a candidate of this search nor the ended
     /// place". "A candidate is a prefix of 1 to K letters whose prefix one
-    /// letter shorter is frequent."
+    /// letter shorter is frequent." The place has kept its rule, so that its
+    /// letters are allowed ones.
     fn check_candidate(&self, set: &SequenceSet) -> Result<(), Refusal> {
-        if self.place == Place::ENDED
-            || is_frequent(set, &self.template, self.quorum, &self.place.shorter())
-        {
+        let shorter = self.place.shorter(self.template.profile);
+        if self.place == Place::ENDED || is_frequent(set, &self.template, self.quorum, &shorter) {
             Ok(())
         } else {
             Err(Refusal::plain(Refusal::NO_CANDIDATE))

@@ -1,5 +1,6 @@
 //! The lent sequences.
 
+use crate::profile::fits;
 use crate::refusal::Refusal;
 
 /// "Numbers and positions count from 1."
@@ -29,11 +30,13 @@ impl Sequence {
         (1..=self.values.len() as u32).map(Position)
     }
 
-    /// "Each component's letters stand there": whether these letters (as
-    /// values) stand from this position on, none beyond the sequence's end.
+    /// "Each component's letters stand there": whether these letters of a
+    /// motif (as digits) stand from this position on, none beyond the
+    /// sequence's end. A motif's letter stands where one of its bases is.
     pub fn stand_at(&self, letters: &[u8], start: Position) -> bool {
-        match self.values.get(start.letters_before()..) {
-            Some(from_there) => from_there.starts_with(letters),
+        let from = start.letters_before();
+        match self.values.get(from..from + letters.len()) {
+            Some(there) => (letters.iter().zip(there)).all(|(letter, value)| fits(*letter, *value)),
             None => false,
         }
     }

@@ -1,5 +1,6 @@
 //! The text that the printing program reads.
 
+use crate::profile::Profile;
 use crate::refusal::Refusal;
 use crate::template::{Component, Template};
 
@@ -78,7 +79,8 @@ pub(crate) fn read(input: &[u8]) -> Result<Text, Refusal> {
 }
 
 /// "Template text is runs of at least one N with [l,u] between." A run longer
-/// than a component can say is kept at the longest one: both are above 12.
+/// than a component can say is kept at the longest one: both are above 12. The
+/// printing program has the exact profile alone.
 fn read_template(line: &[u8]) -> Option<Template> {
     let mut components = Vec::new();
     // "The first component's range is 0, 0."
@@ -94,10 +96,14 @@ fn read_template(line: &[u8]) -> Option<Template> {
             length,
             low: range.0,
             high: range.1,
+            allowance: 0,
         });
         left = left.get(run..)?;
         if left.is_empty() {
-            return Some(Template { components });
+            return Some(Template {
+                profile: Profile::Exact,
+                components,
+            });
         }
         (range, left) = read_range(left)?;
     }

@@ -1,10 +1,12 @@
 //! The page that a curator signs, docs/ALPHABET.md: the lines that it quotes
-//! stand word for word in the files that it names, and its table has the
-//! letters of the second program, with their bytes and values.
+//! stand word for word in the files that it names, and its tables have the
+//! letters of the second program, with their bytes and values, and the mixed
+//! letters, with their places and bases.
 
 mod common;
 
-use common::{refusal, template, whole, Lent};
+use common::{mixed, refusal, template, whole, Lent};
+use second::Profile;
 use std::path::Path;
 
 const FENCE: &str = "```";
@@ -126,6 +128,29 @@ fn alphabet() -> Vec<[String; 3]> {
     letters
 }
 
+/// The mixed letters, as the second program answers: each with its place in
+/// the order, and the bases in which it is a frequent motif of one letter.
+fn mixed_letters() -> Vec<[String; 3]> {
+    let one = mixed(&[(1, 1, 0, 0)]);
+    let names = Profile::Mixed.letters();
+    let mut bases = vec![Vec::new(); names.len()];
+    for base in ["A", "C", "G", "T"] {
+        for (motif, _, _) in whole(&Lent::new(&[base]), &one, 1).1 {
+            bases[motif as usize].push(base);
+        }
+    }
+    (0..)
+        .zip(names.iter().zip(bases))
+        .map(|(place, (name, bases))| {
+            [
+                char::from(*name).to_string(),
+                place.to_string(),
+                bases.join(" "),
+            ]
+        })
+        .collect()
+}
+
 #[test]
 fn what_the_page_quotes_stands_there() {
     let page = contents("docs/ALPHABET.md").expect("the page");
@@ -134,9 +159,43 @@ fn what_the_page_quotes_stands_there() {
 }
 
 #[test]
-fn the_page_s_table_is_the_alphabet() {
+fn the_page_s_tables_are_the_alphabets() {
     let page = contents("docs/ALPHABET.md").expect("the page");
-    assert_eq!(rows(&page), alphabet());
+    assert_eq!(rows(&page), [alphabet(), mixed_letters()].concat());
+}
+
+/// A row of the second table has a letter's bases as the definition has them,
+/// and the number of their set, in that order, in the lines that the page
+/// quotes.
+#[test]
+fn the_page_s_second_table_has_the_sets_that_it_quotes() {
+    let page = contents("docs/ALPHABET.md").expect("the page");
+    let quotes = quotes(&page).expect("quotes");
+    let quoted: String = quotes
+        .iter()
+        .flat_map(|quote| quote.lines.clone())
+        .collect();
+    let (mut sets, mut numbers) = (Vec::new(), Vec::new());
+    for [letter, place, bases] in mixed_letters() {
+        let mut set = String::new();
+        let mut number = 0;
+        for base in bases.split(' ') {
+            set += &format!("{base} ∷ ");
+            number += 1 << "ACGT".find(base).expect("a base");
+        }
+        let set = format!("({set}[])");
+        let row = format!("| {letter} | {place} | {bases} | `{set}` | `{number}` |");
+        assert!(page.lines().any(|line| line == row), "no row {row}");
+        sets.push(set);
+        numbers.push(number.to_string());
+    }
+    let packed: String = quoted.split_whitespace().collect();
+    let sets: String = sets.join("∷").split_whitespace().collect();
+    assert!(packed.contains(&format!("bases={sets}∷[]")), "{sets}");
+    assert!(
+        quoted.contains(&format!("[{}]", numbers.join(", "))),
+        "{numbers:?}"
+    );
 }
 
 /// What a row of the table has of a letter's comparison, in the definition and

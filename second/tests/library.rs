@@ -12,10 +12,7 @@ const LENGTHS: &[u32] = &[5, 5, 2];
 
 /// N[0,1]N.
 const SHAPE: [u16; 6] = [1, 0, 0, 1, 0, 1];
-const PAIR: Template = Template {
-    components: 2,
-    shape: &SHAPE,
-};
+const PAIR: Template = Template::exact(2, &SHAPE);
 
 /// The bytes of a new search, with its length told.
 fn begun(quorum: u64) -> Vec<u8> {
@@ -30,6 +27,7 @@ fn begun(quorum: u64) -> Vec<u8> {
 /// A search over E at a place.
 fn at(quorum: u64, next_letters: u8, next_number: u64) -> Search {
     Search {
+        profile: 0,
         components: 2,
         quorum,
         sequences: 3,
@@ -54,7 +52,10 @@ fn p3_a_search_of_e() {
     assert_eq!(motifs, [2, 6, 11, 9, 9]);
     assert_eq!(supports, [2, 2, 2, 9, 9]);
     assert_eq!(weights, [3, 2, 3, 9, 9]);
-    assert_eq!(restore(LETTERS, LENGTHS, &saved, &mut []), Ok(at(2, 0, 0)));
+    assert_eq!(
+        restore(LETTERS, LENGTHS, &saved, &mut [], &mut []),
+        Ok(at(2, 0, 0))
+    );
 }
 
 #[test]
@@ -173,17 +174,23 @@ fn p9_a_save() {
     assert_eq!(saved[48..], place);
 
     let mut shape = [7; 20];
-    let search = restore(LETTERS, LENGTHS, &saved, &mut shape).unwrap();
+    let search = restore(LETTERS, LENGTHS, &saved, &mut shape, &mut []).unwrap();
     assert_eq!(search, at(2, 2, 3));
     assert_eq!(shape[..6], SHAPE);
     assert_eq!(shape[6..], [0, 0, 0, 0, 0, 0, 0, 0, 0, 0, 0, 0, 7, 7]);
     // A shape with less room gets what fits.
     let mut shape = [7; 4];
-    assert_eq!(restore(LETTERS, LENGTHS, &saved, &mut shape), Ok(search));
+    assert_eq!(
+        restore(LETTERS, LENGTHS, &saved, &mut shape, &mut []),
+        Ok(search)
+    );
     assert_eq!(shape, SHAPE[..4]);
 
     let mut again = [0xEE; 65];
-    assert_eq!(save(LETTERS, LENGTHS, &search, &SHAPE, &mut again), Ok(64));
+    assert_eq!(
+        save(LETTERS, LENGTHS, &search, &SHAPE, &[], &mut again),
+        Ok(64)
+    );
     assert_eq!(again[..64], saved);
     assert_eq!(again[64], 0xEE);
 }
@@ -195,7 +202,10 @@ fn p10_a_save_cut_short() {
     let whole = cut.clone();
     let mut shape = [7; 18];
     let refusal = Err(refused(10, 0));
-    assert_eq!(restore(LETTERS, LENGTHS, &cut, &mut shape), refusal);
+    assert_eq!(
+        restore(LETTERS, LENGTHS, &cut, &mut shape, &mut []),
+        refusal
+    );
     assert_eq!(shape, [7; 18]);
 
     let (mut motifs, mut supports, mut weights) = ([7; 4], [7; 4], [7; 4]);
@@ -212,19 +222,22 @@ fn p11_a_place_that_is_no_candidate() {
     let mut out = [7; 64];
     let refusal = Err(refused(13, 0));
     assert_eq!(
-        save(LETTERS, LENGTHS, &at(3, 2, 4), &SHAPE, &mut out),
+        save(LETTERS, LENGTHS, &at(3, 2, 4), &SHAPE, &[], &mut out),
         refusal
     );
     assert_eq!(out, [7; 64]);
 
     assert_eq!(
-        save(LETTERS, LENGTHS, &at(2, 2, 4), &SHAPE, &mut out),
+        save(LETTERS, LENGTHS, &at(2, 2, 4), &SHAPE, &[], &mut out),
         Ok(64)
     );
     out[2] = 3;
     let mut shape = [7; 18];
     let refusal = Err(refused(13, 0));
-    assert_eq!(restore(LETTERS, LENGTHS, &out, &mut shape), refusal);
+    assert_eq!(
+        restore(LETTERS, LENGTHS, &out, &mut shape, &mut []),
+        refusal
+    );
     assert_eq!(shape, [7; 18]);
 }
 
@@ -237,16 +250,20 @@ fn refused_calls_leave_their_buffers() {
     assert_eq!(refusal, Err(refused(9, 0)));
     let refusal = begin(LETTERS, LENGTHS, PAIR, 2, &mut saved[..63]);
     assert_eq!(refusal, Err(refused(17, 0)));
-    let refusal = save(LETTERS, LENGTHS, &at(2, 1, 0), &SHAPE, &mut saved[..63]);
+    let refusal = save(
+        LETTERS,
+        LENGTHS,
+        &at(2, 1, 0),
+        &SHAPE,
+        &[],
+        &mut saved[..63],
+    );
     assert_eq!(refusal, Err(refused(17, 0)));
     assert_eq!(saved, [7; 64]);
 
     let mut out = [7; 6];
     let wide = [1, 0, 0, 1, 0, 256];
-    let template = Template {
-        components: 2,
-        shape: &wide,
-    };
+    let template = Template::exact(2, &wide);
     let refusal = recover(LETTERS, LENGTHS, template, 2, 0, &mut out);
     assert_eq!(refusal, Err(refused(8, 2)));
     let refusal = recover(LETTERS, LENGTHS, PAIR, 16, 0, &mut out);
@@ -266,19 +283,13 @@ fn refused_calls_leave_their_buffers() {
 #[test]
 fn a_shape_that_ends_early_has_nothing_after_its_end() {
     let mut saved = [7; 64];
-    let template = Template {
-        components: 2,
-        shape: &SHAPE[..3],
-    };
+    let template = Template::exact(2, &SHAPE[..3]);
     let refusal = begin(LETTERS, LENGTHS, template, 2, &mut saved);
     assert_eq!(refusal, Err(refused(6, 2)));
     // N[0,0]N: the last number is left out.
-    let template = Template {
-        components: 2,
-        shape: &SHAPE[..5],
-    };
+    let template = Template::exact(2, &SHAPE[..5]);
     assert_eq!(begin(LETTERS, LENGTHS, template, 2, &mut saved), Ok(64));
     let mut shape = [7; 6];
-    restore(LETTERS, LENGTHS, &saved, &mut shape).unwrap();
+    restore(LETTERS, LENGTHS, &saved, &mut shape, &mut []).unwrap();
     assert_eq!(shape, [1, 0, 0, 1, 0, 0]);
 }

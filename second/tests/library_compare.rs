@@ -12,15 +12,20 @@ use second::requests::answer::{Answer, DONE, FULL, REFUSED, SPENT};
 use second::requests::random::Random;
 use second::requests::request::{Kind, Request, Slot, Value};
 use second::requests::{Seen, GROUPS};
-use second::{Handed, Refusal};
+use second::{Handed, Profile, Refusal};
 
 fn shape(value: &Value) -> Vec<u16> {
     let numbers = |slot: &Slot| [slot.length, slot.low, slot.high];
     value.slots.iter().flat_map(numbers).collect()
 }
 
+fn allowances(value: &Value) -> Vec<u16> {
+    value.slots.iter().map(|slot| slot.allowance).collect()
+}
+
 fn told_search(value: &Value) -> library::Search {
     library::Search {
+        profile: value.profile.number(),
         components: value.count,
         quorum: value.quorum,
         sequences: value.sequences,
@@ -33,11 +38,18 @@ fn told_search(value: &Value) -> library::Search {
 /// The search that the library says some bytes hold.
 fn restored(request: &Request, saved: &[u8]) -> Result<Value, Refusal> {
     let (letters, lengths) = (&request.set.letters[..], &request.set.lengths[..]);
-    let mut shape = [7; 18];
-    let told = library::restore(letters, lengths, saved, &mut shape).inspect_err(|_| {
+    let (mut shape, mut allowances) = ([7; 18], [7; 6]);
+    let told = library::restore(letters, lengths, saved, &mut shape, &mut allowances);
+    let told = told.inspect_err(|_| {
         assert_eq!(shape, [7; 18], "a refused restore wrote a shape");
+        assert_eq!(allowances, [7; 6], "a refused restore wrote allowances");
     })?;
     let mut value = Value {
+        profile: match told.profile {
+            0 => Profile::Exact,
+            1 => Profile::Mixed,
+            other => panic!("a profile of {other}"),
+        },
         count: told.components,
         quorum: told.quorum,
         sequences: told.sequences,
@@ -46,16 +58,22 @@ fn restored(request: &Request, saved: &[u8]) -> Result<Value, Refusal> {
         number: told.next_number,
         ..Value::default()
     };
-    for (slot, numbers) in value.slots.iter_mut().zip(shape.chunks(3)) {
-        *slot = Slot::new(numbers[0], numbers[1], numbers[2]);
+    let numbers = shape.chunks(3).zip(allowances);
+    for (slot, (numbers, allowance)) in value.slots.iter_mut().zip(numbers) {
+        *slot = Slot::new(numbers[0], numbers[1], numbers[2]).allowing(allowance);
     }
     Ok(value)
 }
 
-/// The same value, with nothing in the slots that it does not count: those do
-/// not get into a save.
+/// The same value, with nothing in the slots that it does not count, and no
+/// allowances in the exact profile: those do not get into a save.
 fn trimmed(value: &Value) -> Value {
     let mut value = *value;
+    if value.profile == Profile::Exact {
+        for slot in &mut value.slots {
+            slot.allowance = 0;
+        }
+    }
     for slot in value.slots.iter_mut().skip(value.count.into()) {
         *slot = Slot::default();
     }
@@ -92,17 +110,20 @@ fn leg_of_value(request: &Request, answer: &mut Answer) -> Result<(), Refusal> {
     let value = &request.value;
     let mut saved = [0; 128];
     let search = told_search(value);
-    let size = library::save(letters, lengths, &search, &shape(value), &mut saved)?;
+    let (shape, allowances) = (shape(value), allowances(value));
+    let size = library::save(letters, lengths, &search, &shape, &allowances, &mut saved)?;
     leg(request, &mut saved[..size], answer)
 }
 
 fn call(request: &Request, answer: &mut Answer) -> Result<(), Refusal> {
     let (letters, lengths) = (&request.set.letters[..], &request.set.lengths[..]);
     let value = &request.value;
-    let shape = shape(value);
+    let (shape, allowances) = (shape(value), allowances(value));
     let template = Template {
+        profile: value.profile.number(),
         components: value.count,
         shape: &shape,
+        allowances: &allowances,
     };
     let none = Value::default();
     match request.kind {
@@ -121,7 +142,8 @@ fn call(request: &Request, answer: &mut Answer) -> Result<(), Refusal> {
         Kind::Leg => leg_of_value(request, answer)?,
         Kind::Save => {
             let search = told_search(value);
-            let size = library::save(letters, lengths, &search, &shape, &mut answer.saved)?;
+            let out = &mut answer.saved;
+            let size = library::save(letters, lengths, &search, &shape, &allowances, out)?;
             answer.told = told(DONE, size as u64, 0, &none);
         }
         Kind::Restore => {
@@ -258,7 +280,7 @@ fn compare(name: &str, seen: &mut Seen) {
                 panic!("{name}, seed {seed}: a leg from these bytes differs in {difference}\n{request}");
             }
         }
-        seen.count(request.kind, &Answer::expected(request));
+        seen.count(request, &Answer::expected(request));
     }
     println!("{name}: {} requests, seed {seed}", requests.len());
 }

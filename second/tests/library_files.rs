@@ -98,10 +98,7 @@ fn search(held: &Held, random: &mut Random) {
         .iter()
         .flat_map(|slot| [slot.length, slot.low, slot.high])
         .collect();
-    let template = Template {
-        components: value.count,
-        shape: &shape,
-    };
+    let template = Template::exact(value.count, &shape);
     let quorum = random.within(1, lengths.len().max(1) as u64);
     let mut saved = [7; 128];
     let begun = library::begin(letters, lengths, template, quorum, &mut saved);

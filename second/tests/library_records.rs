@@ -11,10 +11,7 @@ const LENGTHS: &[u32] = &[5, 5, 2];
 
 /// The save of a new search, N[0,1]N and quorum 2.
 fn begun() -> Vec<u8> {
-    let template = Template {
-        components: 2,
-        shape: &[1, 0, 0, 1, 0, 1],
-    };
+    let template = Template::exact(2, &[1, 0, 0, 1, 0, 1]);
     let mut saved = vec![0; 64];
     assert_eq!(begin(LETTERS, LENGTHS, template, 2, &mut saved), Ok(64));
     saved
@@ -22,9 +19,10 @@ fn begun() -> Vec<u8> {
 
 /// What the restore of these bytes is refused with, and a leg from them.
 fn refused(bytes: &[u8]) -> (u8, u64) {
-    let mut shape = [7; 18];
-    let told = restore(LETTERS, LENGTHS, bytes, &mut shape).expect_err("a refusal");
-    assert_eq!(shape, [7; 18]);
+    let (mut shape, mut allowances) = ([7; 18], [7; 6]);
+    let told = restore(LETTERS, LENGTHS, bytes, &mut shape, &mut allowances);
+    let told = told.expect_err("a refusal");
+    assert_eq!((shape, allowances), ([7; 18], [7; 6]));
 
     let mut saved = bytes.to_vec();
     let (mut motifs, mut supports, mut weights) = ([7; 4], [7; 4], [7; 4]);
@@ -69,7 +67,7 @@ fn a_byte_of_a_save() {
 #[test]
 fn the_number_comes_first_and_then_the_record() {
     for (changes, number, record) in [
-        (&[(12, 1), (48, 1)][..], 11, 3),
+        (&[(12, 2), (48, 1)][..], 11, 3),
         (&[(16, 1), (32, 1)], 11, 1),
         (&[(17, 9), (32, 1)], 11, 1),
         (&[(6, 0), (50, 1)], 21, 3),
@@ -92,6 +90,7 @@ fn a_save_of_a_place_that_breaks_its_rule() {
     for components in [0, 1, 2, 3, 4, 5, 6, 7, 65_535] {
         for (next_letters, next_number) in [(0, 1), (1, 4), (7, 0), (33, 0), (255, u64::MAX)] {
             let search = Search {
+                profile: 0,
                 components,
                 quorum: 2,
                 sequences: 3,
@@ -104,7 +103,7 @@ fn a_save_of_a_place_that_breaks_its_rule() {
                 _ => (5, 0),
             };
             let mut out = [7; 128];
-            let told = save(LETTERS, LENGTHS, &search, &shape, &mut out);
+            let told = save(LETTERS, LENGTHS, &search, &shape, &[], &mut out);
             assert_eq!(told, Err(Refusal { number, place }));
             assert_eq!(out, [7; 128]);
         }

@@ -1,16 +1,19 @@
 //! The linked library over many calls: the bytes of a search passed on from
 //! leg to leg, and a motif's list recovered page by page, each beside the
 //! second program; and the rows of a leg beside the lists of their motifs,
-//! both the library's.
+//! both the library's. In both profiles.
 
 use second::library::{self, Recovered, Stop, Template};
 use second::requests::answer::search;
 use second::requests::random::Random;
 use second::requests::request::{Set, Slot, Value};
-use second::{Answer, Refusal};
+use second::{Answer, Profile, Refusal};
 
 /// A random set, a template within the rules, and a quorum.
-fn search_over(random: &mut Random) -> (Set, Value) {
+type Over = fn(&mut Random) -> (Set, Value);
+
+/// One in the exact profile, with allowances that it does not look at.
+fn exact(random: &mut Random) -> (Set, Value) {
     let (most, longest, alphabet) = (
         random.within(1, 12),
         random.pick(&[8, 30, 120]),
@@ -21,7 +24,33 @@ fn search_over(random: &mut Random) -> (Set, Value) {
     let quorum = random
         .within(1, set.lengths.len() as u64)
         .min(random.within(1, 12));
-    (set, random.template(most, widest).with_quorum(quorum))
+    let value = random.template(most, widest).with_quorum(quorum);
+    if !random.once_in(3) {
+        return (set, value);
+    }
+    let any = random.any() as u16;
+    let allowance = random.pick(&[1, 12, 13, 255, 65_535, any]);
+    let slots = value.slots.map(|slot| slot.allowing(allowance));
+    (set, Value { slots, ..value })
+}
+
+/// One in the mixed profile, with fewer letters, so that it comes to an end.
+fn mixed(random: &mut Random) -> (Set, Value) {
+    let (most, longest, alphabet) = (
+        random.within(1, 9),
+        random.pick(&[8, 20, 70]),
+        random.within(1, 4),
+    );
+    let set = random.set(most, longest, alphabet);
+    let (most, widest) = (random.within(1, 5), random.pick(&[0, 3, 20, 255]));
+    let quorum = random.within(1, set.lengths.len() as u64);
+    let value = random.template(most, widest).with_quorum(quorum);
+    let most = random.pick(&[1, 1, 2, 12]);
+    let allowances = value.slots.map(|slot| {
+        let most = most.min(u64::from(slot.length));
+        random.below(most + 1) as u16
+    });
+    (set, value.mixed(&allowances))
 }
 
 fn shape(value: &Value) -> Vec<u16> {
@@ -29,10 +58,16 @@ fn shape(value: &Value) -> Vec<u16> {
     value.slots.iter().flat_map(numbers).collect()
 }
 
-fn template<'a>(value: &Value, shape: &'a [u16]) -> Template<'a> {
+fn allowances(value: &Value) -> Vec<u16> {
+    value.slots.iter().map(|slot| slot.allowance).collect()
+}
+
+fn template<'a>(value: &Value, shape: &'a [u16], allowances: &'a [u16]) -> Template<'a> {
     Template {
+        profile: value.profile.number(),
         components: value.count,
         shape,
+        allowances,
     }
 }
 
@@ -57,16 +92,16 @@ impl Tables {
     }
 }
 
-fn relay(random: &mut Random) {
-    let (set, value) = search_over(random);
+fn relay(over: Over, random: &mut Random) {
+    let (set, value) = over(random);
     let (letters, lengths) = (&set.letters[..], &set.lengths[..]);
-    let shape = shape(&value);
+    let (shape, allowances) = (shape(&value), allowances(&value));
     let mut saved = random.bytes(128);
     let mut beside = saved.clone();
     let begun = library::begin(
         letters,
         lengths,
-        template(&value, &shape),
+        template(&value, &shape, &allowances),
         value.quorum,
         &mut saved,
     );
@@ -116,12 +151,30 @@ fn relay(random: &mut Random) {
     }
 }
 
-fn pages(random: &mut Random) {
-    let (set, value) = search_over(random);
+/// The number of a random motif: of single letters in the exact profile, and in
+/// the mixed one of as many mixed letters as the components allow, or fewer.
+fn motif(value: &Value, random: &mut Random) -> u64 {
+    let base = value.profile.base();
+    let mut number = 0;
+    for slot in &value.slots[..value.count.into()] {
+        let mut left = slot.allowance;
+        for _ in 0..slot.length {
+            let mixed = value.profile == Profile::Mixed && left > 0 && random.once_in(2);
+            let most = if mixed { 14 } else { 4 };
+            let digit = random.below(most);
+            left -= u16::from(digit > 3);
+            number = number * base + digit;
+        }
+    }
+    number
+}
+
+fn pages(over: Over, random: &mut Random) {
+    let (set, value) = over(random);
     let (letters, lengths) = (&set.letters[..], &set.lengths[..]);
-    let shape = shape(&value);
+    let (shape, allowances) = (shape(&value), allowances(&value));
     let template_there = search(&value).template;
-    let motif = random.below(1 << (2 * template_there.letters_in_all()));
+    let motif = motif(&value, random);
     let row = usize::from(value.count) + 1;
     let whole = second::recover(letters, lengths, &template_there, motif, 0, &mut []);
     let length = whole.expect("a motif within the rules").length;
@@ -135,7 +188,7 @@ fn pages(random: &mut Random) {
         let room = random.below(40) as usize * row + random.below(row as u64) as usize;
         let mut page = random.narrow(room);
         let mut page_there = page.clone();
-        let template = template(&value, &shape);
+        let template = template(&value, &shape, &allowances);
         let told = library::recover(letters, lengths, template, motif, first, &mut page)
             .expect("a row of the list");
         let told_there = second::recover(
@@ -165,8 +218,8 @@ fn pages(random: &mut Random) {
 /// Gives the number of rows.
 fn rows_beside_lists(set: &Set, value: &Value, random: &mut Random) -> usize {
     let (letters, lengths) = (&set.letters[..], &set.lengths[..]);
-    let shape = shape(value);
-    let template = template(value, &shape);
+    let (shape, mut allowances) = (shape(value), allowances(value));
+    let template = template(value, &shape, &allowances);
     let mut saved = [0; 128];
     let size = library::begin(letters, lengths, template, value.quorum, &mut saved)
         .expect("a search within the rules");
@@ -179,7 +232,10 @@ fn rows_beside_lists(set: &Set, value: &Value, random: &mut Random) -> usize {
     for number in other.iter_mut().skip(3 * usize::from(value.count)) {
         *number = random.below(300) as u16;
     }
-    let template = self::template(value, &other);
+    for allowance in allowances.iter_mut().skip(value.count.into()) {
+        *allowance = random.below(300) as u16;
+    }
+    let template = self::template(value, &other, &allowances);
     let row = usize::from(value.count) + 1;
     for (motif, length) in motifs.into_iter().zip(weights).take(leg.rows) {
         let recover = |first, out: &mut [u32]| {
@@ -200,16 +256,20 @@ fn rows_beside_lists(set: &Set, value: &Value, random: &mut Random) -> usize {
     leg.rows
 }
 
-fn weights(random: &mut Random) -> usize {
-    let (set, value) = search_over(random);
+fn weights(over: Over, random: &mut Random) -> usize {
+    let (set, value) = over(random);
     rows_beside_lists(&set, &value, random)
 }
 
-/// Runs it from one seed after another, and names the one at which it fails.
-/// Gives what each run answers.
-fn from_seeds<T>(seeds: std::ops::Range<u64>, what: fn(&mut Random) -> T) -> Vec<T> {
+/// Runs it from one seed after another, over searches of one profile, and names
+/// the seed at which it fails. Gives what each run answers.
+fn from_seeds<T>(
+    seeds: std::ops::Range<u64>,
+    over: Over,
+    what: fn(Over, &mut Random) -> T,
+) -> Vec<T> {
     let run = |seed| {
-        std::panic::catch_unwind(|| what(&mut Random::new(seed))).unwrap_or_else(|cause| {
+        std::panic::catch_unwind(|| what(over, &mut Random::new(seed))).unwrap_or_else(|cause| {
             println!("seed {seed}");
             std::panic::resume_unwind(cause)
         })
@@ -219,17 +279,33 @@ fn from_seeds<T>(seeds: std::ops::Range<u64>, what: fn(&mut Random) -> T) -> Vec
 
 #[test]
 fn legs_pass_on_their_bytes() {
-    from_seeds(1_000..4_000, relay);
+    from_seeds(1_000..4_000, exact, relay);
 }
 
 #[test]
 fn pages_laid_end_to_end_are_the_list() {
-    from_seeds(4_000..8_000, pages);
+    from_seeds(4_000..8_000, exact, pages);
 }
 
 #[test]
 fn weights_are_the_lengths_of_lists() {
-    let rows: usize = from_seeds(8_000..10_000, weights).iter().sum();
+    let rows: usize = from_seeds(8_000..10_000, exact, weights).iter().sum();
+    assert!(rows > 10_000, "{rows} rows");
+}
+
+#[test]
+fn mixed_legs_pass_on_their_bytes() {
+    from_seeds(11_000..12_000, mixed, relay);
+}
+
+#[test]
+fn pages_of_mixed_motifs_are_their_lists() {
+    from_seeds(14_000..16_000, mixed, pages);
+}
+
+#[test]
+fn weights_of_mixed_motifs_are_the_lengths_of_lists() {
+    let rows: usize = from_seeds(18_000..19_000, mixed, weights).iter().sum();
     assert!(rows > 10_000, "{rows} rows");
 }
 
@@ -239,4 +315,7 @@ fn the_largest_weight_is_the_length_of_its_list() {
     let random = &mut Random::new(10_000);
     let value = Value::widest().with_quorum(1);
     assert_eq!(rows_beside_lists(&set, &value, random), 1);
+    // A, and the six mixed letters that stand for it.
+    let value = value.mixed(&[0, 0, 0, 0, 0, 1]);
+    assert_eq!(rows_beside_lists(&set, &value, random), 7);
 }

@@ -3,19 +3,27 @@
 //! them, against this program's. Each answer of that printout names its
 //! input; the input is made anew from the name.
 
-use second::{begin, leg, recover, Answer, Component, Refusal, Template};
+use second::{begin, leg, recover, Answer, Component, Profile, Refusal, Template};
 
 const PRINTED: &str = include_str!("../../crates/runs/stdout");
 
 fn component(length: u8, low: u16, high: u16) -> Component {
-    Component { length, low, high }
+    Component {
+        length,
+        low,
+        high,
+        allowance: 0,
+    }
 }
 
 /// `count` components: the given ones, then ones of a letter with no gap.
 fn template(count: usize, given: &[Component]) -> Template {
     let mut components = given.to_vec();
     components.resize(count, component(1, 0, 0));
-    Template { components }
+    Template {
+        profile: Profile::Exact,
+        components,
+    }
 }
 
 /// N[0,1]N

@@ -1,4 +1,4 @@
-// What a request asks. It is a head of 42 numbers of eight bytes, and then what is lent, in the order of the lengths here:
+// What a request asks. It is a head of 49 numbers of eight bytes, and then what is lent, in the order of the lengths here:
 //
 //   0       the kind of call
 //   1       letters (bytes), or a FASTA file
@@ -15,6 +15,8 @@
 //   37, 38  its place: letters and number
 //   39      the FASTA reader's cursor
 //   40, 41  how many letters, and how many lengths, its tables hold already
+//   42      the template's profile: 1 is mixed, and every other number exact
+//   43 - 48 the allowance of each slot
 //
 // A field narrower than eight bytes takes the low ones.
 use crate::wire::eight;
@@ -23,6 +25,7 @@ use crate::wire::low16;
 use crate::wire::low32;
 use rules::Component;
 use rules::Place;
+use rules::Profile;
 use rules::Search;
 use rules::SequenceSet;
 use rules::Template;
@@ -52,30 +55,33 @@ pub struct Ask {
 
 // The number at an index of the head.
 fn word(head: &[u8; Ask::BYTES], i: usize) -> u64
-    requires { ⌜ i < 42 ⌝ }
+    requires { ⌜ i < 49 ⌝ }
 {
     eight(head, 8 * i)
 }
 
-fn component(head: &[u8; Ask::BYTES], i: usize) -> Component
-    requires { ⌜ i + 3 ≤ 42 ⌝ }
+// The component whose length, low and high stand from an index on, and whose allowance at another.
+fn component(head: &[u8; Ask::BYTES], i: usize, allowance: usize) -> Component
+    requires { ⌜ (i + 3 ≤ 49) × (allowance < 49) ⌝ }
 {
-    Component::new(
+    let c = Component::new(
         low16(word(head, i)),
         low16(word(head, i + 1)),
         low16(word(head, i + 2)),
-    )
+    );
+    c.allowing(low16(word(head, allowance)))
 }
 
 fn template(head: &[u8; Ask::BYTES]) -> Template {
     Template {
+        profile: Profile::of(word(head, 42)),
         count: low16(word(head, 15)),
-        c1: component(head, 16),
-        c2: component(head, 19),
-        c3: component(head, 22),
-        c4: component(head, 25),
-        c5: component(head, 28),
-        c6: component(head, 31),
+        c1: component(head, 16, 43),
+        c2: component(head, 19, 44),
+        c3: component(head, 22, 45),
+        c4: component(head, 25, 46),
+        c5: component(head, 28, 47),
+        c6: component(head, 31, 48),
     }
 }
 
@@ -90,7 +96,7 @@ fn search(head: &[u8; Ask::BYTES]) -> Search {
 
 impl Ask {
     // The numbers of a head, and its bytes.
-    const NUMBERS: usize = 42;
+    const NUMBERS: usize = 49;
 
     pub const BYTES: usize = 8 * Ask::NUMBERS;
 

@@ -1,4 +1,4 @@
-// What an answer tells, in 31 numbers of eight bytes:
+// What an answer tells, in 38 numbers of eight bytes:
 //
 //   0       how the call came out: refused 0, done 1; of a leg, ended 1, spent 2, full 3; of the FASTA reader, a record 1, the
 //           file's end 2
@@ -7,6 +7,7 @@
 //           letters and then the cursor, which a refusal tells too
 //   5, 6    where a record's name starts and ends in its file
 //   7 - 30  the search of a new search, a restore or a leg, laid out as in a request
+//   31 - 37 its template's profile, and the allowance of each slot
 //
 // What an answer does not have is 0.
 use crate::wire::wide8;
@@ -22,6 +23,7 @@ use rules::Leg;
 use rules::LegAnswer;
 use rules::Name;
 use rules::Place;
+use rules::Profile;
 use rules::Recovered;
 use rules::Refusal;
 use rules::Saved;
@@ -44,6 +46,7 @@ pub struct Told {
 fn no_search() -> Search {
     let none = Component::none();
     let template = Template {
+        profile: Profile::Exact,
         count: 0,
         c1: none,
         c2: none,
@@ -62,7 +65,7 @@ fn no_search() -> Search {
 
 impl Told {
     // How many numbers it is.
-    pub const WORDS: usize = 31;
+    pub const WORDS: usize = 38;
 
     fn done(outcome: u64, count: u64, total: u64, search: Search) -> Told {
         Told {
@@ -175,6 +178,7 @@ impl Told {
     pub fn words(self) -> [u64; Told::WORDS] {
         let s = self.search;
         let t = s.template;
+        let profile = t.profile;
         [
             self.outcome,
             self.number,
@@ -207,6 +211,13 @@ impl Told {
             wide32(s.set.letters),
             wide8(s.place.letters),
             s.place.number,
+            wide8(profile.number()),
+            wide16(t.c1.allowance),
+            wide16(t.c2.allowance),
+            wide16(t.c3.allowance),
+            wide16(t.c4.allowance),
+            wide16(t.c5.allowance),
+            wide16(t.c6.allowance),
         ]
     }
 }

@@ -1,10 +1,10 @@
--- Laws that the checks lean on: checks two by two, a test of every byte, a sum from one index to the next, a power of the base
+-- Laws that the checks lean on: checks two by two, a test of every byte, a sum from one index to the next, a power of a base
 -- one letter at a time, and how far the search for a bad component is.
 use mathlib.Core.Bool.{Bool, true, false, _&&_, not, and-assoc}
 use mathlib.Core.List.{List, [], _∷_, _++_, append-nil}
 use mathlib.Core.Path.{_≡_, _∙_, refl, sym, ap}
 use Prim.Native.Nat.{ℕ, zero, suc, _+_, _-_, _/_, _^_, _≤_, _<_, min}
-use native.Mathlib.Nat.{pow-suc, zero-add}
+use native.Mathlib.Nat.{pow-zero, pow-suc, zero-add, div-lt-iff-lt-mul, le-div-iff-mul-le}
 use native.Mathlib.Numerals.{sub-one, add-one}
 use native.Mathlib.Omega.{arith}
 use lib.Dec.{ltb, eqb}
@@ -12,9 +12,9 @@ use lib.ListN.{length, getD, take, drop, length-drop, take-append-drop, drop-of-
 use lib.Seq.{drop-cons, drop-drop, length-take-le}
 use borrow.Author.Tests.{ltb-true, ltb-false, lt-ltb, le-ltb, eq-eqb, ne-eqb}
 use Rattle.rules.specs.Letters.{letter?}
-use Rattle.rules.specs.Limits.{Letter-BASES, Template-COMPONENTS}
-use Rattle.rules.specs.Lists.{all?}
-use Rattle.rules.specs.Refusals.{_else_, first, first-bad, bad-byte}
+use Rattle.rules.specs.Limits.{Template-COMPONENTS}
+use Rattle.rules.specs.Lists.{if, keep, some?, all?}
+use Rattle.rules.specs.Refusals.{_else_, first, refuse-if, first-bad, bad-byte}
 use Rattle.rules.specs.Template.{slots, none, components}
 use Rattle.rules.specs.Told.{Verdict, fine, refused}
 use Rattle.rules.specs.declared.Component.{Component}
@@ -65,20 +65,24 @@ pub same-left : (a s l : ℕ) → a + s ≡ l → eqb s l ≡ eqb a 0
 same-left zero s l e = eq-eqb s l (omega arith)
 same-left (suc a) s l e = ne-eqb s l (λ f. omega arith) ∙ sym (ne-eqb (suc a) 0 (λ f. omega arith))
 
--- POWERS. A number is below a power of the base exactly if, without its last letter, it is below the one before
-fewer-suc : (x j : ℕ) (b : Bool) → ltb (x / Letter-BASES) (Letter-BASES ^ j) ≡ b → ltb x (Letter-BASES ^ suc j) ≡ b
-fewer-suc x j true e = lt-ltb x (Letter-BASES ^ suc j) (omega (arith, pow-suc Letter-BASES j, ltb-true (x / Letter-BASES) (Letter-BASES ^ j) e))
-fewer-suc x j false e = le-ltb x (Letter-BASES ^ suc j) (omega (arith, pow-suc Letter-BASES j, ltb-false (x / Letter-BASES) (Letter-BASES ^ j) e))
+-- POWERS. A number is below a power of a base exactly if, without its last letter, it is below the one before
+module _ (base : ℕ) (some : 1 ≤ base) (x : ℕ) where
+  fewer-suc : (j : ℕ) (b : Bool) → ltb (x / base) (base ^ j) ≡ b → ltb x (base ^ suc j) ≡ b
+  fewer-suc j true e = lt-ltb x (base ^ suc j) (rw pow-suc (div-lt-iff-lt-mul some .0 (ltb-true (x / base) (base ^ j) e)))
+  fewer-suc j false e = le-ltb x (base ^ suc j) (rw pow-suc (le-div-iff-mul-le some .0 (ltb-false (x / base) (base ^ j) e)))
 
-pub fewer : (x j : ℕ) → 0 < j → ltb x (Letter-BASES ^ j) ≡ ltb (x / Letter-BASES) (Letter-BASES ^ (j - 1))
-fewer x zero h = absurd (omega arith)
-fewer x (suc j) h = rw sub-one (fewer-suc x j _ refl)
+  pub fewer : (j : ℕ) → 0 < j → {y : ℕ} → y ≡ x / base → ltb x (base ^ j) ≡ ltb y (base ^ (j - 1))
+  fewer zero h e = absurd (omega arith)
+  fewer (suc j) h e = rw (sub-one, e) (fewer-suc j _ refl)
 
-pub none-left : (x j : ℕ) → j ≡ 0 → ltb x (Letter-BASES ^ j) ≡ eqb x 0
-none-left zero j e = rw e
-none-left (suc x) j e = rw e (le-ltb (suc x) 1 (omega arith) ∙ sym (ne-eqb (suc x) 0 (λ f. omega arith)))
+pub none-left : (base x j : ℕ) → j ≡ 0 → ltb x (base ^ j) ≡ eqb x 0
+none-left base zero j e = rw (e, pow-zero)
+none-left base (suc x) j e = rw (e, pow-zero) (le-ltb (suc x) 1 (omega arith) ∙ sym (ne-eqb (suc x) 0 (λ f. omega arith)))
 
 -- A TEMPLATE'S COMPONENTS: as many slots as it counts, and no more than there are
+pub held-slots : (t : Template) {cs : List Component} {h : ℕ} → cs ≡ slots t → h ≡ min (t .count) Template-COMPONENTS → take h cs ≡ components t
+unfolding components
+held-slots t s e = rw (s, e, take-min (t .count) (slots t))
 
 -- how far a search for the first bad component is: of the first h slots, i are not bad
 pub record Passed (n : ℕ) (bad : ℕ → Component → Bool) (cs : List Component) (h i : ℕ) : Type 0 where
@@ -92,8 +96,7 @@ module _ (n : ℕ) (bad : ℕ → Component → Bool) (t : Template) {cs : List 
   none-passed = rw s (record { within = omega arith; fit = omega arith; few = refl; rest = refl })
 
   all : first-bad n bad 1 (take h cs) ≡ first-bad n bad 1 (components t)
-  unfolding components
-  all = rw (s, e, take-min (t .count) (slots t))
+  all = ap (first-bad n bad 1) (held-slots t s e)
 
   pub found : (d : Component) (i : ℕ) → Passed n bad cs h i → i < h → bad (i + 1) (getD cs i d) ≡ true → refused n (i + 1) ≡ first-bad n bad 1 (components t)
   found d i p l b =
@@ -109,3 +112,22 @@ one-more n bad d {cs} {h} {i} p l b = record {
   few = p .few;
   rest = p .rest ∙ later-in n bad d 1 h cs (p .fit) i l b;
 }
+
+-- ANY BAD ONE. A test that is the same at every place, of which no place is told, refuses exactly if one of the list is bad
+abbrev pub anywhere : (Component → Bool) → ℕ → Component → Bool
+anywhere f i c = f c
+
+abbrev pub unplaced : Verdict → Verdict
+unplaced fine = fine
+unplaced (refused n p) = refused n 0
+
+module _ (n : ℕ) (f : Component → Bool) where
+  pub any-bad : (k : ℕ) (cs : List Component) → unplaced (first-bad n (anywhere f) k cs) ≡ refuse-if (some? (keep f cs)) n
+  unfolding first-bad some? keep
+  any-bad k [] = refl
+  any-bad k (c ∷ cs) = go (f c) (any-bad (suc k) cs)
+    where
+      go : (b : Bool) → unplaced (first-bad n (anywhere f) (suc k) cs) ≡ refuse-if (some? (keep f cs)) n
+          → unplaced (if b (refused n k) (first-bad n (anywhere f) (suc k) cs)) ≡ refuse-if (some? (if b (c ∷ keep f cs) (keep f cs))) n
+      go true h = refl
+      go false h = h

@@ -1,16 +1,18 @@
 // An inner crate: what a call refuses, each check by its number in the paper, and the orders in which the calls check. Every
 // check is total, so that an order may make all of them and keep the first that applies; but what is long is read only where
 // nothing was refused before.
+pub mod spelled;
+
 ghost use mathlib.Core.Path.{_≡_};
-ghost use Prim.Native.Nat.{ℕ, _+_, _^_};
+ghost use Prim.Native.Nat.{ℕ, _+_};
 ghost use lib.Dec.{ltb};
 ghost use lib.ListN.{length};
 ghost use Rattle.checks.specs.Orders.{template-checks, value-checks-before-13};
 ghost use Rattle.checks.specs.Scanned.{LettersUpTo};
 ghost use Rattle.rules.specs.Letters.{letter?};
-ghost use Rattle.rules.specs.Limits.{Letter-BASES, Template-LENGTH};
+ghost use Rattle.rules.specs.Limits.{Template-LENGTH};
 ghost use Rattle.rules.specs.Lists.{if, all?};
-ghost use Rattle.rules.specs.Refusals.{_else_, first, first-bad, bad-byte, outside, bad-gap, check1, check2, check3, check4, check5, check6, check7, check8, check9, check12, check23, set-checks, new-checks};
+ghost use Rattle.rules.specs.Refusals.{_else_, first, first-bad, bad-byte, outside, bad-gap, check1, check2, check3, check4, check5, check6, check7, check8, check9, check12, check23, check24, set-checks, new-checks};
 ghost use Rattle.rules.specs.Saved.{place-rule?};
 ghost use Rattle.rules.specs.Told.{fine, refused, toldChecked};
 use rules::Checked;
@@ -23,6 +25,7 @@ use rules::Refusal;
 use rules::Search;
 use rules::SequenceSet;
 use rules::Template;
+use spelled::valid;
 
 // 1: no sequences, or too many.
 pub fn check_sequences(lengths: &[u32]) -> Checked
@@ -152,12 +155,14 @@ pub fn check_lengths(t: Template) -> Checked
     Checked::Fine
 }
 
-// 7: too many letters in all the components, K.
+// 7: too many letters in all the components, K, for the kind of search.
 pub fn check_size(t: Template) -> Checked
     ensures { λ r. ⌜ toldChecked r ≡ check7 t ⌝ }
 {
     let k = t.letters();
-    Checked::refuse_if(Template::LETTERS < k, Refusal::MotifLength)
+    let profile = t.profile;
+    let most = profile.most();
+    Checked::refuse_if(most < k, Refusal::MotifLength)
 }
 
 // A gap range that component i may not have: the first has 0, 0.
@@ -186,6 +191,24 @@ pub fn check_gaps(t: Template) -> Checked
     Checked::Fine
 }
 
+// 24: an allowance above the component's length. No component is told.
+pub fn check_allowances(t: Template) -> Checked
+    ensures { λ r. ⌜ toldChecked r ≡ check24 t ⌝ }
+{
+    let profile = t.profile;
+    let cs = t.components();
+    let n = t.held() as usize;
+    let mut i: usize = 0;
+    while i < n {
+        let c = cs[i];
+        if c.length < c.allowance_in(profile) {
+            return Checked::Refused(Refusal::Allowance);
+        }
+        i += 1;
+    }
+    Checked::Fine
+}
+
 // 9: a quorum of 0, or above the number of sequences.
 pub fn check_quorum(lengths: &[u32], quorum: u64) -> Checked
     ensures { λ r. ⌜ toldChecked r ≡ check9 (now (lengths .entry)) quorum ⌝ }
@@ -194,26 +217,12 @@ pub fn check_quorum(lengths: &[u32], quorum: u64) -> Checked
     Checked::refuse_if((quorum < 1) | (n < quorum), Refusal::Quorum)
 }
 
-// A number that so many letters can spell: it lies below 4 to the power of them. That power is never formed; the number is
-// divided by 4 once for each letter, and must come to nothing.
-pub fn spelled_by(number: u64, letters: u32) -> bool
-    ensures { λ r. ⌜ r ≡ ltb number (Letter-BASES ^ letters) ⌝ }
-{
-    let mut x = number;
-    let mut j = letters;
-    while 0 < j {
-        x = x / Letter::BASES;
-        j -= 1;
-    }
-    x == 0
-}
-
-// The place rule: a place is 0 to K, and its number lies below 4 to the power of the place.
+// The place rule: a place is 0 to K, and its number is that of so many letters.
 pub fn place_rule(t: Template, p: Place) -> bool
     ensures { λ r. ⌜ r ≡ place-rule? t p ⌝ }
 {
     let j = p.letters as u32;
-    (j <= t.letters()) & spelled_by(p.number, j)
+    (j <= t.letters()) & valid(t, j, p.number)
 }
 
 // 23: a place that breaks its rule. Its record comes after the size record and those of the components.
@@ -263,7 +272,7 @@ pub fn check_set(letters: &[u8], lengths: &[u32]) -> Checked
     }
 }
 
-// 5 to 8: the checks of a template.
+// 5 to 8 and 24: the checks of a template.
 pub fn check_template(t: Template) -> Checked
     ensures { λ r. ⌜ toldChecked r ≡ first (template-checks t) ⌝ }
 {
@@ -271,9 +280,10 @@ pub fn check_template(t: Template) -> Checked
         .then(check_lengths(t))
         .then(check_size(t))
         .then(check_gaps(t))
+        .then(check_allowances(t))
 }
 
-// 1 to 9: the checks of a new search.
+// 1 to 8, 24 and 9: the checks of a new search.
 pub fn check_new(letters: &[u8], lengths: &[u32], t: Template, quorum: u64) -> Checked
     ensures { λ r. ⌜ toldChecked r ≡ first (new-checks (now (letters .entry)) (now (lengths .entry)) t quorum) ⌝ }
 {
@@ -282,7 +292,7 @@ pub fn check_new(letters: &[u8], lengths: &[u32], t: Template, quorum: u64) -> C
         .then(check_quorum(lengths, quorum))
 }
 
-// 5, 23, 6, 7, 8, 12, 9: those of a search value, before 13.
+// 5, 23, 6, 7, 8, 24, 12, 9: those of a search value, before 13.
 pub fn check_value(letters: &[u8], lengths: &[u32], s: Search) -> Checked
     ensures { λ r. ⌜ toldChecked r ≡ first (value-checks-before-13 (now (letters .entry)) (now (lengths .entry)) s) ⌝ }
 {
@@ -293,6 +303,7 @@ pub fn check_value(letters: &[u8], lengths: &[u32], s: Search) -> Checked
         .then(check_lengths(t))
         .then(check_size(t))
         .then(check_gaps(t))
+        .then(check_allowances(t))
         .then(check_same_set(letters, lengths, s))
         .then(check_quorum(lengths, quorum))
 }

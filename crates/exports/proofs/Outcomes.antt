@@ -2,11 +2,11 @@
 use mathlib.Core.Path.{_≡_}
 use mathlib.Core.List.{List}
 use Prim.Native.Nat.{ℕ}
-use Rattle.rules.specs.Calls.{Written, begin-rule}
-use Rattle.rules.specs.Told.{Told}
+use Rattle.rules.specs.Calls.{on-refusal, Written, begin-rule}
+use Rattle.rules.specs.Told.{Verdict, Told, refuses}
 use Rattle.rules.specs.declared.Search.{Search}
 use Rattle.rules.specs.declared.Template.{Template}
-use Rattle.exports.specs.Exported.{outcome, outcome-of, save-begun, shape-after}
+use Rattle.exports.specs.Exported.{outcome, outcome-of, save-begun, restore-of, shape-after, allowances-after}
 use Rattle.exports.specs.Numbers.{count-told, search-told}
 use Rattle.exports.specs.declared.told.Count.{Count}
 use Rattle.exports.specs.declared.told.Restored.{Restored}
@@ -17,13 +17,13 @@ pub written-outcome : {A B : Type 0} (read : Told A → B) (w : Written A) {r : 
 written-outcome read w e f g = rw (e, f, g)
 
 -- a new search, which is saved
-pub begun-outcome : (letters lengths : List ℕ) (t : Template) (quorum : ℕ) (saved : List ℕ) {u : Template} {b : Told Search} {r : Count} {a : Told ℕ} {out : List ℕ}
-    → u ≡ t → b ≡ begin-rule letters lengths u quorum → r ≡ count-told a
+pub begun-outcome : (letters lengths : List ℕ) (v : Verdict) (t : Template) (quorum : ℕ) (saved : List ℕ) {w : Verdict} {u : Template} {b : Told Search} {r : Count} {a : Told ℕ} {out : List ℕ}
+    → w ≡ v → u ≡ t → b ≡ on-refusal w refuses (begin-rule letters lengths u quorum) → r ≡ count-told a
     → (a ≡ (save-begun letters lengths b saved) .told) × (out ≡ (save-begun letters lengths b saved) .out)
-    → outcome r out ≡ outcome-of count-told (save-begun letters lengths (begin-rule letters lengths t quorum) saved)
-begun-outcome letters lengths t quorum saved e f g h = rw (← e, ← f) (written-outcome count-told _ g (h .0) (h .1))
+    → outcome r out ≡ outcome-of count-told (save-begun letters lengths (on-refusal v refuses (begin-rule letters lengths t quorum)) saved)
+begun-outcome letters lengths v t quorum saved d e f g h = rw (← d, ← e, ← f) (written-outcome count-told _ g (h .0) (h .1))
 
--- a restore: the numbers, and the shape
-pub restored-outcome : (u : Told Search) (shape : List ℕ) {r : Restored} {t : Told Search} {out : List ℕ} → r ≡ search-told t → t ≡ u → out ≡ shape-after t shape
-    → outcome r out ≡ outcome (search-told u) (shape-after u shape)
-restored-outcome u shape e f g = rw (e, g, f)
+-- a restore: the numbers, the shape and the allowances
+pub restored-outcome : (u : Told Search) (shape allowances : List ℕ) {r : Restored} {t : Told Search} {xs ys : List ℕ} → r ≡ search-told t → t ≡ u → xs ≡ shape-after t shape → ys ≡ allowances-after t allowances
+    → restore-of r xs ys ≡ restore-of (search-told u) (shape-after u shape) (allowances-after u allowances)
+restored-outcome u shape allowances e f g h = rw (e, g, h, f)

@@ -1,10 +1,10 @@
--- What the exported calls that are made of two refuse: a begin what a new search refuses, and then 17; a leg what a restore
--- refuses, and nothing else.
+-- What the exported calls that are made of two refuse: a begin a profile that is none, what a new search refuses, and then 17; a leg
+-- what a restore refuses, and nothing else.
 use mathlib.Core.Path.{_≡_, refl, ap, _∙_}
 use mathlib.Core.List.{List, [], _∷_, _++_}
 use Prim.Native.Nat.{ℕ}
 use lib.ListN.{length}
-use Rattle.rules.specs.Calls.{begun, begin-rule, leg-rule, unless, written-unless, save-rule, restore-rule}
+use Rattle.rules.specs.Calls.{on-refusal, begun, begin-rule, leg-rule, unless, written-unless, save-rule, restore-rule}
 use Rattle.rules.specs.Refusals.{_else_, first, check17, new-checks, search-checks, save-checks}
 use Rattle.rules.specs.Saved.{bytes}
 use Rattle.rules.specs.Told.{Verdict, fine, refused, gives, refuses}
@@ -15,7 +15,7 @@ use Rattle.rules.proofs.Saves.{restore-saved, restored-passes, restored-trimmed
 use Rattle.rules.proofs.Sound.{search-fine}
 use Rattle.rules.proofs.Trimmed.{trimmed-same}
 use Rattle.rules.proofs.Verdicts.{first-append}
-use Rattle.exports.specs.Exported.{save-begun, leg-of, leg-from, leg-outcome}
+use Rattle.exports.specs.Exported.{checked-written, save-begun, leg-of, leg-from, leg-outcome}
 use Rattle.exports.specs.Numbers.{stopped, leg-told}
 use Rattle.exports.proofs.Resaved.{after-sound, after-template, after-long}
 
@@ -27,7 +27,7 @@ module _ (letters lengths : List ℕ) where
   saves-unless fine s out h = rw (first-append, h refl)
   saves-unless (refused n p) s out h = refl
 
-  -- 1 to 9, and 17 last; past them the bytes of the search that stands at its first candidate are written
+  -- 1 to 8, 24, 9, and 17 last; past them the bytes of the search that stands at its first candidate are written
   pub begin-saves : (t : Template) (quorum : ℕ) (out : List ℕ) → let s = begun letters lengths t quorum in
       save-begun letters lengths (begin-rule letters lengths t quorum) out
       ≡ written-unless (first (new-checks letters lengths t quorum ++ (check17 (length (bytes s)) out ∷ []))) (length (bytes s)) (bytes s) out
@@ -35,6 +35,14 @@ module _ (letters lengths : List ℕ) where
   begin-saves t quorum out =
       let s = begun letters lengths t quorum in
       rw (first-append) (saves-unless (first (new-checks letters lengths t quorum)) s out (λ e. search-fine letters lengths s ((begins letters lengths t quorum s (rw e)) .sound)))
+
+  -- the same after the profile's check, which may refuse before them
+  pub checked-saves : (v : Verdict) (t : Template) (quorum : ℕ) (out : List ℕ) → let s = begun letters lengths t quorum in
+      save-begun letters lengths (on-refusal v refuses (begin-rule letters lengths t quorum)) out
+      ≡ checked-written v (written-unless (first (new-checks letters lengths t quorum ++ (check17 (length (bytes s)) out ∷ []))) (length (bytes s)) (bytes s) out) out
+  unfolding save-begun
+  checked-saves fine t quorum out = begin-saves t quorum out
+  checked-saves (refused n p) t quorum out = refl
 
   module _ (bs : List ℕ) (budget : ℕ) (motifs supports weights : List ℕ) where
     -- a leg is refused as the restore is, and leaves all as it was

@@ -5,28 +5,29 @@ use mathlib.Core.Bool.{Bool, true, false, _&&_, not}
 use mathlib.Core.List.{List, [], _∷_, _++_, map}
 use Prim.Native.Nat.{ℕ, suc, _≤_}
 use native.Mathlib.Omega.{arith}
-use lib.Dec.{ltb, eqb}
+use lib.Dec.{leb, ltb, eqb}
 use lib.ListN.{length}
+use borrow.Author.Tests.{leb-true, leb-false}
 use Rattle.rules.specs.Profile.{profile-of}
 use Rattle.rules.specs.Fasta.{Line, Entry, no-room?, size-of, text-first?, check-line, check19, check20, check-lines, check4-file, lines-from, entries, next-checks, reader-checks, stays, hands-out, reader-rule}
 use Rattle.rules.specs.Support.{valid}
 use Rattle.rules.specs.Calls.{on-refusal, begun, unless, written-unless, save-rule, restore-rule, recover-rule, join-rule}
 use Rattle.rules.specs.Join.{rising?}
-use Rattle.rules.specs.Limits.{Template-COMPONENTS, Template-LENGTH, SequenceSet-SEQUENCES, SequenceSet-LETTERS}
-use Rattle.rules.specs.Lists.{if, sum}
+use Rattle.rules.specs.Limits.{Profile-MIXED, Template-COMPONENTS, Template-LENGTH, SequenceSet-SEQUENCES, SequenceSet-LETTERS}
+use Rattle.rules.specs.Lists.{if, keep, some?, sum}
 use Rattle.rules.specs.Recovery.{whole-list}
-use Rattle.rules.specs.Refusals.{_else_, first, first-bad, outside, bad-range, passes?, check1, check2, check3, check4, check5, check6, check7, check8, check9, check10, check11, check12, check13, check14, check15, check6-head, check8-range, check16, check17, check21, check22, check23, set-checks, new-checks, restore-checks, value-checks, search-checks, save-checks, recover-checks, join-checks}
+use Rattle.rules.specs.Refusals.{_else_, first, first-bad, outside, bad-range, bad-allowance, passes?, check1, check2, check3, check4, check5, check6, check7, check8, check9, check10, check11, check12, check13, check14, check15, check6-head, check8-range, check16, check17, check21, check22, check23, check24, set-checks, new-checks, restore-checks, value-checks, search-checks, save-checks, recover-checks, join-checks}
 use Rattle.rules.specs.Saved.{bytes, sized?, sums?, place-rule?, read-search}
 use Rattle.rules.specs.Sequences.{sequences}
-use Rattle.rules.specs.Template.{size}
+use Rattle.rules.specs.Template.{components, size}
 use Rattle.rules.specs.Told.{Verdict, fine, refused, refuses}
 use Rattle.rules.specs.declared.Search.{Search}
 use Rattle.rules.specs.declared.Template.{Template}
-use Rattle.rules.proofs.Verdicts.{never}
-use Rattle.exports.specs.Exported.{LegOutcome, begin-outcome, leg-outcome, restore-outcome, save-outcome, recover-outcome, join-outcome, fasta-outcome}
+use Rattle.rules.proofs.Verdicts.{never, else-both}
+use Rattle.exports.specs.Exported.{LegOutcome, profile-check, checked-written, begin-outcome, leg-outcome, restore-outcome, save-outcome, recover-outcome, join-outcome, fasta-outcome}
 use Rattle.exports.specs.Numbers.{refusal-number-told, count-told, page-told, search-told, found-told}
 use Rattle.exports.specs.Shape.{template-of}
-use Rattle.exports.proofs.Whole.{begin-saves, leg-refused, leg-runs}
+use Rattle.exports.proofs.Whole.{checked-saves, leg-refused, leg-runs}
 
 -- a refusal of at least 1, and every one of a list
 unfoldable Numbered : Verdict → Type 0
@@ -57,6 +58,16 @@ all-numbered [] h = tt
 all-numbered (fine ∷ vs) h = all-numbered vs (h .1)
 all-numbered (refused n p ∷ vs) h = h .0
 
+two-numbered : (v w : Verdict) → Numbered v → Numbered w → Numbered (v else w)
+unfolding _else_ Numbered
+two-numbered fine w h k = k
+two-numbered (refused n p) w h k = h
+
+fine-numbered : (b : Bool) (v : Verdict) → Numbered v → Numbered (if b fine v)
+unfolding Numbered
+fine-numbered true v h = tt
+fine-numbered false v h = h
+
 both-numbered : (us vs : List Verdict) → AllNumbered us → AllNumbered vs → AllNumbered (us ++ vs)
 both-numbered [] vs h k = k
 both-numbered (u ∷ us) vs h k = (h .0, both-numbered us vs (h .1) k)
@@ -66,26 +77,30 @@ set-numbered : (letters lengths : List ℕ) → AllNumbered (set-checks letters 
 unfolding check1 check2 check3 check4
 set-numbered letters lengths = (if-numbered (outside 1 SequenceSet-SEQUENCES (length lengths)) 1 0 (omega arith), (if-numbered (ltb SequenceSet-LETTERS (length letters)) 2 0 (omega arith), (if-numbered (not (eqb (sum lengths) (length letters))) 3 0 (omega arith), (bad-numbered 4 _ 0 letters (omega arith), tt))))
 
-template-numbered : (t : Template) → Numbered (check5 t) × (Numbered (check6 t) × (Numbered (check7 t) × Numbered (check8 t)))
-unfolding check5 check6 check7 check8
-template-numbered t = (if-numbered (outside 1 Template-COMPONENTS (t .count)) 5 0 (omega arith), (bad-numbered 6 _ 1 _ (omega arith), (if-numbered (ltb (profile-of t .most) (size t)) 7 0 (omega arith), bad-numbered 8 _ 1 _ (omega arith))))
+template-numbered : (t : Template) → Numbered (check5 t) × (Numbered (check6 t) × (Numbered (check7 t) × (Numbered (check8 t) × Numbered (check24 t))))
+unfolding check5 check6 check7 check8 check24
+template-numbered t = (if-numbered (outside 1 Template-COMPONENTS (t .count)) 5 0 (omega arith), (bad-numbered 6 _ 1 _ (omega arith), (if-numbered (ltb (profile-of t .most) (size t)) 7 0 (omega arith), (bad-numbered 8 _ 1 _ (omega arith), if-numbered (some? (keep (bad-allowance (t .profile)) (components t))) 24 0 (omega arith)))))
 
 room-numbered : (n : ℕ) (out : List ℕ) → Numbered (check17 n out)
 unfolding check17
 room-numbered n out = if-numbered (ltb (length out) n) 17 0 (omega arith)
 
 module _ (letters lengths : List ℕ) where
+  profile-numbered : (profile : ℕ) → Numbered (profile-check letters lengths profile)
+  unfolding profile-check Numbered
+  profile-numbered profile = fine-numbered (leb profile Profile-MIXED) _ (two-numbered (first (set-checks letters lengths)) (refused 21 0) (all-numbered _ (set-numbered letters lengths)) (omega arith))
+
   new-numbered : (t : Template) (quorum : ℕ) → AllNumbered (new-checks letters lengths t quorum)
   unfolding new-checks check9
   new-numbered t quorum =
       let h = template-numbered t in
-      both-numbered (set-checks letters lengths) (check5 t ∷ check6 t ∷ check7 t ∷ check8 t ∷ check9 lengths quorum ∷ []) (set-numbered letters lengths) (h .0, (h .1 .0, (h .1 .1 .0, (h .1 .1 .1, (if-numbered (outside 1 (length lengths) quorum) 9 0 (omega arith), tt)))))
+      both-numbered (set-checks letters lengths) (check5 t ∷ check6 t ∷ check7 t ∷ check8 t ∷ check24 t ∷ check9 lengths quorum ∷ []) (set-numbered letters lengths) (h .0, (h .1 .0, (h .1 .1 .0, (h .1 .1 .1 .0, (h .1 .1 .1 .1, (if-numbered (outside 1 (length lengths) quorum) 9 0 (omega arith), tt))))))
 
   value-numbered : (s : Search) → AllNumbered (value-checks letters lengths s)
   unfolding check9 check12 check13 check23
   value-numbered s =
       let h = template-numbered (s .template) in
-      (if-numbered (not (place-rule? (s .template) (s .place))) 23 _ (omega arith), (h .1 .0, (h .1 .1 .0, (h .1 .1 .1, (if-numbered (not (eqb (s .set .sequences) (length lengths) && eqb (s .set .letters) (length letters))) 12 0 (omega arith), (if-numbered (outside 1 (length lengths) (s .quorum)) 9 0 (omega arith), (if-numbered (not (passes? letters lengths s)) 13 0 (omega arith), tt)))))))
+      (if-numbered (not (place-rule? (s .template) (s .place))) 23 _ (omega arith), (h .1 .0, (h .1 .1 .0, (h .1 .1 .1 .0, (h .1 .1 .1 .1, (if-numbered (not (eqb (s .set .sequences) (length lengths) && eqb (s .set .letters) (length letters))) 12 0 (omega arith), (if-numbered (outside 1 (length lengths) (s .quorum)) 9 0 (omega arith), (if-numbered (not (passes? letters lengths s)) 13 0 (omega arith), tt))))))))
 
   restore-numbered : (bs : List ℕ) → AllNumbered (restore-checks letters lengths bs)
   unfolding restore-checks check10 check11 check21 check22
@@ -105,8 +120,8 @@ module _ (letters lengths : List ℕ) where
   unfolding recover-checks check14 check15
   recover-numbered t m f =
       let h = template-numbered t in
-      both-numbered (set-checks letters lengths) (check5 t ∷ check6 t ∷ check7 t ∷ check8 t ∷ check14 t m ∷ check15 letters lengths t m f ∷ []) (set-numbered letters lengths)
-      (h .0, (h .1 .0, (h .1 .1 .0, (h .1 .1 .1, (if-numbered (not (valid t (size t) m)) 14 0 (omega arith), (if-numbered (ltb (length (whole-list t (sequences letters lengths) m)) f) 15 0 (omega arith), tt))))))
+      both-numbered (set-checks letters lengths) (check5 t ∷ check6 t ∷ check7 t ∷ check8 t ∷ check24 t ∷ check14 t m ∷ check15 letters lengths t m f ∷ []) (set-numbered letters lengths)
+      (h .0, (h .1 .0, (h .1 .1 .0, (h .1 .1 .1 .0, (h .1 .1 .1 .1, (if-numbered (not (valid t (size t) m)) 14 0 (omega arith), (if-numbered (ltb (length (whole-list t (sequences letters lengths) m)) f) 15 0 (omega arith), tt)))))))
 
 join-numbered : (xs ys : List ℕ) (head low high : ℕ) (out : List ℕ) → AllNumbered (join-checks xs ys head low high out)
 unfolding join-checks check6-head check8-range check16
@@ -137,15 +152,34 @@ unfolding Numbered
 written-zero fine a xs out h = (λ e. refl, λ e. refl)
 written-zero (refused n p) a xs out h = (λ e. absurd (omega (arith, h, e)), λ e. never n p e)
 
+-- the same where a check was made before the others
+checked-zero : {A : Type 0} (v : Verdict) (vs : List Verdict) (a : A) (xs out : List ℕ) → Numbered v → AllNumbered vs
+    → (refusal-number-told ((checked-written v (written-unless (first vs) a xs out) out) .told) ≡ 0) ↔ (first (v ∷ vs) ≡ fine)
+unfolding first _else_ Numbered
+checked-zero fine vs a xs out h k = written-zero (first vs) a xs out (all-numbered vs k)
+checked-zero (refused n p) vs a xs out h k = (λ e. absurd (omega (arith, h, e)), λ e. never n p e)
+
 module _ (letters lengths : List ℕ) where
-  pub begin-zero : (components : ℕ) (shape : List ℕ) (quorum : ℕ) (saved : List ℕ) → let t = template-of components shape in
-      ((begin-outcome letters lengths components shape quorum saved) .numbers .number ≡ 0)
-      ↔ (first (new-checks letters lengths t quorum ++ (check17 (length (bytes (begun letters lengths t quorum))) saved ∷ [])) ≡ fine)
+  -- a number is refused as no profile's exactly if it is above the last
+  pub profile-passes : (profile : ℕ) → (profile-check letters lengths profile ≡ fine) ↔ (profile ≤ Profile-MIXED)
+  unfolding profile-check
+  profile-passes profile = go (leb profile Profile-MIXED) refl
+    where
+      go : (b : Bool) → leb profile Profile-MIXED ≡ b → (if b fine (first (set-checks letters lengths) else refused 21 0) ≡ fine) ↔ (profile ≤ Profile-MIXED)
+      go true e = (λ q. leb-true _ _ e, λ h. refl)
+      go false e = (λ q. never 21 0 (else-both _ _ .0 q .1), λ h. absurd (omega (arith, leb-false profile Profile-MIXED e)))
+
+  pub begin-zero : (profile components : ℕ) (shape allowances : List ℕ) (quorum : ℕ) (saved : List ℕ) → let t = template-of profile components shape allowances in
+      ((begin-outcome letters lengths profile components shape allowances quorum saved) .numbers .number ≡ 0)
+      ↔ (first (profile-check letters lengths profile ∷ new-checks letters lengths t quorum ++ (check17 (length (bytes (begun letters lengths t quorum))) saved ∷ [])) ≡ fine)
   unfolding begin-outcome count-told
-  begin-zero components shape quorum saved =
-      let t = template-of components shape in
-      rw (begin-saves letters lengths t quorum saved)
-      (written-zero _ _ _ saved (all-numbered _ (both-numbered (new-checks letters lengths t quorum) (check17 (length (bytes (begun letters lengths t quorum))) saved ∷ []) (new-numbered letters lengths t quorum) (room-numbered _ saved, tt))))
+  begin-zero profile components shape allowances quorum saved =
+      let t = template-of profile components shape allowances in
+      let bs = bytes (begun letters lengths t quorum) in
+      let vs = new-checks letters lengths t quorum ++ (check17 (length bs) saved ∷ []) in
+      rw (checked-saves letters lengths (profile-check letters lengths profile) t quorum saved)
+      (checked-zero (profile-check letters lengths profile) vs (length bs) bs saved (profile-numbered letters lengths profile)
+      (both-numbered (new-checks letters lengths t quorum) (check17 (length bs) saved ∷ []) (new-numbered letters lengths t quorum) (room-numbered _ saved, tt)))
 
   module _ (saved : List ℕ) (budget : ℕ) (motifs supports weights : List ℕ) where
     leg-told-zero : (v : Verdict) → first (restore-checks letters lengths saved) ≡ v → Numbered v → ((leg-outcome letters lengths saved budget motifs supports weights) .numbers .number ≡ 0) ↔ (v ≡ fine)
@@ -160,18 +194,22 @@ module _ (letters lengths : List ℕ) where
     pub leg-zero : ((leg-outcome letters lengths saved budget motifs supports weights) .numbers .number ≡ 0) ↔ (first (restore-checks letters lengths saved) ≡ fine)
     leg-zero = leg-told-zero (first (restore-checks letters lengths saved)) refl (all-numbered _ (restore-numbered letters lengths saved))
 
-  pub restore-zero : (saved shape : List ℕ) → ((restore-outcome letters lengths saved shape) .numbers .number ≡ 0) ↔ (first (restore-checks letters lengths saved) ≡ fine)
+  pub restore-zero : (saved shape allowances : List ℕ) → ((restore-outcome letters lengths saved shape allowances) .numbers .number ≡ 0) ↔ (first (restore-checks letters lengths saved) ≡ fine)
   unfolding restore-outcome search-told restore-rule
-  restore-zero saved shape = unless-zero _ _ (all-numbered _ (restore-numbered letters lengths saved))
+  restore-zero saved shape allowances = unless-zero _ _ (all-numbered _ (restore-numbered letters lengths saved))
 
-  pub save-zero : (s : Search) (out : List ℕ) → ((save-outcome letters lengths s out) .numbers .number ≡ 0) ↔ (first (save-checks letters lengths s out) ≡ fine)
+  pub save-zero : (profile : ℕ) (s : Search) (out : List ℕ)
+      → ((save-outcome letters lengths profile s out) .numbers .number ≡ 0) ↔ (first (profile-check letters lengths profile ∷ save-checks letters lengths s out) ≡ fine)
   unfolding save-outcome count-told save-rule
-  save-zero s out = written-zero _ _ _ out (all-numbered _ (save-numbered letters lengths s out))
+  save-zero profile s out = checked-zero _ (save-checks letters lengths s out) _ _ out (profile-numbered letters lengths profile) (save-numbered letters lengths s out)
 
-  pub recover-zero : (components : ℕ) (shape : List ℕ) (motif first-row : ℕ) (out : List ℕ)
-      → ((recover-outcome letters lengths components shape motif first-row out) .numbers .number ≡ 0) ↔ (first (recover-checks letters lengths (template-of components shape) motif first-row) ≡ fine)
+  pub recover-zero : (profile components : ℕ) (shape allowances : List ℕ) (motif first-row : ℕ) (out : List ℕ) → let t = template-of profile components shape allowances in
+      ((recover-outcome letters lengths profile components shape allowances motif first-row out) .numbers .number ≡ 0)
+      ↔ (first (profile-check letters lengths profile ∷ recover-checks letters lengths t motif first-row) ≡ fine)
   unfolding recover-outcome page-told recover-rule
-  recover-zero components shape motif first-row out = written-zero _ _ _ out (all-numbered _ (recover-numbered letters lengths (template-of components shape) motif first-row))
+  recover-zero profile components shape allowances motif first-row out =
+      let t = template-of profile components shape allowances in
+      checked-zero _ (recover-checks letters lengths t motif first-row) _ _ out (profile-numbered letters lengths profile) (recover-numbered letters lengths t motif first-row)
 
 pub join-zero : (xs ys : List ℕ) (head low high : ℕ) (out : List ℕ) → ((join-outcome xs ys head low high out) .numbers .number ≡ 0) ↔ (first (join-checks xs ys head low high out) ≡ fine)
 unfolding join-outcome count-told join-rule

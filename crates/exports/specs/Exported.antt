@@ -2,14 +2,18 @@
 -- afterwards, refused calls too. Each is put together from the rules of the public calls, `Calls` of the crate `rules`.
 use mathlib.Core.List.{List}
 use Prim.Native.Nat.{ℕ, _+_}
-use Rattle.rules.specs.Calls.{Written, begin-rule, leg-rule, save-rule, restore-rule, recover-rule, join-rule}
+use lib.Dec.{leb}
+use Rattle.rules.specs.Calls.{on-refusal, Written, begin-rule, leg-rule, save-rule, restore-rule, recover-rule, join-rule}
 use Rattle.rules.specs.Fasta.{reader-rule}
+use Rattle.rules.specs.Limits.{Profile-MIXED}
+use Rattle.rules.specs.Lists.{if}
+use Rattle.rules.specs.Refusals.{_else_, first, set-checks}
 use Rattle.rules.specs.Saved.{bytes}
-use Rattle.rules.specs.Told.{Told, gives, refuses}
+use Rattle.rules.specs.Told.{Verdict, fine, refused, Told, gives, refuses}
 use Rattle.rules.specs.Walk.{place}
 use Rattle.rules.specs.declared.Search.{Search}
 use Rattle.exports.specs.Numbers.{count-told, page-told, stopped, leg-told, search-told, found-told}
-use Rattle.exports.specs.Shape.{template-of, shape-of, fill}
+use Rattle.exports.specs.Shape.{template-of, shape-of, allowances-of, fill}
 use Rattle.exports.specs.declared.told.Count.{Count}
 use Rattle.exports.specs.declared.told.Page.{Page}
 use Rattle.exports.specs.declared.told.Restored.{Restored}
@@ -32,18 +36,27 @@ outcome numbers table = record { numbers = numbers; table = table }
 abbrev pub outcome-of : {A B : Type 0} → (Told A → B) → Written A → Outcome B
 outcome-of read w = outcome (read (w .told)) (w .out)
 
--- the search of so many components, a shape and the rest
-abbrev pub search-of : ℕ → List ℕ → ℕ → ℕ → ℕ → ℕ → ℕ → Search
-search-of components shape quorum sequences total letters number =
-    record { template = template-of components shape; quorum = quorum; set = record { sequences = sequences; letters = total }; place = place letters number }
+-- the search of a profile, so many components, a shape, allowances and the rest
+abbrev pub search-of : ℕ → ℕ → List ℕ → List ℕ → ℕ → ℕ → ℕ → ℕ → ℕ → Search
+search-of profile components shape allowances quorum sequences total letters number =
+    record { template = template-of profile components shape allowances; quorum = quorum; set = record { sequences = sequences; letters = total }; place = place letters number }
+
+-- THE PROFILE is a number here: one that is none is refused, with 21 and place 0, where 1 to 4 pass
+unfoldable pub profile-check : List ℕ → List ℕ → ℕ → Verdict
+profile-check letters lengths profile = if (leb profile Profile-MIXED) fine (first (set-checks letters lengths) else refused 21 0)
+
+-- what a save or a recovery comes to, unless it is
+abbrev pub checked-written : {A : Type 0} → Verdict → Written A → List ℕ → Written A
+checked-written v w out = on-refusal v (λ n p. record { told = refuses n p; out = out }) w
 
 -- BEGIN: a new search, saved
 unfoldable pub save-begun : List ℕ → List ℕ → Told Search → List ℕ → Written ℕ
 save-begun letters lengths begun out = on-told begun (λ n p. record { told = refuses n p; out = out }) (λ s. save-rule letters lengths s out)
 
-unfoldable pub begin-outcome : List ℕ → List ℕ → ℕ → List ℕ → ℕ → List ℕ → Outcome Count
-begin-outcome letters lengths components shape quorum saved =
-    outcome-of count-told (save-begun letters lengths (begin-rule letters lengths (template-of components shape) quorum) saved)
+unfoldable pub begin-outcome : List ℕ → List ℕ → ℕ → ℕ → List ℕ → List ℕ → ℕ → List ℕ → Outcome Count
+begin-outcome letters lengths profile components shape allowances quorum saved =
+    let t = template-of profile components shape allowances in
+    outcome-of count-told (save-begun letters lengths (on-refusal (profile-check letters lengths profile) refuses (begin-rule letters lengths t quorum)) saved)
 
 -- LEG: the search is restored, and saved again at its new place
 pub record LegOutcome : Type 0 where
@@ -68,22 +81,35 @@ unfoldable pub leg-outcome : List ℕ → List ℕ → List ℕ → ℕ → List
 leg-outcome letters lengths saved budget motifs supports weights =
     leg-from letters lengths (restore-rule letters lengths saved) budget saved motifs supports weights
 
--- RESTORE: the table is the shape
+-- RESTORE: the tables are the shape and the allowances
+pub record RestoreOutcome : Type 0 where
+  pub numbers : Restored
+  pub shape : List ℕ
+  pub allowances : List ℕ
+
+abbrev pub restore-of : Restored → List ℕ → List ℕ → RestoreOutcome
+restore-of numbers shape allowances = record { numbers = numbers; shape = shape; allowances = allowances }
+
 unfoldable pub shape-after : Told Search → List ℕ → List ℕ
 shape-after t shape = on-told t (λ n p. shape) (λ s. fill (shape-of (s .template)) shape)
 
-unfoldable pub restore-outcome : List ℕ → List ℕ → List ℕ → List ℕ → Outcome Restored
-restore-outcome letters lengths saved shape =
-    let t = restore-rule letters lengths saved in outcome (search-told t) (shape-after t shape)
+unfoldable pub allowances-after : Told Search → List ℕ → List ℕ
+allowances-after t allowances = on-told t (λ n p. allowances) (λ s. fill (allowances-of (s .template)) allowances)
+
+unfoldable pub restore-outcome : List ℕ → List ℕ → List ℕ → List ℕ → List ℕ → RestoreOutcome
+restore-outcome letters lengths saved shape allowances =
+    let t = restore-rule letters lengths saved in restore-of (search-told t) (shape-after t shape) (allowances-after t allowances)
 
 -- SAVE
-unfoldable pub save-outcome : List ℕ → List ℕ → Search → List ℕ → Outcome Count
-save-outcome letters lengths s out = outcome-of count-told (save-rule letters lengths s out)
+unfoldable pub save-outcome : List ℕ → List ℕ → ℕ → Search → List ℕ → Outcome Count
+save-outcome letters lengths profile s out =
+    outcome-of count-told (checked-written (profile-check letters lengths profile) (save-rule letters lengths s out) out)
 
 -- RECOVER
-unfoldable pub recover-outcome : List ℕ → List ℕ → ℕ → List ℕ → ℕ → ℕ → List ℕ → Outcome Page
-recover-outcome letters lengths components shape motif first out =
-    outcome-of page-told (recover-rule letters lengths (template-of components shape) motif first out)
+unfoldable pub recover-outcome : List ℕ → List ℕ → ℕ → ℕ → List ℕ → List ℕ → ℕ → ℕ → List ℕ → Outcome Page
+recover-outcome letters lengths profile components shape allowances motif first out =
+    let t = template-of profile components shape allowances in
+    outcome-of page-told (checked-written (profile-check letters lengths profile) (recover-rule letters lengths t motif first out) out)
 
 -- JOIN
 unfoldable pub join-outcome : List ℕ → List ℕ → ℕ → ℕ → ℕ → List ℕ → Outcome Count

@@ -1,6 +1,7 @@
 -- What a call tells, as numbers: 0 and 0 for an answer, and else the refusal's number and place, with counts of 0.
 use Prim.Native.Nat.{ℕ}
 use Rattle.rules.specs.Legs.{Stop, ended, spent, full}
+use Rattle.rules.specs.Profile.{profile-number}
 use Rattle.rules.specs.Told.{Told, gives, refuses, Counts, LegTold, Handing, entry, no-entry}
 use Rattle.rules.specs.declared.Search.{Search}
 use Rattle.exports.specs.declared.told.Count.{Count}
@@ -50,16 +51,17 @@ stopped n p stop steps rows = record { number = n; place = p; stop = stop; steps
 unfoldable pub leg-told : LegTold → Stopped
 leg-told l = stopped (refusal-number-told (l .answer)) (refusal-place-told (l .answer)) (told-of stop-number (l .answer)) (l .steps) (l .rows)
 
--- a search, but for the shape of its template
-abbrev pub restored : ℕ → ℕ → ℕ → ℕ → ℕ → ℕ → ℕ → ℕ → Restored
-restored n p components quorum sequences total letters candidate =
-    record { number = n; place = p; components = components; quorum = quorum; sequences = sequences; total = total; letters = letters; candidate = candidate }
+-- a search, but for the shape of its template and the allowances
+abbrev pub restored : ℕ → ℕ → ℕ → ℕ → ℕ → ℕ → ℕ → ℕ → ℕ → Restored
+restored n p profile components quorum sequences total letters candidate =
+    record { number = n; place = p; profile = profile; components = components; quorum = quorum; sequences = sequences; total = total; letters = letters; candidate = candidate }
 
 unfoldable pub search-told : Told Search → Restored
 search-told t =
     restored
     (refusal-number-told t)
     (refusal-place-told t)
+    (told-of (λ s. profile-number (s .template .profile)) t)
     (told-of (λ s. s .template .count) t)
     (told-of (λ s. s .quorum) t)
     (told-of (λ s. s .set .sequences) t)

@@ -1,13 +1,84 @@
-// What goes between two public calls: a new search is saved, a restored one runs a leg and is saved again, and its shape is told.
+// What goes between two public calls: a profile's number is checked before it, a new search is saved, a restored one runs a leg and is
+// saved again, and its shape and allowances are told.
 use crate::shape;
 use crate::told::Stopped;
+use checks::check_set;
 use rules::Begun;
+use rules::Checked;
+use rules::Profile;
+use rules::RecordNumber;
+use rules::Recovered;
+use rules::Refusal;
 use rules::Saved;
 use rules::Search;
+use rules::Template;
 ghost use mathlib.Core.Path.{_≡_};
-ghost use Rattle.exports.specs.Exported.{save-begun, leg-of, leg-from, shape-after};
-ghost use Rattle.rules.specs.Calls.{restore-rule};
-ghost use Rattle.rules.specs.Told.{gives, toldBegun, toldSaved};
+ghost use Rattle.exports.specs.Exported.{profile-check, checked-written, save-begun, leg-of, leg-from, shape-after, allowances-after};
+ghost use Rattle.rules.specs.Calls.{on-refusal, begin-rule, save-rule, restore-rule, recover-rule};
+ghost use Rattle.rules.specs.Told.{gives, refuses, toldChecked, toldBegun, toldSaved, toldRecovered};
+
+// A number that is no profile's is refused where the sequences pass their checks.
+pub fn check_profile(letters: &[u8], lengths: &[u32], profile: u16) -> Checked
+    ensures { λ r. ⌜ toldChecked r ≡ profile-check (now (letters .entry)) (now (lengths .entry)) profile ⌝ }
+{
+    let last = Profile::MIXED as u16;
+    if profile <= last {
+        return Checked::Fine;
+    }
+    check_set(letters, lengths).then(Checked::Refused(Refusal::SavedBlank(RecordNumber(0))))
+}
+
+// Begins a search, unless its profile was refused.
+pub fn begin(
+    letters: &[u8],
+    lengths: &[u32],
+    checked: Checked,
+    template: Template,
+    quorum: u64,
+) -> Begun
+    ensures { λ r. ⌜ toldBegun r ≡ on-refusal (toldChecked checked) refuses (begin-rule (now (letters .entry)) (now (lengths .entry)) template quorum) ⌝ }
+{
+    match checked {
+        Checked::Fine => search::begin(letters, lengths, template, quorum),
+        Checked::Refused(why) => Begun::Refused(why),
+    }
+}
+
+// Saves a search, unless its profile was refused.
+pub fn save(
+    letters: &[u8],
+    lengths: &[u32],
+    checked: Checked,
+    search: Search,
+    out: &mut [u8],
+) -> Saved
+    ensures { λ r. ⌜ toldSaved r ≡ (checked-written (toldChecked checked) (save-rule (now (letters .entry)) (now (lengths .entry)) search (now (out .entry))) (now (out .entry))) .told ⌝ }
+    ensures { λ _. ⌜ now (out .exit) ≡ (checked-written (toldChecked checked) (save-rule (now (letters .entry)) (now (lengths .entry)) search (now (out .entry))) (now (out .entry))) .out ⌝ }
+{
+    match checked {
+        Checked::Fine => saved::save(letters, lengths, search, out),
+        Checked::Refused(why) => Saved::Refused(why),
+    }
+}
+
+// Recovers the occurrences of a motif, unless its profile was refused.
+pub fn recover(
+    letters: &[u8],
+    lengths: &[u32],
+    checked: Checked,
+    template: Template,
+    motif: u64,
+    first: u64,
+    out: &mut [u32],
+) -> Recovered
+    ensures { λ r. ⌜ toldRecovered r ≡ (checked-written (toldChecked checked) (recover-rule (now (letters .entry)) (now (lengths .entry)) template motif first (now (out .entry))) (now (out .entry))) .told ⌝ }
+    ensures { λ _. ⌜ now (out .exit) ≡ (checked-written (toldChecked checked) (recover-rule (now (letters .entry)) (now (lengths .entry)) template motif first (now (out .entry))) (now (out .entry))) .out ⌝ }
+{
+    match checked {
+        Checked::Fine => recovery::recover(letters, lengths, template, motif, first, out),
+        Checked::Refused(why) => Recovered::Refused(why),
+    }
+}
 
 // Saves a search that was begun.
 pub fn save_begun(letters: &[u8], lengths: &[u32], begun: Begun, saved: &mut [u8]) -> Saved
@@ -78,6 +149,19 @@ pub fn write_shape(restored: Begun, shape: &mut [u16])
         Begun::Search(s) => {
             let t = s.template;
             shape::write(t, shape);
+        }
+        Begun::Refused(_) => {}
+    }
+}
+
+// Writes its allowances.
+pub fn write_allowances(restored: Begun, allowances: &mut [u16])
+    ensures { λ _. ⌜ now (allowances .exit) ≡ allowances-after (toldBegun restored) (now (allowances .entry)) ⌝ }
+{
+    match restored {
+        Begun::Search(s) => {
+            let t = s.template;
+            shape::write_allowances(t, allowances);
         }
         Begun::Refused(_) => {}
     }

@@ -1,13 +1,13 @@
 // The seven public calls for C and Rust, as numbers and slices; include/tulfasheq.h says how a caller sees them. A search is passed
-// as its saved bytes, and a template as its number of components and its shape: length, low and high of each slot in turn, of
-// which there are six; a slot past the shape's end is 0, 0, 0. Each answers 0, or the number of the refusal with its place in
+// as its saved bytes, and a template as its profile, 0 or 1, its number of components, its shape: length, low and high of each slot in
+// turn, of which there are six, and the allowance of each; what is past the end of a shape or of the allowances is 0. Each answers 0, or the number of the refusal with its place in
 // `place`; in a refusal all counts are 0, and numbers that a call moves on stay.
 mod chain;
 mod shape;
 mod told;
 
 ghost use mathlib.Core.Path.{_≡_};
-ghost use Rattle.exports.specs.Exported.{outcome, leg-of, search-of, begin-outcome, leg-outcome, restore-outcome, save-outcome, recover-outcome, join-outcome, fasta-of, fasta-outcome};
+ghost use Rattle.exports.specs.Exported.{outcome, leg-of, search-of, begin-outcome, leg-outcome, restore-of, restore-outcome, save-outcome, recover-outcome, join-outcome, fasta-of, fasta-outcome};
 ghost use Rattle.exports.specs.Numbers.{count, page, stopped, restored};
 use rules::Place;
 use rules::Search;
@@ -22,17 +22,20 @@ use told::Restored;
 pub extern "C" fn tulfasheq_begin(
     letters: &[u8],
     lengths: &[u32],
+    profile: u16,
     components: u16,
     shape: &[u16],
+    allowances: &[u16],
     quorum: u64,
     saved: &mut [u8],
     place: &mut u64,
     size: &mut u64,
 ) -> u64
-    ensures { λ r. ⌜ outcome (count r (now (place .exit)) (now (size .exit))) (now (saved .exit)) ≡ begin-outcome (now (letters .entry)) (now (lengths .entry)) components (now (shape .entry)) quorum (now (saved .entry)) ⌝ }
+    ensures { λ r. ⌜ outcome (count r (now (place .exit)) (now (size .exit))) (now (saved .exit)) ≡ begin-outcome (now (letters .entry)) (now (lengths .entry)) profile components (now (shape .entry)) (now (allowances .entry)) quorum (now (saved .entry)) ⌝ }
 {
-    let t = shape::read(components, shape);
-    let begun = search::begin(letters, lengths, t, quorum);
+    let t = shape::read(profile, components, shape, allowances);
+    let checked = chain::check_profile(letters, lengths, profile);
+    let begun = chain::begin(letters, lengths, checked, t, quorum);
     let answer = chain::save_begun(letters, lengths, begun, saved);
     let told = Count::saved(answer);
     *place = told.place;
@@ -76,27 +79,31 @@ pub extern "C" fn tulfasheq_leg(
     told.number
 }
 
-// The search that `saved` holds: its template, its quorum, the size of its set, and the letters and number of its next candidate.
+// The search that `saved` holds: its template, with its profile and allowances, its quorum, the size of its set, and the letters and number of its next candidate.
 #[no_mangle]
 pub extern "C" fn tulfasheq_restore(
     letters: &[u8],
     lengths: &[u32],
     saved: &[u8],
     place: &mut u64,
+    profile: &mut u16,
     components: &mut u16,
     shape: &mut [u16],
+    allowances: &mut [u16],
     quorum: &mut u64,
     sequences: &mut u32,
     total: &mut u32,
     next_letters: &mut u8,
     next_number: &mut u64,
 ) -> u64
-    ensures { λ r. ⌜ outcome (restored r (now (place .exit)) (now (components .exit)) (now (quorum .exit)) (now (sequences .exit)) (now (total .exit)) (now («next_letters» .exit)) (now («next_number» .exit))) (now (shape .exit)) ≡ restore-outcome (now (letters .entry)) (now (lengths .entry)) (now (saved .entry)) (now (shape .entry)) ⌝ }
+    ensures { λ r. ⌜ restore-of (restored r (now (place .exit)) (now (profile .exit)) (now (components .exit)) (now (quorum .exit)) (now (sequences .exit)) (now (total .exit)) (now («next_letters» .exit)) (now («next_number» .exit))) (now (shape .exit)) (now (allowances .exit)) ≡ restore-outcome (now (letters .entry)) (now (lengths .entry)) (now (saved .entry)) (now (shape .entry)) (now (allowances .entry)) ⌝ }
 {
     let answer = saved::restore(letters, lengths, saved);
     let told = Restored::begun(answer);
     chain::write_shape(answer, shape);
+    chain::write_allowances(answer, allowances);
     *place = told.place;
+    *profile = told.profile;
     *components = told.components;
     *quorum = told.quorum;
     *sequences = told.sequences;
@@ -111,8 +118,10 @@ pub extern "C" fn tulfasheq_restore(
 pub extern "C" fn tulfasheq_save(
     letters: &[u8],
     lengths: &[u32],
+    profile: u16,
     components: u16,
     shape: &[u16],
+    allowances: &[u16],
     quorum: u64,
     sequences: u32,
     total: u32,
@@ -122,9 +131,10 @@ pub extern "C" fn tulfasheq_save(
     place: &mut u64,
     size: &mut u64,
 ) -> u64
-    ensures { λ r. ⌜ outcome (count r (now (place .exit)) (now (size .exit))) (now (out .exit)) ≡ save-outcome (now (letters .entry)) (now (lengths .entry)) (search-of components (now (shape .entry)) quorum sequences total «next_letters» «next_number») (now (out .entry)) ⌝ }
+    ensures { λ r. ⌜ outcome (count r (now (place .exit)) (now (size .exit))) (now (out .exit)) ≡ save-outcome (now (letters .entry)) (now (lengths .entry)) profile (search-of profile components (now (shape .entry)) (now (allowances .entry)) quorum sequences total «next_letters» «next_number») (now (out .entry)) ⌝ }
 {
-    let template = shape::read(components, shape);
+    let template = shape::read(profile, components, shape, allowances);
+    let checked = chain::check_profile(letters, lengths, profile);
     let set = SequenceSet {
         sequences,
         letters: total,
@@ -139,7 +149,7 @@ pub extern "C" fn tulfasheq_save(
         set,
         place: next,
     };
-    let told = Count::saved(saved::save(letters, lengths, search, out));
+    let told = Count::saved(chain::save(letters, lengths, checked, search, out));
     *place = told.place;
     *size = told.count;
     told.number
@@ -151,8 +161,10 @@ pub extern "C" fn tulfasheq_save(
 pub extern "C" fn tulfasheq_recover(
     letters: &[u8],
     lengths: &[u32],
+    profile: u16,
     components: u16,
     shape: &[u16],
+    allowances: &[u16],
     motif: u64,
     first: u64,
     out: &mut [u32],
@@ -160,10 +172,11 @@ pub extern "C" fn tulfasheq_recover(
     rows: &mut u64,
     length: &mut u64,
 ) -> u64
-    ensures { λ r. ⌜ outcome (page r (now (place .exit)) (now (rows .exit)) (now (length .exit))) (now (out .exit)) ≡ recover-outcome (now (letters .entry)) (now (lengths .entry)) components (now (shape .entry)) motif first (now (out .entry)) ⌝ }
+    ensures { λ r. ⌜ outcome (page r (now (place .exit)) (now (rows .exit)) (now (length .exit))) (now (out .exit)) ≡ recover-outcome (now (letters .entry)) (now (lengths .entry)) profile components (now (shape .entry)) (now (allowances .entry)) motif first (now (out .entry)) ⌝ }
 {
-    let t = shape::read(components, shape);
-    let told = Page::recovered(recovery::recover(letters, lengths, t, motif, first, out));
+    let t = shape::read(profile, components, shape, allowances);
+    let checked = chain::check_profile(letters, lengths, profile);
+    let told = Page::recovered(chain::recover(letters, lengths, checked, t, motif, first, out));
     *place = told.place;
     *rows = told.rows;
     *length = told.length;

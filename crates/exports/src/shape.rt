@@ -1,10 +1,11 @@
-// A template from and to numbers: length, low and high of each of its slots in turn.
+// A template from and to numbers: its kind of search, length, low and high of each of its slots in turn, and the allowance of each.
 ghost use mathlib.Core.Path.{_≡_};
 ghost use Prim.Native.Nat.{_*_, _<_};
 ghost use lib.ListN.{getD};
-ghost use Rattle.exports.specs.Shape.{slot-at, template-of, shape-of, fill};
+ghost use Rattle.exports.specs.Shape.{slot-at, template-of, shape-of, allowances-of, fill};
 ghost use Rattle.rules.specs.Limits.{Template-COMPONENTS};
 use rules::Component;
+use rules::Profile;
 use rules::Template;
 use rules::least;
 
@@ -29,18 +30,20 @@ fn slot(shape: &[u16], i: usize) -> Component
     Component::new(length, low, high)
 }
 
-// The template of so many components and a shape.
-pub fn read(components: u16, shape: &[u16]) -> Template
-    ensures { λ r. ⌜ r ≡ template-of components (now (shape .entry)) ⌝ }
+// The template of a profile, so many components, a shape and allowances.
+pub fn read(profile: u16, components: u16, shape: &[u16], allowances: &[u16]) -> Template
+    ensures { λ r. ⌜ r ≡ template-of profile components (now (shape .entry)) (now (allowances .entry)) ⌝ }
 {
+    let number = profile as u64;
     Template {
+        profile: Profile::of(number),
         count: components,
-        c1: slot(shape, 0),
-        c2: slot(shape, 3),
-        c3: slot(shape, 6),
-        c4: slot(shape, 9),
-        c5: slot(shape, 12),
-        c6: slot(shape, 15),
+        c1: slot(shape, 0).allowing(at(allowances, 0)),
+        c2: slot(shape, 3).allowing(at(allowances, 1)),
+        c3: slot(shape, 6).allowing(at(allowances, 2)),
+        c4: slot(shape, 9).allowing(at(allowances, 3)),
+        c5: slot(shape, 12).allowing(at(allowances, 4)),
+        c6: slot(shape, 15).allowing(at(allowances, 5)),
     }
 }
 
@@ -88,4 +91,19 @@ pub fn write(t: Template, shape: &mut [u16])
 {
     let all = numbers(t);
     copy(&all, shape);
+}
+
+// Writes the allowances of a template's slots, as many as there is room for.
+pub fn write_allowances(t: Template, allowances: &mut [u16])
+    ensures { λ _. ⌜ now (allowances .exit) ≡ fill (allowances-of t) (now (allowances .entry)) ⌝ }
+{
+    let all = [
+        t.c1.allowance,
+        t.c2.allowance,
+        t.c3.allowance,
+        t.c4.allowance,
+        t.c5.allowance,
+        t.c6.allowance,
+    ];
+    copy(&all, allowances);
 }

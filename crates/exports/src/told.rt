@@ -143,10 +143,11 @@ impl Stopped {
     }
 }
 
-// A search, but for the shape of its template.
+// A search, but for the shape of its template and the allowances.
 pub struct Restored {
     pub number: u64,
     pub place: u64,
+    pub profile: u16,
     pub components: u16,
     pub quorum: u64,
     pub sequences: u32,
@@ -161,19 +162,26 @@ impl Restored {
         ensures { λ r. ⌜ r ≡ search-told (toldBegun answer) ⌝ }
     {
         match answer {
-            Begun::Search(s) => Restored {
-                number: 0,
-                place: 0,
-                components: s.template.count,
-                quorum: s.quorum,
-                sequences: s.set.sequences,
-                total: s.set.letters,
-                letters: s.place.letters,
-                candidate: s.place.number,
-            },
+            Begun::Search(s) => {
+                let t = s.template;
+                let profile = t.profile;
+                let number = profile.number() as u16;
+                Restored {
+                    number: 0,
+                    place: 0,
+                    profile: number,
+                    components: t.count,
+                    quorum: s.quorum,
+                    sequences: s.set.sequences,
+                    total: s.set.letters,
+                    letters: s.place.letters,
+                    candidate: s.place.number,
+                }
+            }
             Begun::Refused(why) => Restored {
                 number: why.number(),
                 place: why.place(),
+                profile: 0,
                 components: 0,
                 quorum: 0,
                 sequences: 0,

@@ -9,7 +9,7 @@ use native.Mathlib.Omega.{arith}
 use lib.Dec.{ltb}
 use lib.ListN.{length, take, drop, getD, replicate, getD-replicate, length-append, length-drop}
 use lib.Pow.{pow-pos, ones-lt, ones-split, high}
-use lib.Seq.{getD-take, getD-drop, take-at, length-take-le}
+use lib.Seq.{take-at, length-take-le}
 use borrow.Author.Tests.{lt-ltb, le-ltb}
 use Rattle.rules.proofs.Components.{components-length, components-some}
 use Rattle.rules.specs.Sound.{SoundSet, SoundTemplate}
@@ -24,7 +24,7 @@ use Rattle.rows.proofs.ByFlags.{long, left-past}
 use Rattle.rows.proofs.Digits.{digit}
 use Rattle.rows.proofs.Offsets.{words-room}
 use Rattle.rows.proofs.Sets.{first-past, first-most}
-use Rattle.matching.proofs.Slots.{enough, slot-at}
+use Rattle.matching.proofs.Slots.{enough, between-at, slot-at}
 use Rattle.matching.proofs.Steps.{before-long}
 
 -- EVERY DIGIT of a word that is all ones
@@ -44,10 +44,6 @@ digit-ones b h = digit-all 64 b h
 
 ones-at : (ws : List ℕ) (p : ℕ) → getD ws (p / 64) 0 ≡ 2 ^ 64 - 1 → getD (held ws) p 0 ≡ 1
 ones-at ws p e = held-at ws p ∙ ap (λ (w : ℕ). digit w (p % 64)) e ∙ digit-ones (p % 64) (omega arith)
-
-between-at : (a e : ℕ) (l : List ℕ) (q : ℕ) → q < e - a → getD (between a e l) q 0 ≡ getD l (a + q) 0
-unfolding between
-between-at a e l q h = getD-take (e - a) (drop a l) q 0 h ∙ getD-drop a l q 0
 
 -- at the first letter of all there is one way everywhere
 one-way : (t : Template) (s : List ℕ) → before-next reached t 0 0 0 0 s ≡ replicate (length s) 1

@@ -3,7 +3,6 @@ pub mod Slots
 pub mod Steps
 pub mod Counted
 pub mod Gapped
-pub mod Shifts
 pub mod Extend
 pub mod Push
 pub mod Replay
@@ -15,4 +14,7 @@ pub mod Weighed
 pub mod Onward
 pub mod Places
 pub mod Bytes
+pub mod Fits
+pub mod Standing
+pub mod Tests
 pub mod First

@@ -3,13 +3,12 @@
 use mathlib.Core.Bool.{Bool, true, false}
 use mathlib.Core.List.{List, _++_}
 use mathlib.Core.Path.{_≡_, refl, sym, ap, _∙_}
-use Prim.Native.Nat.{ℕ, zero, suc, _+_, _-_, _*_, _/_, _^_, _≤_, _<_}
+use Prim.Native.Nat.{ℕ, suc, _+_, _-_, _/_, _^_, _≤_, _<_}
 use native.Mathlib.Nat.{add-zero}
 use native.Mathlib.Omega.{arith}
 use lib.ListN.{length, take, drop, getD, replicate, length-append, length-drop, length-replicate}
 use lib.Seq.{length-take-le}
 use Rattle.rules.proofs.Components.{components-at, components-length}
-use Rattle.rules.proofs.Exact.{exact-search, exact-base}
 use Rattle.rules.specs.Lists.{sum}
 use Rattle.rules.specs.Profile.{base-of}
 use Rattle.rules.specs.Sound.{SoundSet, SoundComponent, SoundTemplate}
@@ -22,14 +21,6 @@ use Rattle.rows.specs.Prefix.{At, letters-before}
 use Rattle.rows.specs.Set.{bits-at, marked?, Row, Source}
 use Rattle.matching.specs.Weights.{Counts, begun-counts, prefix-of, Leads-to, Leads}
 use Rattle.matching.proofs.Led.{number-less, prefix-path, letters-next, letters-size, led-none, led-small, led-dark, led-more}
-
--- four to the power of k as a shift
-fours : (k : ℕ) → 4 ^ k ≡ 2 ^ (2 * k)
-fours zero = refl
-fours (suc k) = let e : 2 * suc k ≡ suc (suc (2 * k)) = omega arith in rw e (omega (arith, fours k))
-
-pub shifted : (t : Template) (m k : ℕ) → m / 2 ^ (2 * k) ≡ m / base-of t ^ k
-shifted t m k = rw (exact-base t (exact-search t), fours k)
 
 -- before the first turn there are no letters
 pub begin-letters : (cs : List Component) → 0 ≡ letters-before cs 0
@@ -99,12 +90,9 @@ module _ {t : Template} {depth : ℕ} {cs : List Component} {c n : ℕ} (turn : 
   pub next-deep : next ≤ depth
   next-deep = omega (arith, next-letters, letters-size t (turn .sound) c)
 
-  pub next-shift : 2 * (depth - next) < 64
-  next-shift = omega (arith, behind-sound .some, turn .sound .deep)
-
   -- the path to the prefix
-  pub next-path : (m : ℕ) (ns l evens odds : List ℕ) → Path t ns l evens odds depth m → Path t ns l evens odds next (m / 2 ^ (2 * (depth - next)))
-  next-path m ns l evens odds p = rw (shifted t m (depth - next)) (prefix-path t m ns l evens odds depth next p next-deep)
+  pub next-path : (m : ℕ) {p : ℕ} → p ≡ m / base-of t ^ (depth - next) → (ns l evens odds : List ℕ) → Path t ns l evens odds depth m → Path t ns l evens odds next p
+  next-path m e ns l evens odds p = rw e (prefix-path t m ns l evens odds depth next p next-deep)
 
   -- whose slot is among the others
   pub next-less : next < depth
@@ -114,22 +102,19 @@ module _ {t : Template} {depth : ℕ} {cs : List Component} {c n : ℕ} (turn : 
 
   module _ (l ns : List ℕ) (set : SoundSet l ns) (m : ℕ) (row counts : List ℕ) (first : Bool) (begins : first ≡ true → c ≡ 1)
       (goes : first ≡ false → Leads-to t ns l (c - 1) (m / base-of t ^ (depth - n)) counts) (room : sum ns ≤ length counts)
-      (of : Row (prefix-starts t next (m / 2 ^ (2 * (depth - next)))) ns l row) where
-    abbrev prefix : ℕ
-    prefix = m / base-of t ^ (depth - next)
-
+      (prefix : ℕ) (is : prefix ≡ m / base-of t ^ (depth - next)) (of : Row (prefix-starts t next prefix) ns l row) where
     begins-here : first ≡ true → c - 1 ≡ 0
     begins-here e = omega (arith, begins e)
 
     goes-here : first ≡ false → Leads-to t ns l (c - 1) (prefix / base-of t ^ (getD (components t) (c - 1) none) .length) counts
     goes-here f =
         let e : depth - next + (getD (components t) (c - 1) none) .length ≡ depth - n = omega (arith, next-deep, ap (λ x. x .length) (at (c - 1) (omega arith))) in
-        rw (number-less t m (depth - next) ((getD (components t) (c - 1) none) .length), e) (goes f)
+        rw (is, number-less t m (depth - next) ((getD (components t) (c - 1) none) .length), e) (goes f)
 
     row-here : Row (prefix-starts t (letters-before (components t) (suc (c - 1))) prefix) ns l row
     row-here =
         let z : suc (c - 1) ≡ c = omega arith in
-        rw (z, ← next-letters) (rw (shifted t m (depth - next)) at of)
+        rw (z, ← next-letters) of
 
     -- no count that its row keeps is large
     pub next-small : (k : ℕ) → k < length ns → marked? row k ≡ true → (i : ℕ) → getD (begun-counts first ns row counts k) i 0 ≤ Count-MOST
@@ -163,11 +148,11 @@ module _ {t : Template} {depth : ℕ} {cs : List Component} {c n : ℕ} (turn : 
           counted = next-letters ∙ sym (add-zero (letters-before (components t) c));
         } in
         let source : Source (before-next reached t (suc (c - 1)) 0 (letters-before (components t) (suc (c - 1))) prefix) ns l (path-slot evens odds next) =
-        rw (z, ← next-letters) (path .held-at next c 0 next-less a) in
+        rw (is, z, ← next-letters) (path .held-at next c 0 next-less a) in
         led-dark t (turn .sound) l ns set (c - 1) prefix (omega arith) row row-here counts first begins-here goes-here room (omega arith) d w near wide (path-slot evens odds next) source
 
     -- and with the gap opened they are those before the next component
-    pub next-led : (opened out : List ℕ) → Counts (marked? row) (λ k. added d (d + w - 1) (begun-counts first ns row counts k)) ns opened out (length ns) → Leads-to t ns l c prefix out
+    pub next-led : (opened out : List ℕ) → Counts (marked? row) (λ k. added d (d + w - 1) (begun-counts first ns row counts k)) ns opened out (length ns) → Leads-to t ns l c (m / base-of t ^ (depth - next)) out
     next-led opened out all =
         let z : suc (c - 1) ≡ c = omega arith in
-        rw z at (led-more t (turn .sound) l ns set (c - 1) prefix (omega arith) row row-here counts first begins-here goes-here room (omega arith) d w near wide opened out all)
+        rw (z, is) at (led-more t (turn .sound) l ns set (c - 1) prefix (omega arith) row row-here counts first begins-here goes-here room (omega arith) d w near wide opened out all)

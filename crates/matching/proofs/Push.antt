@@ -3,7 +3,7 @@ use mathlib.Core.List.{List}
 use mathlib.Core.Path.{_≡_, refl, sym, _∙_}
 use Prim.Native.Nat.{ℕ, zero, suc, _+_, _-_, _*_, _/_, _%_, _≤_, _<_}
 use native.Mathlib.Omega.{arith}
-use lib.ListN.{length, take, getD}
+use lib.ListN.{length, getD}
 use borrow.Rule.Slice.PartMut.{midOf, putMid}
 use Rattle.rules.proofs.Components.{components-length}
 use Rattle.rules.specs.Profile.{base-of}
@@ -13,13 +13,12 @@ use Rattle.rules.specs.Template.{size, components, span}
 use Rattle.rules.specs.declared.Component.{Component}
 use Rattle.rules.specs.declared.Template.{Template}
 use Rattle.rows.specs.Flags.{reached}
-use Rattle.matching.specs.Path.{row-slot, path-slot, prefix-starts, before-next, gap-near, gap-far, Slot, Path, Inside}
+use Rattle.matching.specs.Path.{path-slot, prefix-starts, before-next, gap-near, gap-far, Slot, Path, Inside}
 use Rattle.rows.specs.Prefix.{letters-before, At, before-letter}
 use Rattle.rows.specs.Set.{marked?, window-at, Filled, Marked, Row}
 use Rattle.rows.proofs.ByFlags.{row-source, gap-source, source-same}
 use Rattle.matching.proofs.Extend.{Somewhere, letter-at, inside-letter, inside-component}
-use Rattle.rows.proofs.Sets.{part-written}
-use Rattle.matching.proofs.Slots.{even-table, odd-table, even-kept, odd-kept, stayed, pushed, slot-at}
+use Rattle.matching.proofs.Slots.{even-table, odd-table, slot-written, even-kept, odd-kept, stayed, pushed, slot-at}
 use Rattle.matching.proofs.Steps.{prefix-long}
 
 -- WHICH LETTER COMES NEXT. Past the first letter of all, the first of a component follows another component
@@ -27,8 +26,7 @@ first-component : (cs : List Component) (j i : ℕ) → At cs j 0 i → j ≡ i
 unfolding letters-before
 first-component cs j i a = omega (arith, a .counted)
 
-module _ (t : Template) (sound : SoundTemplate t) (l ns : List ℕ) (set : SoundSet l ns) (j m : ℕ) (some : 1 ≤ j) (deep : j < size t)
-    (inside : List ℕ) (placed : Inside t inside) where
+module _ (t : Template) (sound : SoundTemplate t) (j : ℕ) (some : 1 ≤ j) (deep : j < size t) (inside : List ℕ) (placed : Inside t inside) where
   here : Somewhere (components t) j
   here = letter-at t j deep
 
@@ -54,7 +52,7 @@ module _ (t : Template) (sound : SoundTemplate t) (l ns : List ℕ) (set : Sound
       go zero i a e = absurd (omega (arith, first-component (components t) j i a))
       go (suc k) i a e = omega arith
 
-  module _ (row : List ℕ) (is : Row (prefix-starts t j m) ns l row) where
+  module _ (l ns : List ℕ) (set : SoundSet l ns) (m : ℕ) (row : List ℕ) (is : Row (prefix-starts t j m) ns l row) where
     inside-is : (k i : ℕ) → 1 ≤ i → (s : List ℕ) → prefix-starts t j m s ≡ before-next reached t k i j m s
     unfolding before-letter parts-in
     inside-is k zero h s = absurd (omega arith)
@@ -98,19 +96,14 @@ module _ (t : Template) (ns l evens odds : List ℕ) (j m : ℕ) (path : Path t 
       let e : j + 1 ≡ suc j = omega arith in
       ((λ w x h. rw e (pushed t ns l evens' odds' j m x h p (rw here (is w)))), p)
 
-  module _ (rows : List ℕ) (room : j / 2 * 2072 + 2072 ≤ length rows) (n : length ys ≡ length (midOf (j / 2 * 2072) (j / 2 * 2072 + 2072 - j / 2 * 2072) rows)) where
-    put : (take (j / 2 * 2072) (written rows) ≡ take (j / 2 * 2072) rows) × (length (written rows) ≡ length rows) × (row-slot (j / 2) (written rows) ≡ ys)
-    unfolding row-slot
-    put = part-written (j / 2 * 2072) (j / 2 * 2072 + 2072) rows (omega arith) room ys n
-
   pub pushed-even : j % 2 ≡ 0 → j / 2 * 2072 + 2072 ≤ length evens → length ys ≡ length (midOf (j / 2 * 2072) (j / 2 * 2072 + 2072 - j / 2 * 2072) evens)
       → Pushed (written evens) odds × (length (written evens) ≡ length evens)
   pushed-even e room n =
-      let r = put evens room n in
+      let r = slot-written (j / 2) evens room ys n in
       (onward (written evens) odds (even-kept evens odds (written evens) j e (r .0)) (rw (even-table (written evens) odds j e) (r .2)), r .1)
 
   pub pushed-odd : j % 2 ≡ 1 → j / 2 * 2072 + 2072 ≤ length odds → length ys ≡ length (midOf (j / 2 * 2072) (j / 2 * 2072 + 2072 - j / 2 * 2072) odds)
       → Pushed evens (written odds) × (length (written odds) ≡ length odds)
   pushed-odd e room n =
-      let r = put odds room n in
+      let r = slot-written (j / 2) odds room ys n in
       (onward evens (written odds) (odd-kept evens odds (written odds) j e (r .0)) (rw (odd-table evens (written odds) j e) (r .2)), r .1)

@@ -6,15 +6,16 @@ use Prim.Native.Nat.{ℕ, zero, suc, _+_, _-_, _*_, _/_, _%_, _^_, _≤_, _<_}
 use native.Mathlib.Decide.{decLt}
 use native.Mathlib.Nat.{pow-suc, div-div-eq-div-mul, div-one, mul-comm, div-add-mod', mod-lt, pow-zero, one-mul}
 use native.Mathlib.Omega.{arith}
-use lib.ListN.{length, take}
-use borrow.Rule.Slice.PartMut.{mid-len}
+use lib.ListN.{length, take, drop, getD}
+use lib.Seq.{getD-take, getD-drop}
+use borrow.Rule.Slice.PartMut.{midOf, putMid, mid-len}
 use Rattle.rules.specs.Lists.{if, run, keep, sum}
 use Rattle.rules.specs.Profile.{base-of}
 use Rattle.rules.specs.Template.{components}
 use Rattle.rules.specs.Walk.{Walk, choose, later, up}
 use Rattle.rules.specs.declared.Place.{Place}
 use Rattle.rules.specs.declared.Template.{Template}
-use Rattle.rules.proofs.Exact.{exact-search, exact-base}
+use Rattle.rules.proofs.EachKind.{base-least}
 use Rattle.rules.proofs.Step.{block}
 use Rattle.rules.specs.Sound.{SoundSet}
 use Rattle.rules.specs.declared.Component.{Component}
@@ -22,11 +23,11 @@ use Rattle.rows.specs.Flags.{reached}
 use Rattle.matching.specs.Path.{row-slot, parity, path-slot, before-next, Slot, Path}
 use Rattle.rows.specs.Prefix.{At, letters-before}
 use Rattle.rows.specs.Set.{words-of, first-word, between, Source}
-use Rattle.rows.proofs.Sets.{between-kept}
+use Rattle.rows.proofs.Sets.{between-kept, part-written}
 
 -- there are letters
-some-base : (t : Template) → 1 ≤ base-of t
-some-base t = rw (exact-base t (exact-search t)) (omega arith)
+pub some-base : (t : Template) → 1 ≤ base-of t
+some-base t = omega (arith, base-least t)
 
 -- 2,072 words are enough
 many : (ns : List ℕ) → 64 * first-word ns (length ns) ≤ 64 * 16 + sum ns + 63 * length ns
@@ -44,23 +45,30 @@ even-table evens odds i e = rw e
 pub odd-table : (evens odds : List ℕ) (i : ℕ) → i % 2 ≡ 1 → parity evens odds i ≡ odds
 odd-table evens odds i e = rw e
 
--- a slot written leaves those below it, in its table and in the other
-table-kept : (rows rows' : List ℕ) (j i : ℕ) → take (j / 2 * 2072) rows' ≡ take (j / 2 * 2072) rows → i / 2 < j / 2 → row-slot (i / 2) rows' ≡ row-slot (i / 2) rows
+-- A SLOT WRITTEN by a callee: it has what was written, and what lies below it is left
+pub slot-written : (s : ℕ) (rows : List ℕ) → s * 2072 + 2072 ≤ length rows → (ys : List ℕ)
+    → length ys ≡ length (midOf (s * 2072) (s * 2072 + 2072 - s * 2072) rows)
+    → (let out = putMid (s * 2072) (s * 2072 + 2072 - s * 2072) rows ys in
+    (take (s * 2072) out ≡ take (s * 2072) rows) × (length out ≡ length rows) × (row-slot s out ≡ ys))
 unfolding row-slot
-table-kept rows rows' j i r h = between-kept (j / 2 * 2072) (i / 2 * 2072) (i / 2 * 2072 + 2072) rows rows' (omega arith) (omega arith) r
+slot-written s rows h ys n = part-written (s * 2072) (s * 2072 + 2072) rows (omega arith) h ys n
+
+pub slot-kept : (n k : ℕ) (x y : List ℕ) → k < n → take (n * 2072) y ≡ take (n * 2072) x → row-slot k y ≡ row-slot k x
+unfolding row-slot
+slot-kept n k x y h left = between-kept (n * 2072) (k * 2072) (k * 2072 + 2072) x y (omega arith) (omega arith) left
 
 module _ (evens odds rows : List ℕ) (j : ℕ) where
   pub even-kept : j % 2 ≡ 0 → take (j / 2 * 2072) rows ≡ take (j / 2 * 2072) evens → (i : ℕ) → i < j → path-slot rows odds i ≡ path-slot evens odds i
   even-kept e r i h =
       elim (decLt 0 (i % 2)) [
         | yes u ↦ (let o : i % 2 ≡ 1 = omega arith in rw (odd-table rows odds i o, odd-table evens odds i o))
-        | no u ↦ (let o : i % 2 ≡ 0 = omega arith in rw (even-table rows odds i o, even-table evens odds i o) (table-kept evens rows j i r (omega arith)))
+        | no u ↦ (let o : i % 2 ≡ 0 = omega arith in rw (even-table rows odds i o, even-table evens odds i o) (slot-kept (j / 2) (i / 2) evens rows (omega arith) r))
       ]
 
   pub odd-kept : j % 2 ≡ 1 → take (j / 2 * 2072) rows ≡ take (j / 2 * 2072) odds → (i : ℕ) → i < j → path-slot evens rows i ≡ path-slot evens odds i
   odd-kept e r i h =
       elim (decLt 0 (i % 2)) [
-        | yes u ↦ (let o : i % 2 ≡ 1 = omega arith in rw (odd-table evens rows i o, odd-table evens odds i o) (table-kept odds rows j i r (omega arith)))
+        | yes u ↦ (let o : i % 2 ≡ 1 = omega arith in rw (odd-table evens rows i o, odd-table evens odds i o) (slot-kept (j / 2) (i / 2) odds rows (omega arith) r))
         | no u ↦ (let o : i % 2 ≡ 0 = omega arith in rw (even-table evens rows i o, even-table evens odds i o))
       ]
 
@@ -114,10 +122,19 @@ module _ (t : Template) (ns l evens odds : List ℕ) where
       → ((i : ℕ) → i < j' → m' / base-of t ^ (j' - i) ≡ m / base-of t ^ (j - i)) → Path t ns l evens odds j' m'
   shortened j m j' m' p h e = record { held-at = λ i k o u a. rw (e i u) (p .held-at i k o (omega arith) a) }
 
+-- what stands in a part of a list
+pub between-at : (a e : ℕ) (l : List ℕ) (q : ℕ) → q < e - a → getD (between a e l) q 0 ≡ getD l (a + q) 0
+unfolding between
+between-at a e l q h = getD-take (e - a) (drop a l) q 0 h ∙ getD-drop a l q 0
+
 -- a slot is as long as it should be
+pub row-cut : (a : ℕ) (rows : List ℕ) → a + 2072 ≤ length rows → length (between a (a + 2072) rows) ≡ 2072
+unfolding between
+row-cut a rows h = mid-len a (a + 2072) rows h ∙ omega arith
+
 pub row-long : (i : ℕ) (rows : List ℕ) → i * 2072 + 2072 ≤ length rows → length (row-slot i rows) ≡ 2072
-unfolding row-slot between
-row-long i rows h = mid-len (i * 2072) (i * 2072 + 2072) rows h ∙ omega arith
+unfolding row-slot
+row-long i rows h = row-cut (i * 2072) rows h
 
 -- WHERE A LETTER STANDS is one place
 pub at-one : (cs : List Component) (j k o k' o' : ℕ) → At cs j k o → At cs j k' o' → (k ≡ k') × (o ≡ o')

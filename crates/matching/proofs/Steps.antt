@@ -1,5 +1,4 @@
 -- A candidate of a search: from what its last letter is added to, to its row and its support.
-use mathlib.Core.Bool.{true}
 use mathlib.Core.List.{List, map}
 use mathlib.Core.Path.{_≡_, sym, ap, _∙_}
 use Prim.Native.Nat.{ℕ, suc, _-_, _/_, _%_, _≤_, _<_}
@@ -7,7 +6,6 @@ use native.Mathlib.Omega.{arith}
 use lib.ListN.{length}
 use Rattle.rules.proofs.Components.{components-at, components-length, components-some}
 use Rattle.rules.proofs.Spelling.{spell-more, length-spell}
-use Rattle.rules.specs.Letters.{value}
 use Rattle.rules.specs.Lists.{keep}
 use Rattle.rules.specs.Motif.{spell}
 use Rattle.rules.specs.Profile.{profile-of, base-of}
@@ -17,9 +15,9 @@ use Rattle.rules.specs.Support.{parts-in}
 use Rattle.rules.specs.Template.{components, deal}
 use Rattle.rules.specs.declared.Template.{Template}
 use Rattle.rows.specs.Flags.{kept, reached, last-by, left?}
-use Rattle.matching.specs.Path.{prefix-starts, before-next}
+use Rattle.matching.specs.Path.{prefix-starts, before-next, Tests}
 use Rattle.rows.specs.Prefix.{At}
-use Rattle.rows.specs.Set.{first-word, sequence, marked?, tally, extended-at, extended-marked?, lettered-at, Filled, Marked, Row, Source}
+use Rattle.rows.specs.Set.{first-word, sequence, marked?, tally, extended-at, extended-marked?, Filled, Marked, Row, Source}
 use Rattle.rows.proofs.ByFlags.{mark-same, letter-row, row-same, flags-tally}
 use Rattle.rows.proofs.Grow.{grow}
 use Rattle.rows.proofs.Last.{length-last, length-before-letter, length-reached}
@@ -52,19 +50,19 @@ module _ (t : Template) (sound : SoundTemplate t) (j m k i : ℕ) (some : 1 ≤ 
 
   -- its row
   pub candidate-row : (l ns : List ℕ) → SoundSet l ns → (row : List ℕ) → Source (before-next reached t k i (j - 1) (m / base-of t)) ns l row
-      → first-word ns (length ns) ≤ length row → (letter : List ℕ) → Filled (λ _. true) (lettered-at (profile-of t .reading .fits) (m % base-of t) ns (map value l)) ns letter (length ns)
-      → (out : List ℕ) → Filled (marked? row) (extended-at i ns letter row) ns out (length ns) → Marked (extended-marked? i ns letter row) out 1024
+      → first-word ns (length ns) ≤ length row → (letter : List ℕ) (by : ℕ) → Tests t ns l (m % base-of t) i letter by
+      → (out : List ℕ) → Filled (marked? row) (extended-at by ns letter row) ns out (length ns) → Marked (extended-marked? by ns letter row) out 1024
       → Row (prefix-starts t j m) ns l out
-  candidate-row l ns set row source wide letter of-letter out q n =
+  candidate-row l ns set row source wide letter by tests out q n =
       row-same ns l (set .adds) (set .few) _ (prefix-starts t j m) out
-      (letter-row ns l (set .adds) (set .few) (before-next reached t k i (j - 1) (m / base-of t)) (before-long t k i (j - 1) (m / base-of t)) row source wide (profile-of t .reading .fits) (m % base-of t) i letter of-letter out q n)
+      (letter-row ns l (set .adds) (set .few) (before-next reached t k i (j - 1) (m / base-of t)) (before-long t k i (j - 1) (m / base-of t)) row source wide (profile-of t .reading .fits) (m % base-of t) i letter by (tests .same) out q n)
       (more reached)
 
   -- and the new marks, written or not, are as many as the sequences in which a flag is left
   pub candidate-tally : (l ns : List ℕ) → SoundSet l ns → (row : List ℕ) → Source (before-next reached t k i (j - 1) (m / base-of t)) ns l row
-      → first-word ns (length ns) ≤ length row → (letter : List ℕ) → Filled (λ _. true) (lettered-at (profile-of t .reading .fits) (m % base-of t) ns (map value l)) ns letter (length ns)
-      → tally (extended-marked? i ns letter row) 0 1024 ≡ length (keep (λ b. b) (map (λ s. left? (prefix-starts t j m s)) (sequences l ns)))
-  candidate-tally l ns set row source wide letter of-letter =
-      flags-tally ns l (set .adds) (set .few) (prefix-starts t j m) (prefix-long t j m) (extended-marked? i ns letter row)
-      (λ n h. mark-same ns l (set .adds) (set .few) (before-next reached t k i (j - 1) (m / base-of t)) (before-long t k i (j - 1) (m / base-of t)) row source wide (profile-of t .reading .fits) (m % base-of t) i letter of-letter n h
+      → first-word ns (length ns) ≤ length row → (letter : List ℕ) (by : ℕ) → Tests t ns l (m % base-of t) i letter by
+      → tally (extended-marked? by ns letter row) 0 1024 ≡ length (keep (λ b. b) (map (λ s. left? (prefix-starts t j m s)) (sequences l ns)))
+  candidate-tally l ns set row source wide letter by tests =
+      flags-tally ns l (set .adds) (set .few) (prefix-starts t j m) (prefix-long t j m) (extended-marked? by ns letter row)
+      (λ n h. mark-same ns l (set .adds) (set .few) (before-next reached t k i (j - 1) (m / base-of t)) (before-long t k i (j - 1) (m / base-of t)) row source wide (profile-of t .reading .fits) (m % base-of t) i letter by (tests .same) n h
       ∙ ap left? (more reached (sequence ns l n)))

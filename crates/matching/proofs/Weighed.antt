@@ -5,17 +5,18 @@ use mathlib.Core.List.{List, [], _∷_, map}
 use mathlib.Core.Path.{_≡_, refl, sym, ap, _∙_}
 use Prim.Native.Nat.{ℕ, zero, suc, _+_, _-_, _*_, _^_, _≤_, _<_}
 use native.Mathlib.Decide.{decLt}
-use native.Mathlib.Nat.{le-trans, div-lt-iff-lt-mul, one-le-pow, pow-le-pow-right}
+use native.Mathlib.Nat.{le-trans, div-lt-iff-lt-mul, one-le-pow, pow-suc, pow-le-pow-right, mul-le-mul-left}
 use native.Mathlib.Omega.{arith}
 use lib.ListN.{length, getD}
 use lib.Pow.{pow-add}
 use Rattle.rules.proofs.Bound.{list-bound, sequences-count}
-use Rattle.rules.proofs.Exact.{exact-search, exact-base}
+use Rattle.rules.proofs.EachKind.{kind-proper, base-least}
 use Rattle.rules.proofs.Occurs.{parts-worded, parts-some}
 use Rattle.rules.proofs.Over.{map-agree, map-shift}
 use Rattle.rules.proofs.Ways.{weight-count}
 use Rattle.rules.specs.Lists.{if, run, each, some?, sum}
 use Rattle.rules.specs.Occurrence.{occurrences}
+use Rattle.rules.specs.Profile.{profile-of, base-of}
 use Rattle.rules.specs.Recovery.{whole-list}
 use Rattle.rules.specs.Sequences.{sequences}
 use Rattle.rules.specs.Sound.{SoundSet, SoundTemplate}
@@ -51,16 +52,20 @@ unfolding some?
 none-long [] e = refl
 none-long (x ∷ xs) e = absurd (false≢true (sym e))
 
--- the number of a motif's prefix fits a word, and 1 more does
-pub prefix-small : (t : Template) → SoundTemplate t → (m depth : ℕ) → depth ≡ size t → m < 4 ^ depth → prefix-of t m < 4 ^ 31
+-- the number of a motif's prefix fits a word, and 1 more does: with a letter more it is still one of a motif
+pub prefix-small : (t : Template) → SoundTemplate t → (m depth : ℕ) → depth ≡ size t → m < base-of t ^ depth → prefix-of t m + 1 < 2 ^ 64
 prefix-small t sound m depth whole h =
     let a = letters-before (components t) (t .count - 1) in
     let b = size t - a in
     let e : depth ≡ a + b = omega (arith, last-some t sound) in
-    let l : m < 4 ^ a * 4 ^ b = rw (← (pow-add 4 a b), ← e) h in
-    le-trans
-    (rw (exact-base t (exact-search t)) (div-lt-iff-lt-mul {x = m} {y = 4 ^ a} (one-le-pow b 4 (omega arith)) .1 l))
-    (pow-le-pow-right {n = 4} (omega arith) {i = a} {j = 31} (omega (arith, last-some t sound, sound .deep)))
+    let l : m < base-of t ^ a * base-of t ^ b = rw (← (pow-add (base-of t) a b), ← e) h in
+    let small : prefix-of t m < base-of t ^ a = div-lt-iff-lt-mul {x = m} {y = base-of t ^ a} (one-le-pow b (base-of t) (omega (arith, base-least t))) .1 l in
+    let deep : base-of t ^ suc a ≤ base-of t ^ profile-of t .most = pow-le-pow-right {n = base-of t} (omega (arith, base-least t)) {i = suc a} {j = profile-of t .most} (omega (arith, last-some t sound, sound .short)) in
+    let wide : base-of t ^ a * base-of t ≤ 2 ^ 64 = rw (← (pow-suc (base-of t) a)) (le-trans deep (kind-proper (t .profile) .wide)) in
+    room (base-of t ^ a) (base-of t) small (base-least t) wide
+  where
+    room : (p b : ℕ) → prefix-of t m < p → 4 ≤ b → p * b ≤ 2 ^ 64 → prefix-of t m + 1 < 2 ^ 64
+    room p b small four wide = omega (arith, mul-le-mul-left p four)
 
 module _ (t : Template) (sound : SoundTemplate t) (l ns : List ℕ) (set : SoundSet l ns) (m depth : ℕ) (whole : depth ≡ size t) (row : List ℕ)
     (is : Row (prefix-starts t depth m) ns l row) where

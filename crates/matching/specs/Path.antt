@@ -5,19 +5,21 @@ use mathlib.Core.Bool.{true}
 use mathlib.Core.List.{List, map}
 use mathlib.Core.Path.{_≡_}
 use Prim.Native.Nat.{ℕ, _+_, _-_, _*_, _/_, _%_, _^_, _≤_, _<_}
-use lib.Dec.{eqb, ltb}
+use lib.Dec.{eqb}
 use lib.ListN.{length, getD}
-use Rattle.rules.specs.Letters.{value}
+use Rattle.rules.specs.Letters.{letter, value}
 use Rattle.rules.specs.Limits.{SequenceSet-SEQUENCES, Template-LETTERS, Letter-BASES}
 use Rattle.rules.specs.Lists.{if}
 use Rattle.rules.specs.Motif.{spell}
-use Rattle.rules.specs.Profile.{profile-of, base-of}
+use Rattle.rules.specs.Profile.{profile-of, base-of, stands-for}
+use Rattle.rules.specs.Sound.{SoundSet}
 use Rattle.rules.specs.Support.{parts}
 use Rattle.rules.specs.Template.{none, size, components, distance}
 use Rattle.rules.specs.declared.Template.{Template}
 use Rattle.rows.specs.Flags.{reached, last-starts}
 use Rattle.rows.specs.Prefix.{At, before-letter}
-use Rattle.rows.specs.Set.{Row-WORDS, between, lettered-on, Firsts, Offsets, Filled, Source}
+use Rattle.rows.specs.Rows.{ahead}
+use Rattle.rows.specs.Set.{Row-WORDS, between, bits-at, lettered-at, lettered-on, Firsts, Offsets, Filled, Source}
 
 -- slot i of a table of rows
 unfoldable pub row-slot : ℕ → List ℕ → List ℕ
@@ -54,27 +56,36 @@ pub record Inside (t : Template) (inside : List ℕ) : Type 0 where
   pub long : size t ≤ length inside
   pub same : (d k i : ℕ) → At (components t) d k i → getD inside d 0 ≡ inside-code k i
 
--- the letters' rows, kept shifted for the first places of a component, a slot for each letter and each of these places, place by place: a
--- candidate then costs one AND for each word. For a later place a letter's row is shifted as it is used. They are kept for as many places
--- as the table has room for, at least one
-abbrev pub kept-places : List ℕ → ℕ
-kept-places standing = length standing / (Letter-BASES * Row-WORDS)
+-- the rows of the four letters of a sequence, by their bytes
+pub record BaseRows (ns l bases : List ℕ) : Type 0 where
+  pub long : Letter-BASES * Row-WORDS ≤ length bases
+  pub rows : (x : ℕ) → x < Letter-BASES → Filled (λ _. true) (lettered-at eqb (letter x) ns l) ns (row-slot x bases) (length ns)
 
--- and at most four, as in a leg. The code has the number as `SHIFTS`
+-- a row made from them has a bit where a letter stands that x stands for, whatever sequences they are of
+abbrev pub FromBases : List ℕ → ℕ → List ℕ → Type 0
+FromBases bases x row = (ns l : List ℕ) → SoundSet l ns → BaseRows ns l bases → Filled (λ _. true) (lettered-at stands-for x ns (map value l)) ns row (length ns)
+
+-- the rows of a motif's letters, kept shifted for the first places of a component, a slot for each digit and each of these places, place
+-- by place: a candidate then costs one AND for each word. For a later place a letter's row is shifted as it is used. They are kept for as
+-- many places as the table has room for, at least one
+abbrev pub kept-places : Template → List ℕ → ℕ
+kept-places t standing = length standing / (base-of t * Row-WORDS)
+
+-- and of four letters for at most four, as in a leg. The code has the number as `SHIFTS`
 abbrev pub Letter-SHIFTS : ℕ
 Letter-SHIFTS = 4
 
 pub record Letters (t : Template) (ns l standing : List ℕ) : Type 0 where
-  pub long : Letter-BASES * Row-WORDS ≤ length standing
-  pub rows : (x i : ℕ) → x < base-of t → i < kept-places standing → Filled (λ _. true) (lettered-on i (profile-of t .reading .fits) x ns (map value l)) ns (row-slot (i * Letter-BASES + x) standing) (length ns)
+  pub long : base-of t * Row-WORDS ≤ length standing
+  pub rows : (x i : ℕ) → x < base-of t → i < kept-places t standing → Filled (λ _. true) (lettered-on i (profile-of t .reading .fits) x ns (map value l)) ns (row-slot (i * base-of t + x) standing) (length ns)
 
--- which slot letter x is taken from for place i of its component, where the rows for n places are kept, and how far its row is shifted as
--- it is used
-unfoldable pub used-slot : ℕ → ℕ → ℕ → ℕ
-used-slot n x i = if (ltb i n) (i * Letter-BASES + x) x
+-- a row that tests letter x for place i of its component, if it is shifted down by so many bits as it is used
+pub record Tests (t : Template) (ns l : List ℕ) (x i : ℕ) (letter : List ℕ) (by : ℕ) : Type 0 where
+  pub same : (k : ℕ) → k < length ns → ahead by (bits-at ns k letter) ≡ lettered-on i (profile-of t .reading .fits) x ns (map value l) k
 
-unfoldable pub used-shift : ℕ → ℕ → ℕ
-used-shift n i = if (ltb i n) 0 i
+-- and one that tests the last letter of the j letters with the number m
+abbrev pub TestsLast : Template → List ℕ → List ℕ → ℕ → ℕ → List ℕ → ℕ → Type 0
+TestsLast t ns l j m letter by = (k i : ℕ) → At (components t) (j - 1) k i → Tests t ns l (m % base-of t) i letter by
 
 -- all of it
 pub record Ready (t : Template) (ns l inside firsts standing : List ℕ) : Type 0 where

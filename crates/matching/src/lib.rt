@@ -1,5 +1,6 @@
 // One candidate after another over the set of sequences: the rows of the path to it, its support, and a motif's weighted support. An
 // inner crate: what its functions ask for, every caller is proved to meet.
+mod letters;
 pub mod path;
 pub mod tables;
 pub mod weights;
@@ -19,17 +20,25 @@ pub const FIRSTS: usize = SequenceSet::SEQUENCES + 2;
 
 pub const OFFSETS: usize = SequenceSet::SEQUENCES + 1;
 
-// A row for each letter.
+// A row for each of the four letters of a sequence, and one for each digit of a mixed motif's number.
 pub const BASES: usize = Letter::BASES as usize;
 
 pub const ROWS: usize = BASES * WORDS;
 
+pub const DIGITS: usize = Letter::DIGITS as usize;
+
+pub const MIXED_ROWS: usize = DIGITS * WORDS;
+
 // A letter's row is kept shifted for each of the first places of a component: a candidate that ends there costs one AND for each word.
 // For a later place it is shifted as it is used, which costs as much again. They are kept for as many places as the table that is lent
-// has room for, at least one: in a leg for the first four, as more of them would not fit the stack that a call may use.
+// has room for, at least one: in a leg of an exact search for the first four, as more of them would not fit the stack that a call may
+// use, and of a mixed one, which has four times as many letters, for the first.
 pub const SHIFTS: usize = 4;
 
 pub const STANDING: usize = SHIFTS * ROWS;
+
+// A letter's component and its place there stand in one number, which this divides.
+pub const PLACES: u8 = 16;
 
 // The words of one of the two tables of slots.
 pub const SLOTS: usize = LETTERS / 2 * WORDS;

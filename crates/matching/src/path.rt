@@ -1,24 +1,23 @@
 // The path of a search: the rows of the prefixes of its place, kept from step to step.
-use super::tables;
+use super::PLACES;
+use super::letters::letter_row;
+use super::letters::test_for;
 use rows::WORDS;
 use rows::gap;
 use rows::set;
-use rules::Letter;
 use rules::Template;
+ghost use mathlib.Core.List.{List};
 ghost use mathlib.Core.Path.{_≡_};
 ghost use Prim.Native.Nat.{ℕ, _+_, _-_, _*_, _/_, _^_, _≤_, _<_};
 ghost use lib.ListN.{length};
-ghost use Rattle.rules.specs.Limits.{SequenceSet-SEQUENCES, Letter-BASES};
+ghost use Rattle.rules.specs.Limits.{SequenceSet-SEQUENCES};
 ghost use Rattle.rules.specs.Profile.{base-of};
 ghost use Rattle.rules.specs.Sequences.{sequences};
 ghost use Rattle.rules.specs.Sound.{SoundSet, SoundTemplate};
 ghost use Rattle.rules.specs.Support.{support, parts};
 ghost use Rattle.rules.specs.Template as templates;
-ghost use Rattle.matching.specs.Path.{row-slot, parity, prefix-starts, gap-near, gap-far, Slot, Path, Path-SLOTS, Ready};
+ghost use Rattle.matching.specs.Path.{row-slot, parity, prefix-starts, gap-near, gap-far, Slot, Path, Path-SLOTS, Inside, BaseRows, TestsLast, Ready};
 ghost use Rattle.rows.specs.Set.{Row-WORDS, first-word, Firsts, marked?, window-at, Filled, Marked, Bounded, Row};
-
-// A letter's component and its place there stand in one number, which this divides.
-pub const PLACES: u8 = 16;
 
 // The support of a candidate, and its row, from the slot of the prefix that is one letter shorter. Where the support is below `quorum`, a
 // number may be answered that is below it too, and the row may not be whole.
@@ -26,34 +25,28 @@ fn extend(
     template: Template,
     size: u8,
     number: u64,
-    inside: &[u8],
     letters: &[u8],
     lengths: &[u32],
     firsts: &[u32],
-    standing: &[u64],
+    letter: &[u64],
+    by: usize,
     slot: &[u64],
     quorum: u32,
     work: &mut [u64],
 ) -> u32
     requires { ⌜ SoundTemplate template ⌝ }
     requires { ⌜ SoundSet (now letters) (now lengths) ⌝ }
-    requires { ⌜ (1 ≤ size) × (size ≤ templates.size template) ⌝ }
-    requires { ⌜ Ready template (now lengths) (now letters) (now inside) (now firsts) (now standing) ⌝ }
+    requires { ⌜ (1 ≤ size) × (size ≤ templates.size template) × (by < 16) ⌝ }
+    requires { ⌜ Firsts (now lengths) (now firsts) ⌝ }
+    requires { ⌜ TestsLast template (now lengths) (now letters) size number (now letter) by ⌝ }
     requires { ⌜ Slot template (now lengths) (now letters) (now slot) (size - 1) (number / base-of template) ⌝ }
-    requires { ⌜ (length (now slot) ≡ Row-WORDS) × (length (now work) ≡ Row-WORDS) ⌝ }
+    requires { ⌜ (length (now letter) ≡ Row-WORDS) × (length (now slot) ≡ Row-WORDS) × (length (now work) ≡ Row-WORDS) ⌝ }
     ensures { λ r. ⌜ support (parts template size number) (sequences (now (letters .entry)) (now (lengths .entry))) ≤ r ⌝ }
     ensures { λ r. ⌜ (quorum ≤ r → r ≡ support (parts template size number) (sequences (now (letters .entry)) (now (lengths .entry)))) ⌝ }
     ensures { λ r. ⌜ (quorum ≤ r → Row (prefix-starts template size number) (now (lengths .entry)) (now (letters .entry)) (now (work .exit))) ⌝ }
     ensures { λ _. ⌜ length (now (work .exit)) ≡ length (now (work .entry)) ⌝ }
 {
-    let below = size as usize - 1;
-    let x = (number % Letter::BASES) as usize;
-    let i = (inside[below] % PLACES) as usize;
-    let n = tables::kept(standing);
-    let b = tables::slot_of(n, x, i) * WORDS;
-    let f = b + WORDS;
-    let by = tables::shift_of(n, i);
-    set::keep_all(lengths, firsts, slot, &standing[b..f], by, quorum, work)
+    set::keep_all(lengths, firsts, slot, letter, by, quorum, work)
 }
 
 // The same for a candidate whose path stands in the slots.
@@ -85,16 +78,19 @@ pub fn support(
     let below = size as usize - 1;
     let a = below / 2 * WORDS;
     let e = a + WORDS;
+    let test = test_for(template, size, number, inside, standing);
+    let b = test.at;
+    let f = b + WORDS;
     if below % 2 == 0 {
         return extend(
             template,
             size,
             number,
-            inside,
             letters,
             lengths,
             firsts,
-            standing,
+            &standing[b..f],
+            test.by,
             &evens[a..e],
             quorum,
             work,
@@ -104,11 +100,11 @@ pub fn support(
         template,
         size,
         number,
-        inside,
         letters,
         lengths,
         firsts,
-        standing,
+        &standing[b..f],
+        test.by,
         &odds[a..e],
         quorum,
         work,
@@ -142,6 +138,35 @@ fn open_slot(
     gap::open_all(lengths, firsts, behind + low, high + 1 - low, spare, slot);
 }
 
+// Makes a slot that has the row of a prefix what a further letter is added to: where that stands inside a component the row as it is, and
+// else the row with the gap opened.
+fn end_slot(
+    template: Template,
+    size: u8,
+    inside: &[u8],
+    lengths: &[u32],
+    firsts: &[u32],
+    spare: &mut [u64],
+    slot: &mut [u64],
+)
+    requires { ⌜ SoundTemplate template ⌝ }
+    requires { ⌜ (1 ≤ size) × (size < templates.size template) × (length (now lengths) ≤ SequenceSet-SEQUENCES) ⌝ }
+    requires { ⌜ Inside template (now inside) ⌝ }
+    requires { ⌜ Firsts (now lengths) (now firsts) ⌝ }
+    requires { ⌜ Bounded (now lengths) (now slot) ⌝ }
+    requires { ⌜ (first-word (now lengths) (length (now lengths)) ≤ Row-WORDS) × (length (now spare) ≡ Row-WORDS) × (length (now slot) ≡ Row-WORDS) ⌝ }
+    ensures { λ _. ⌜ ((l : List ℕ) (number : ℕ) → SoundSet l (now (lengths .entry)) → Row (prefix-starts template size number) (now (lengths .entry)) l (now (slot .entry)) → Slot template (now (lengths .entry)) l (now (slot .exit)) size number) ⌝ }
+    ensures { λ _. ⌜ (length (now (spare .exit)) ≡ length (now (spare .entry))) × (length (now (slot .exit)) ≡ length (now (slot .entry))) ⌝ }
+{
+    let s = size as usize;
+    let place = inside[s];
+    if place % PLACES > 0 {
+        return;
+    }
+    let component = (place / PLACES) as usize;
+    open_slot(template, component, lengths, firsts, spare, slot);
+}
+
 // Fills the slot of a prefix from that of the one a letter shorter, and answers its support. A further letter is added to its row where it
 // stands inside a component, and else to that row with the gap opened. Where the support is below `quorum`, a number may be answered that
 // is below it too, and the slot may not be whole.
@@ -153,7 +178,8 @@ fn fill_slot(
     letters: &[u8],
     lengths: &[u32],
     firsts: &[u32],
-    standing: &[u64],
+    letter: &[u64],
+    by: usize,
     before: &[u64],
     quorum: u32,
     spare: &mut [u64],
@@ -161,10 +187,12 @@ fn fill_slot(
 ) -> u32
     requires { ⌜ SoundTemplate template ⌝ }
     requires { ⌜ SoundSet (now letters) (now lengths) ⌝ }
-    requires { ⌜ (1 ≤ size) × (size < templates.size template) ⌝ }
-    requires { ⌜ Ready template (now lengths) (now letters) (now inside) (now firsts) (now standing) ⌝ }
+    requires { ⌜ (1 ≤ size) × (size < templates.size template) × (by < 16) ⌝ }
+    requires { ⌜ Inside template (now inside) ⌝ }
+    requires { ⌜ Firsts (now lengths) (now firsts) ⌝ }
+    requires { ⌜ TestsLast template (now lengths) (now letters) size number (now letter) by ⌝ }
     requires { ⌜ Slot template (now lengths) (now letters) (now before) (size - 1) (number / base-of template) ⌝ }
-    requires { ⌜ (length (now before) ≡ Row-WORDS) × (length (now spare) ≡ Row-WORDS) × (length (now slot) ≡ Row-WORDS) ⌝ }
+    requires { ⌜ (length (now letter) ≡ Row-WORDS) × (length (now before) ≡ Row-WORDS) × (length (now spare) ≡ Row-WORDS) × (length (now slot) ≡ Row-WORDS) ⌝ }
     ensures { λ r. ⌜ support (parts template size number) (sequences (now (letters .entry)) (now (lengths .entry))) ≤ r ⌝ }
     ensures { λ r. ⌜ (quorum ≤ r → r ≡ support (parts template size number) (sequences (now (letters .entry)) (now (lengths .entry)))) ⌝ }
     ensures { λ r. ⌜ (quorum ≤ r → Slot template (now (lengths .entry)) (now (letters .entry)) (now (slot .exit)) size number) ⌝ }
@@ -174,11 +202,11 @@ fn fill_slot(
         template,
         size,
         number,
-        inside,
         letters,
         lengths,
         firsts,
-        standing,
+        letter,
+        by,
         before,
         quorum,
         slot,
@@ -186,13 +214,7 @@ fn fill_slot(
     if found < quorum {
         return found;
     }
-    let s = size as usize;
-    let place = inside[s];
-    if place % PLACES > 0 {
-        return found;
-    }
-    let component = (place / PLACES) as usize;
-    open_slot(template, component, lengths, firsts, spare, slot);
+    end_slot(template, size, inside, lengths, firsts, spare, slot);
     found
 }
 
@@ -228,6 +250,9 @@ fn push(
     let e = a + WORDS;
     let b = s / 2 * WORDS;
     let f = b + WORDS;
+    let test = test_for(template, size, number, inside, standing);
+    let c = test.at;
+    let g = c + WORDS;
     if s % 2 == 0 {
         return fill_slot(
             template,
@@ -237,7 +262,8 @@ fn push(
             letters,
             lengths,
             firsts,
-            standing,
+            &standing[c..g],
+            test.by,
             &odds[a..e],
             quorum,
             spare,
@@ -252,7 +278,8 @@ fn push(
         letters,
         lengths,
         firsts,
-        standing,
+        &standing[c..g],
+        test.by,
         &evens[a..e],
         quorum,
         spare,
@@ -341,19 +368,20 @@ pub fn replay(
 ) -> u32
     requires { ⌜ SoundTemplate template ⌝ }
     requires { ⌜ SoundSet (now letters) (now lengths) ⌝ }
-    requires { ⌜ (1 ≤ size) × (size ≤ templates.size template) × (number < Letter-BASES ^ size) ⌝ }
+    requires { ⌜ (1 ≤ size) × (size ≤ templates.size template) × (number < base-of template ^ size) ⌝ }
     requires { ⌜ Ready template (now lengths) (now letters) (now inside) (now firsts) (now standing) ⌝ }
     requires { ⌜ Slot template (now lengths) (now letters) (row-slot 0 (now evens)) 0 0 ⌝ }
     requires { ⌜ (length (now evens) ≡ Path-SLOTS * Row-WORDS) × (length (now odds) ≡ Path-SLOTS * Row-WORDS) × (length (now spare) ≡ Row-WORDS) ⌝ }
-    ensures { λ r. ⌜ (2 ≤ size → r ≡ support (parts template (size - 1) (number / Letter-BASES)) (sequences (now (letters .entry)) (now (lengths .entry)))) ⌝ }
+    ensures { λ r. ⌜ (2 ≤ size → r ≡ support (parts template (size - 1) (number / base-of template)) (sequences (now (letters .entry)) (now (lengths .entry)))) ⌝ }
     ensures { λ _. ⌜ Path template (now (lengths .entry)) (now (letters .entry)) (now (evens .exit)) (now (odds .exit)) size number ⌝ }
     ensures { λ _. ⌜ (length (now (evens .exit)) ≡ length (now (evens .entry))) × (length (now (odds .exit)) ≡ length (now (odds .entry))) × (length (now (spare .exit)) ≡ length (now (spare .entry))) ⌝ }
 {
+    let profile = template.profile;
     let mut found: u32 = 0;
     let mut d: u8 = 1;
     while d < size {
-        let left = 2 * (size - d);
-        let prefix = number >> left;
+        let left = (size - d) as u32;
+        let prefix = profile.prefix(number, left);
         found = push(
             template,
             d,
@@ -374,7 +402,8 @@ pub fn replay(
 }
 
 // Fills the slot of a prefix from that of the one a letter shorter, in two slots that take turns, the even numbers of letters in one and
-// the odd ones in the other, and answers its support.
+// the odd ones in the other, and answers its support. `bases` has the rows of the four letters of a sequence; `letter` is lent for that of
+// the prefix's last one, and then for the gap.
 fn take_turn(
     template: Template,
     size: u8,
@@ -383,51 +412,59 @@ fn take_turn(
     letters: &[u8],
     lengths: &[u32],
     firsts: &[u32],
-    standing: &[u64],
+    bases: &[u64],
+    letter: &mut [u64],
     even: &mut [u64],
     odd: &mut [u64],
-    spare: &mut [u64],
 ) -> u32
     requires { ⌜ SoundTemplate template ⌝ }
     requires { ⌜ SoundSet (now letters) (now lengths) ⌝ }
     requires { ⌜ (1 ≤ size) × (size < templates.size template) ⌝ }
-    requires { ⌜ Ready template (now lengths) (now letters) (now inside) (now firsts) (now standing) ⌝ }
+    requires { ⌜ Inside template (now inside) ⌝ }
+    requires { ⌜ Firsts (now lengths) (now firsts) ⌝ }
+    requires { ⌜ BaseRows (now lengths) (now letters) (now bases) ⌝ }
     requires { ⌜ Slot template (now lengths) (now letters) (parity (now even) (now odd) (size - 1)) (size - 1) (number / base-of template) ⌝ }
-    requires { ⌜ (length (now even) ≡ Row-WORDS) × (length (now odd) ≡ Row-WORDS) × (length (now spare) ≡ Row-WORDS) ⌝ }
+    requires { ⌜ (length (now letter) ≡ Row-WORDS) × (length (now even) ≡ Row-WORDS) × (length (now odd) ≡ Row-WORDS) ⌝ }
     ensures { λ r. ⌜ r ≡ support (parts template size number) (sequences (now (letters .entry)) (now (lengths .entry))) ⌝ }
     ensures { λ _. ⌜ Slot template (now (lengths .entry)) (now (letters .entry)) (parity (now (even .exit)) (now (odd .exit)) size) size number ⌝ }
-    ensures { λ _. ⌜ (length (now (even .exit)) ≡ length (now (even .entry))) × (length (now (odd .exit)) ≡ length (now (odd .entry))) × (length (now (spare .exit)) ≡ length (now (spare .entry))) ⌝ }
+    ensures { λ _. ⌜ (length (now (letter .exit)) ≡ length (now (letter .entry))) × (length (now (even .exit)) ≡ length (now (even .entry))) × (length (now (odd .exit)) ≡ length (now (odd .entry))) ⌝ }
 {
+    let below = size as usize - 1;
+    let by = (inside[below] % PLACES) as usize;
+    let profile = template.profile;
+    letter_row(profile.last(number), bases, letter);
     if size % 2 == 0 {
-        return fill_slot(
+        let found = extend(
             template,
             size,
             number,
-            inside,
             letters,
             lengths,
             firsts,
-            standing,
+            letter,
+            by,
             odd,
             0,
-            spare,
             even,
         );
+        end_slot(template, size, inside, lengths, firsts, letter, even);
+        return found;
     }
-    fill_slot(
+    let found = extend(
         template,
         size,
         number,
-        inside,
         letters,
         lengths,
         firsts,
-        standing,
+        letter,
+        by,
         even,
         0,
-        spare,
         odd,
-    )
+    );
+    end_slot(template, size, inside, lengths, firsts, letter, odd);
+    found
 }
 
 // The support of the prefix of a place that is one letter shorter, if it has a letter: the prefixes one after another, in two slots, the
@@ -440,24 +477,27 @@ pub fn shorter(
     letters: &[u8],
     lengths: &[u32],
     firsts: &[u32],
-    standing: &[u64],
+    bases: &[u64],
+    letter: &mut [u64],
     even: &mut [u64],
     odd: &mut [u64],
-    spare: &mut [u64],
 ) -> u32
     requires { ⌜ SoundTemplate template ⌝ }
     requires { ⌜ SoundSet (now letters) (now lengths) ⌝ }
-    requires { ⌜ (1 ≤ size) × (size ≤ templates.size template) × (number < Letter-BASES ^ size) ⌝ }
-    requires { ⌜ Ready template (now lengths) (now letters) (now inside) (now firsts) (now standing) ⌝ }
+    requires { ⌜ (1 ≤ size) × (size ≤ templates.size template) × (number < base-of template ^ size) ⌝ }
+    requires { ⌜ Inside template (now inside) ⌝ }
+    requires { ⌜ Firsts (now lengths) (now firsts) ⌝ }
+    requires { ⌜ BaseRows (now lengths) (now letters) (now bases) ⌝ }
     requires { ⌜ Slot template (now lengths) (now letters) (now even) 0 0 ⌝ }
-    requires { ⌜ (length (now even) ≡ Row-WORDS) × (length (now odd) ≡ Row-WORDS) × (length (now spare) ≡ Row-WORDS) ⌝ }
-    ensures { λ r. ⌜ (2 ≤ size → r ≡ support (parts template (size - 1) (number / Letter-BASES)) (sequences (now (letters .entry)) (now (lengths .entry)))) ⌝ }
+    requires { ⌜ (length (now letter) ≡ Row-WORDS) × (length (now even) ≡ Row-WORDS) × (length (now odd) ≡ Row-WORDS) ⌝ }
+    ensures { λ r. ⌜ (2 ≤ size → r ≡ support (parts template (size - 1) (number / base-of template)) (sequences (now (letters .entry)) (now (lengths .entry)))) ⌝ }
 {
+    let profile = template.profile;
     let mut found: u32 = 0;
     let mut d: u8 = 1;
     while d < size {
-        let left = 2 * (size - d);
-        let prefix = number >> left;
+        let left = (size - d) as u32;
+        let prefix = profile.prefix(number, left);
         found = take_turn(
             template,
             d,
@@ -466,10 +506,10 @@ pub fn shorter(
             letters,
             lengths,
             firsts,
-            standing,
+            bases,
+            letter,
             even,
             odd,
-            spare,
         );
         d += 1;
     }

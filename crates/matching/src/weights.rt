@@ -13,7 +13,8 @@ ghost use mathlib.Core.List.{map};
 ghost use mathlib.Core.Path.{_≡_};
 ghost use Prim.Native.Nat.{ℕ, _+_, _-_, _*_, _^_, _≤_, _<_};
 ghost use lib.ListN.{length, take, drop, getD};
-ghost use Rattle.rules.specs.Limits.{SequenceSet-SEQUENCES, Template-LENGTH, Template-GAP, Letter-BASES};
+ghost use Rattle.rules.specs.Limits.{SequenceSet-SEQUENCES, Template-LENGTH, Template-GAP};
+ghost use Rattle.rules.specs.Profile.{base-of};
 ghost use Rattle.rules.specs.Lists as lists;
 ghost use Rattle.rules.specs.Sequences.{sequences};
 ghost use Rattle.rules.specs.Sound.{SoundSet, SoundTemplate};
@@ -283,7 +284,7 @@ fn count_ways(
 )
     requires { ⌜ SoundTemplate template ⌝ }
     requires { ⌜ SoundSet (now letters) (now lengths) ⌝ }
-    requires { ⌜ (depth ≡ templates.size template) × (motif < Letter-BASES ^ depth) ⌝ }
+    requires { ⌜ (depth ≡ templates.size template) × (motif < base-of template ^ depth) ⌝ }
     requires { ⌜ Ready template (now lengths) (now letters) (now inside) (now firsts) (now standing) ⌝ }
     requires { ⌜ Offsets (now lengths) (now offsets) ⌝ }
     requires { ⌜ Path template (now lengths) (now letters) (now evens) (now odds) depth motif ⌝ }
@@ -291,6 +292,7 @@ fn count_ways(
     ensures { λ _. ⌜ Leads template (now (lengths .entry)) (now (letters .entry)) (prefix-of template motif) (now (ways .exit)) ⌝ }
     ensures { λ _. ⌜ (length (now (spare .exit)) ≡ length (now (spare .entry))) × (length (now (ways .exit)) ≡ length (now (ways .entry))) ⌝ }
 {
+    let profile = template.profile;
     let components = template.components();
     let count = template.count as usize;
     if count == 1 {
@@ -308,8 +310,8 @@ fn count_ways(
         let high = here.high as usize;
         let more = before.length as u8;
         size += more;
-        let left = 2 * (depth - size);
-        let prefix = motif >> left;
+        let left = (depth - size) as u32;
+        let prefix = profile.prefix(motif, left);
         path::support(
             template,
             size,
@@ -363,7 +365,7 @@ pub fn weight(
 ) -> u64
     requires { ⌜ SoundTemplate template ⌝ }
     requires { ⌜ SoundSet (now letters) (now lengths) ⌝ }
-    requires { ⌜ (depth ≡ templates.size template) × (motif < Letter-BASES ^ depth) × (prefix ≡ prefix-of template motif) ⌝ }
+    requires { ⌜ (depth ≡ templates.size template) × (motif < base-of template ^ depth) × (prefix ≡ prefix-of template motif) ⌝ }
     requires { ⌜ Ready template (now lengths) (now letters) (now inside) (now firsts) (now standing) ⌝ }
     requires { ⌜ Offsets (now lengths) (now offsets) ⌝ }
     requires { ⌜ Path template (now lengths) (now letters) (now evens) (now odds) depth motif ⌝ }

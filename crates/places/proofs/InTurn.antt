@@ -1,12 +1,12 @@
 -- The checks of a search in turn: those before 13, and then 13, whose work the earlier ones make sound.
 use mathlib.Core.Path.{_≡_, sym, ap, _∙_}
 use mathlib.Core.Bool.{Bool, true, false, not, false≢true}
-use mathlib.Core.List.{List, [], _∷_}
+use mathlib.Core.List.{List}
 use Prim.Native.Nat.{ℕ}
-use Rattle.checks.specs.Orders.{value-checks-before-13}
+use Rattle.checks.specs.Orders.{template-checks, value-checks-before-13}
 use Rattle.places.specs.Orders.{before-13}
 use Rattle.rules.specs.Lists.{if}
-use Rattle.rules.specs.Refusals.{_else_, first, check5, check6, check7, check8, check13, passes?, set-checks, search-checks}
+use Rattle.rules.specs.Refusals.{_else_, first, check13, passes?, set-checks, search-checks}
 use Rattle.rules.specs.Saved.{place-rule?}
 use Rattle.rules.specs.Sound.{SoundSet, SoundTemplate}
 use Rattle.rules.specs.Told.{Verdict, fine, refused}
@@ -58,7 +58,7 @@ module _ (letters lengths : List ℕ) (s : Search) where
     pub template-is : SoundTemplate (s .template)
     template-is =
         let c = none-of (value-checks-before-13 letters lengths s) fine-value in let t = s .template in
-        template-sound t (all-fine (check5 t ∷ check6 t ∷ check7 t ∷ check8 t ∷ []) (c 0, (c 2, (c 3, (c 4, tt)))))
+        template-sound t (all-fine (template-checks t) (c 0, (c 2, (c 3, (c 4, (c 5, tt))))))
 
     pub rule-is : place-rule? (s .template) (s .place) ≡ true
     rule-is = check23-fine s .0 (none-of (value-checks-before-13 letters lengths s) fine-value 1)

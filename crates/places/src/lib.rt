@@ -139,20 +139,19 @@ fn candidate_alone(letters: &[u8], lengths: &[u32], s: Search) -> bool
     let mut inside = [0u8; matching::LETTERS];
     let mut firsts = [0u32; matching::FIRSTS];
     let mut offsets = [0u32; matching::OFFSETS];
-    let mut standing = [0u64; matching::ROWS];
+    let mut bases = [0u64; matching::ROWS];
+    let mut letter = [0u64; matching::WORDS];
     let mut even = [0u64; matching::WORDS];
     let mut odd = [0u64; matching::WORDS];
-    let mut spare = [0u64; matching::WORDS];
-    tables::make(
+    tables::begin(
         template,
         letters,
         lengths,
         &mut inside,
         &mut firsts,
         &mut offsets,
-        &mut standing,
+        &mut bases,
         &mut even,
-        &mut spare,
     );
     let found = path::shorter(
         template,
@@ -162,10 +161,10 @@ fn candidate_alone(letters: &[u8], lengths: &[u32], s: Search) -> bool
         letters,
         lengths,
         &firsts,
-        &standing,
+        &bases,
+        &mut letter,
         &mut even,
         &mut odd,
-        &mut spare,
     );
     frequent(size, quorum, found)
 }
@@ -201,7 +200,7 @@ pub fn check_13(letters: &[u8], lengths: &[u32], s: Search) -> Checked
     Checked::refuse_if(!alone, Refusal::NotACandidate)
 }
 
-// 1 to 4, 5, 23, 6, 7, 8, 12, 9: what a leg or a save checks of its search before 13.
+// 1 to 4, 5, 23, 6, 7, 8, 24, 12, 9: what a leg or a save checks of its search before 13.
 fn check_before_13(letters: &[u8], lengths: &[u32], s: Search) -> Checked
     ensures { λ r. ⌜ toldChecked r ≡ before-13 (now (letters .entry)) (now (lengths .entry)) s ⌝ }
 {

@@ -1,11 +1,10 @@
--- The rule of a recovery, part by part: what 1 to 8 and 14 refuse is refused; else 15 is refused if the first row lies past the
+-- The rule of a recovery, part by part: what 1 to 8, 24 and 14 refuse is refused; else 15 is refused if the first row lies past the
 -- list, and else the rows that went out are a page of it, since each has a number for the sequence and one for each component.
 use mathlib.Core.Path.{_≡_, refl, sym, ap, _∙_}
 use mathlib.Core.Bool.{Bool, true, false}
 use mathlib.Core.List.{List, [], _∷_, _++_, List·Memᴰ}
-use Prim.Native.Nat.{ℕ, suc, _-_, _^_, _≤_, _<_}
+use Prim.Native.Nat.{ℕ, suc, _-_, _≤_, _<_}
 use native.Mathlib.Omega.{arith}
-use lib.Dec.{ltb}
 use lib.ListN.{length, drop, drop-of-length-le}
 use borrow.Author.Tests.{lt-ltb, le-ltb}
 use Rattle.descent.specs.Buffer.{buffer, progress, emits}
@@ -15,17 +14,15 @@ use Rattle.descent.proofs.Flags.{parts-count}
 use Rattle.recovery.specs.Rule.{first-checks, rows-rule}
 use Rattle.recovery.proofs.Page.{emits-page}
 use Rattle.rules.specs.Calls.{recover-rule}
-use Rattle.rules.specs.Limits.{Letter-BASES}
 use Rattle.rules.specs.Recovery.{whole-list}
 use Rattle.rules.specs.Recovery as list
 use Rattle.rules.specs.Refusals.{_else_, first, check14, check15, set-checks, recover-checks}
 use Rattle.rules.specs.Sequences.{sequences}
 use Rattle.rules.specs.Sound.{SoundSet, SoundTemplate}
-use Rattle.rules.specs.Support.{occurrence-rows, parts}
+use Rattle.rules.specs.Support.{occurrence-rows, parts, valid}
 use Rattle.rules.specs.Template.{size}
 use Rattle.rules.specs.Told.{Verdict, Told, fine, refused, gives, refuses, Counts}
 use Rattle.rules.specs.declared.Template.{Template}
-use Rattle.rules.proofs.Exact.{exact-search, exact-valid}
 use Rattle.rules.proofs.Occurs.{parts-worded, rows-are}
 use Rattle.rules.proofs.Sound.{set-sound, template-sound}
 use Rattle.rules.proofs.Verdicts.{first-append, first-both, else-fine}
@@ -33,19 +30,19 @@ use Rattle.checks.specs.Orders.{template-checks}
 
 -- ---- 14
 
--- a number is a motif's exactly if the letters of one can spell it
-module _ (t : Template) (m : ℕ) {k : ℕ} {spelled : Bool} (letters : k ≡ size t) (test : spelled ≡ ltb m (Letter-BASES ^ k)) where
-  -- if they can, 14 passes
+-- a number is a motif's exactly if the template allows its letters
+module _ (t : Template) (m : ℕ) {k : ℕ} {spelled : Bool} (letters : k ≡ size t) (test : spelled ≡ valid t k m) where
+  -- if it does, 14 passes
   pub motif-passes : spelled ≡ true → fine ≡ check14 t m
   unfolding check14
-  motif-passes e = rw (exact-valid t (exact-search t) (size t) m, ← letters, ← test, e)
+  motif-passes e = rw (← letters, ← test, e)
 
   -- and else it is refused
   pub motif-refused : spelled ≡ false → refused 14 0 ≡ check14 t m
   unfolding check14
-  motif-refused e = rw (exact-valid t (exact-search t) (size t) m, ← letters, ← test, e)
+  motif-refused e = rw (← letters, ← test, e)
 
--- ---- 1 to 8 and 14
+-- ---- 1 to 8, 24 and 14
 
 -- what they pass is sound
 pub first-sound : (letters lengths : List ℕ) (t : Template) (m : ℕ) {v : Verdict} → v ≡ first (first-checks letters lengths t m) → v ≡ fine → SoundSet letters lengths × SoundTemplate t
@@ -71,7 +68,7 @@ module _ (letters lengths : List ℕ) (t : Template) (m f : ℕ) (out : List ℕ
   unfolding recover-checks first
   then-15 = first-append (first-checks letters lengths t m) (check15 letters lengths t m f ∷ []) ∙ ap (λ v. first (first-checks letters lengths t m) else v) (else-fine (check15 letters lengths t m f))
 
-  -- what 1 to 8 and 14 refuse is told, and the buffer stays
+  -- what 1 to 8, 24 and 14 refuse is told, and the buffer stays
   pub rule-refused : {v : Verdict} {n p : ℕ} → v ≡ first (first-checks letters lengths t m) → v ≡ refused n p
       → (refuses n p ≡ recover-rule letters lengths t m f out .told) × (out ≡ recover-rule letters lengths t m f out .out)
   unfolding recover-rule _else_

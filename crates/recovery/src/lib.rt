@@ -1,11 +1,10 @@
 // Recovery: every occurrence of a motif, from a row of their list on.
 use checks::check_set;
 use checks::check_template;
-use checks::spelled_by;
+use checks::spelled::valid;
 use descent::Progress;
 use descent::list_starts;
 use rules::Checked;
-use rules::Letter;
 use rules::Recovered;
 use rules::Refusal;
 use rules::SequenceNumber;
@@ -47,7 +46,7 @@ fn set_flags(ways: &[u64], flags: &mut [u8])
 }
 
 // The flags of a component in a sequence, from the ways of it and those after it. `ways` has those of the ones after it, and
-// then its own. The motif's letters are the last of `word`.
+// then its own. The motif's letters are the last of `word`, each by the bases that it stands for.
 fn mark_component(
     sequence: &[u8],
     template: Template,
@@ -77,7 +76,8 @@ fn mark(sequence: &[u8], template: Template, motif: u64, ways: &mut [u64], flags
     ensures { λ _. ⌜ take (length (now (sequence .entry))) (now (ways .exit)) ≡ counts (parts template (size template) motif) (map value (now (sequence .entry))) ⌝ }
 {
     let mut word = [0u8; Template::LETTERS as usize];
-    Letter::spell(motif, &mut word);
+    let profile = template.profile;
+    profile.spell(motif, &mut word);
     let mut c = template.count as usize;
     while 0 < c {
         c -= 1;
@@ -169,14 +169,14 @@ fn check_motif(template: Template, motif: u64) -> Checked
     ensures { λ r. ⌜ toldChecked r ≡ check14 template motif ⌝ }
 {
     let k = template.letters();
-    if spelled_by(motif, k) {
+    if valid(template, k, motif) {
         Checked::Fine
     } else {
         Checked::Refused(Refusal::MotifNumber)
     }
 }
 
-// 1 to 8 and 14.
+// 1 to 8, 24 and 14.
 fn check_recovery(letters: &[u8], lengths: &[u32], template: Template, motif: u64) -> Checked
     ensures { λ r. ⌜ toldChecked r ≡ first (first-checks (now (letters .entry)) (now (lengths .entry)) template motif) ⌝ }
 {
@@ -223,7 +223,7 @@ fn recover_rows(
 // Lists the occurrences of a motif: rows of k + 1 numbers, the sequence's number and then the starts, ordered by sequence, by
 // first start, by second start and so on. The rows from number `first` on, counted from 0, are written to `out` until the list
 // ends or no whole row fits; the rest of `out` stays. The answer is how many were written and how long the whole list is.
-// Refused, with nothing written: sequences (1 to 4) or a template (5 to 8) that break a rule, a number that is no motif's (14),
+// Refused, with nothing written: sequences (1 to 4) or a template (5 to 8, 24) that break a rule, a number that is no motif's (14),
 // and a first row above the list's length (15).
 pub fn recover(
     letters: &[u8],

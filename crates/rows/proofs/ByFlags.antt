@@ -12,10 +12,9 @@ use Rattle.rules.proofs.Bound.{split-lengths, split-count}
 use Rattle.rules.specs.Letters.{value}
 use Rattle.rules.specs.Lists.{if, run, keep, sum}
 use Rattle.rules.specs.Sequences.{split, sequences}
-use Rattle.rows.specs.Bits.{held}
 use Rattle.rows.specs.Flags.{bit, kept, reached, left?}
-use Rattle.rows.specs.Rows.{window, lettered, padded}
-use Rattle.rows.specs.Set.{words-of, first-word, between, bits-at, marked?, tally, extended-at, extended-marked?, window-at, lettered-at, Filled, Marked, Bounded, sequence, Row, Source}
+use Rattle.rows.specs.Rows.{both, ahead, extended, window, lettered, padded}
+use Rattle.rows.specs.Set.{words-of, first-word, between, bits-at, marked?, tally, extended-at, extended-marked?, window-at, lettered-at, lettered-on, Filled, Marked, Bounded, sequence, Row, Source}
 use Rattle.rows.proofs.Bits.{bit-small}
 use Rattle.rows.proofs.Dark.{kept-dark, reached-dark}
 use Rattle.rows.proofs.Held.{length-held}
@@ -106,36 +105,36 @@ module _ (ns l : List ℕ) (adds : sum ns ≡ length l) (few : length ns ≤ 102
     begin = λ k u t p v. q .begin k u t p v ∙ ap (λ (x : List ℕ). getD x p 0) (e (sequence ns l k));
   }
 
-  -- ONE LETTER MORE: what `keep_all` leaves is the row of the flags with that letter
+  -- ONE LETTER MORE: what `keep_all` leaves is the row of the flags with that letter. The row that it is tested by is the letter's own,
+  -- for place i of its component, if it is shifted by so many bits
   module _ (F : List ℕ → List ℕ) (same : (s : List ℕ) → length (F s) ≡ length s) (row : List ℕ) (source : Source F ns l row) (wide : first-word ns (length ns) ≤ length row)
-      (f : ℕ → ℕ → Bool) (x i : ℕ) (letter : List ℕ) (of-letter : Filled (λ _. true) (lettered-at f x ns (map value l)) ns letter (length ns)) where
+      (f : ℕ → ℕ → Bool) (x i : ℕ) (letter : List ℕ) (by : ℕ) (tests : (k : ℕ) → k < length ns → ahead by (bits-at ns k letter) ≡ lettered-on i f x ns (map value l) k) where
     small : (k : ℕ) (p : ℕ) → getD (bits-at ns k row) p 0 ≤ 1
     unfolding bits-at
     small k p = bit-small (between (first-word ns k) (first-word ns k + words-of (getD ns k 0)) row) p
 
-    letter-is : (k m : ℕ) → k < length ns → m ≡ 64 * words-of (getD ns k 0) → bits-at ns k letter ≡ lettered f x (sequence ns l k) m
-    unfolding lettered-at sequences
-    letter-is k m u e = of-letter .same k u refl ∙ ap (lettered f x (getD (split ns (map value l)) k [])) (sym e)
+    letter-is : (k m : ℕ) → k < length ns → m ≡ 64 * words-of (getD ns k 0) → ahead by (bits-at ns k letter) ≡ ahead i (lettered f x (sequence ns l k) m)
+    unfolding lettered-on lettered-at sequences
+    letter-is k m u e = tests k u ∙ ap (λ (n : ℕ). ahead i (lettered f x (getD (split ns (map value l)) k []) n)) (sym e)
 
-    flags-at : (k : ℕ) → k < length ns → marked? row k ≡ true → extended-at i ns letter row k ≡ padded (64 * words-of (getD ns k 0)) (kept f x i (sequence ns l k) (F (sequence ns l k)))
-    unfolding extended-at
+    flags-at : (k : ℕ) → k < length ns → marked? row k ≡ true → extended-at by ns letter row k ≡ padded (64 * words-of (getD ns k 0)) (kept f x i (sequence ns l k) (F (sequence ns l k)))
+    unfolding extended-at extended
     flags-at k u e =
         let s = sequence ns l k in
         let K = bits-at ns k row in
         let n : length K ≡ 64 * words-of (getD ns k 0) = bits-long row k wide u in
         let r : length s ≤ length K = rw (n, long k) (room (getD ns k 0)) in
-        let b : bits-at ns k letter ≡ lettered f x s (length K) = letter-is k (length K) u n in
-        rw b (extended-flags s K (F s) (small k) r (source .begin k u e) f x i ∙ rw n)
+        ap (both K) (letter-is k (length K) u n) ∙ extended-flags s K (F s) (small k) r (source .begin k u e) f x i ∙ rw n
 
     G : List ℕ → List ℕ
     G s = kept f x i s (F s)
 
     -- whether it is written or not
-    pub mark-same : (k : ℕ) → k < 1024 → extended-marked? i ns letter row k ≡ left? (kept f x i (sequence ns l k) (F (sequence ns l k)))
+    pub mark-same : (k : ℕ) → k < 1024 → extended-marked? by ns letter row k ≡ left? (kept f x i (sequence ns l k) (F (sequence ns l k)))
     unfolding extended-marked?
     mark-same k u = go (marked? row k) refl
       where
-        go : (b : Bool) → marked? row k ≡ b → if (marked? row k) (left? (extended-at i ns letter row k)) false ≡ left? (kept f x i (sequence ns l k) (F (sequence ns l k)))
+        go : (b : Bool) → marked? row k ≡ b → if (marked? row k) (left? (extended-at by ns letter row k)) false ≡ left? (kept f x i (sequence ns l k) (F (sequence ns l k)))
         go true e =
             elim (decLt k (length ns)) [
               | yes h ↦ rw (e, flags-at k h e, left-padded)
@@ -143,8 +142,8 @@ module _ (ns l : List ℕ) (adds : sum ns ≡ length l) (few : length ns ≤ 102
             ]
         go false e = rw e (sym (kept-dark (F (sequence ns l k)) (source .none k u e) f x i (sequence ns l k)))
 
-    pub letter-row : (out : List ℕ) → Filled (marked? row) (extended-at i ns letter row) ns out (length ns)
-        → Marked (extended-marked? i ns letter row) out 1024
+    pub letter-row : (out : List ℕ) → Filled (marked? row) (extended-at by ns letter row) ns out (length ns)
+        → Marked (extended-marked? by ns letter row) out 1024
         → Row (λ s. kept f x i s (F s)) ns l out
     letter-row out q m = record {
       marks-are = λ k u. m .same k u ∙ mark-same k u;

@@ -1,19 +1,17 @@
--- A row shifted down: each word is made of two side by side, and past the last there is none. A letter's row that is shifted already is
--- added with no shift: what stands at a position is what stood there, as far on as the row was shifted.
-use mathlib.Core.Bool.{Bool, true, false}
+-- A row shifted down: each word is made of two side by side, and past the last there is none. A letter's row is shifted for the letter's
+-- place in its component; for the first place it is the row itself.
+use mathlib.Core.Bool.{Bool, true}
 use mathlib.Core.List.{List, [], map}
 use mathlib.Core.Path.{_≡_, sym, ap, _∙_}
 use Prim.Native.Nat.{ℕ, _+_, _^_, _≤_, _<_}
-use native.Mathlib.Decide.{decLt}
 use native.Mathlib.Omega.{arith}
 use lib.ListN.{length, getD, set, List·getD-eq-default}
 use lib.Seq.{ext-getD}
-use Rattle.rules.specs.Lists.{if, run, over}
+use Rattle.rules.specs.Lists.{run, over}
 use Rattle.rules.proofs.Over.{getD-map-run, length-map-run, over-put, over-all}
 use Rattle.rows.specs.Bits.{held}
-use Rattle.rows.specs.Flags.{left?}
-use Rattle.rows.specs.Rows.{both, ahead-at, ahead, extended}
-use Rattle.rows.specs.Set.{first-word, between, bits-at, marked?, extended-at, extended-marked?, shifted-at, lettered-at, lettered-on, Filled, Bounded}
+use Rattle.rows.specs.Rows.{ahead-at, ahead}
+use Rattle.rows.specs.Set.{first-word, between, shifted-at, lettered-at, lettered-on, Filled}
 use Rattle.rows.specs.Words.{down, ahead-word}
 use Rattle.rows.proofs.Bits.{ahead-row}
 use Rattle.rows.proofs.Sets.{bits-are-at}
@@ -69,22 +67,3 @@ pub lettered-shifted : (i : ℕ) (f : ℕ → ℕ → Bool) (x : ℕ) (ns l row 
     → Filled (λ _. true) (shifted-at i ns row) ns out (length ns) → Filled (λ _. true) (lettered-on i f x ns l) ns out (length ns)
 unfolding shifted-at lettered-on
 lettered-shifted i f x ns l row out q s = record { same = λ k h e. s .same k h e ∙ ap (ahead i) (q .same k h e) }
-
--- a letter's row shifted already
-extended-ahead : (i : ℕ) (ls ks : List ℕ) → extended 0 (ahead i ls) ks ≡ extended i ls ks
-unfolding extended
-extended-ahead i ls ks = ap (both ks) (ahead-none (ahead i ls))
-
--- ONE LETTER MORE by the row `near`, which is the letter's row `whole` shifted for its place i: the same as by that row itself
-module _ (ns row : List ℕ) (bounded : Bounded ns row) (i : ℕ) (whole near : List ℕ) (same : (k : ℕ) → k < length ns → bits-at ns k near ≡ ahead i (bits-at ns k whole)) where
-  pub near-at : (k : ℕ) → k < length ns → extended-at 0 ns near row k ≡ extended-at i ns whole row k
-  unfolding extended-at
-  near-at k h = ap (λ (ls : List ℕ). extended 0 ls (bits-at ns k row)) (same k h) ∙ extended-ahead i (bits-at ns k whole) (bits-at ns k row)
-
-  pub near-marked? : (k : ℕ) → k < 1024 → extended-marked? 0 ns near row k ≡ extended-marked? i ns whole row k
-  unfolding extended-marked?
-  near-marked? k u =
-      elim (decLt k (length ns)) [
-        | yes h ↦ ap (λ (b : List ℕ). if (marked? row k) (left? b) false) (near-at k h)
-        | no h ↦ rw (bounded .none k (omega arith) u)
-      ]

@@ -1,57 +1,58 @@
 -- THE USER'S THREE DEMANDS, of the rules of the public calls (specs/Calls.antt), which the calls promise to keep. The
--- statements stand in front, the proofs behind them.
+-- statements stand in front, the proofs behind them. The third, of legs, saves and restores, has a file of its own.
+pub use Rattle.rules.proofs.Demand3.{Demand3, demand3}
 use mathlib.Core.Path.{_≡_, refl, ap}
 use mathlib.Core.Logic.{_↔_}
 use mathlib.Core.Bool.{true}
-use mathlib.Core.List.{List, [], _∷_, _++_, map, List·Memᴰ}
+use mathlib.Core.List.{List, [], _∷_, map, List·Memᴰ}
 use Prim.Native.Nat.{ℕ, suc, _+_, _*_, _≤_, _<_, _^_}
 use lib.Dec.{leb}
 use lib.ListN.{length, take, getD}
-use Rattle.rules.specs.Calls.{begin-rule, trimmed-search, leg-rule, save-rule, restore-rule, recover-rule, join-rule}
+use Rattle.rules.specs.Calls.{begin-rule, leg-rule, save-rule, restore-rule, recover-rule, join-rule}
 use Rattle.rules.specs.Fasta.{letters-of, records, reader-checks, stays, reader-rule, Held, call}
 use Rattle.rules.specs.FastaRead.{ReadToEnd, ReadWhole, Readable}
-use Rattle.rules.specs.Legs.{Stop, ended}
-use Rattle.rules.specs.Limits.{Letter-BASES}
+use Rattle.rules.specs.Legs.{ended}
+use Rattle.rules.specs.Limits.{Letter-BASES, Letter-DIGITS}
 use Rattle.rules.specs.Lists.{each, joined, keep, put, some?, sum}
-use Rattle.rules.specs.Occurrence.{occurrences, nth, Follows, Occurs, Gap, OccursExactly}
+use Rattle.rules.specs.Occurrence.{occurrences, nth, Follows, Occurs, Gap, OccursBy, OccursExactly}
 use Rattle.rules.specs.Motif.{spell}
 use Rattle.rules.specs.Order.{InOrder, Rising}
-use Rattle.rules.specs.Profile.{exactly, profile-of, base-of}
+use Rattle.rules.specs.Profile.{exactly, bases, mixed, profile-of, base-of}
 use Rattle.rules.specs.Recovery.{whole-list, page}
 use Rattle.rules.specs.Refusals.{first, new-checks, restore-checks, search-checks, save-checks, recover-checks, join-checks}
-use Rattle.rules.specs.Refused.{FirstOf, Stays, StaysOutside}
-use Rattle.rules.specs.Relay.{frequent-motifs, their-weights, whole-steps, Complete, Lent, Roomy, Ample, relay, Recovers, RefusedAsCut, WellFormed, Through}
-use Rattle.rules.specs.Saved.{bytes, read-search}
+use Rattle.rules.specs.Refused.{FirstOf, letters-in, Allows, Spells, CandidateIn, Stays, StaysOutside}
+use Rattle.rules.specs.Relay.{frequent-motifs, their-weights, whole-steps, Complete, Recovers}
 use Rattle.rules.specs.Sequences.{sequences}
 use Rattle.rules.specs.Sound.{SoundSet, SoundTemplate}
 use Rattle.rules.specs.Support.{support, weight, counted, valid, parts, parts-in}
 use Rattle.rules.specs.Template.{none, components, size, trimmed}
-use Rattle.rules.specs.Told.{gives, refuses, Verdict, fine, refused, Counts, Handing, entry, no-entry}
-use Rattle.rules.specs.Walk.{ended-place, walk-in, walk-over, walk-of, from, start, listed, goods}
+use Rattle.rules.specs.Told.{gives, refuses, Verdict, refused, Counts, Handing, entry, no-entry}
+use Rattle.rules.specs.Walk.{walk-in, walk-over, from, start, goods}
 use Rattle.rules.specs.declared.Place.{Place}
+use Rattle.rules.specs.declared.Profile.the-variants.{Exact, Mixed}
 use Rattle.rules.specs.declared.Search.{Search}
 use Rattle.rules.specs.declared.Template.{Template}
-use Rattle.rules.proofs.Accepts.{restore-accepts}
 use Rattle.rules.proofs.Bound.{list-bound}
-use Rattle.rules.proofs.Completes.{relay-complete, relay-ends, relay-answers, leg-complete, leg-ends}
-use Rattle.rules.proofs.Exact.{exact-search, exact-occurs, exact-motifs, exact-frequent, exact-steps}
+use Rattle.rules.proofs.Completes.{leg-complete, leg-ends}
+use Rattle.rules.proofs.EachKind.{frequent-support}
+use Rattle.rules.proofs.Exact.{exact-search, mixed-search, exact-occurs, exact-motifs, exact-frequent, exact-steps}
 use Rattle.rules.proofs.FastaFits.{records-fit}
 use Rattle.rules.proofs.FastaProgram.{FastaProgram, fasta-program}
 use Rattle.rules.proofs.FastaRefused.{FastaRefused, reader-refuses, fasta-refused}
 use Rattle.rules.proofs.FastaWritten.{FastaWritten, fasta-written}
 use Rattle.rules.proofs.First.{first-applies, unless-refuses, written-refuses, leg-refused}
+use Rattle.rules.proofs.Mixed.{mixed-occurs, mixed-motifs}
 use Rattle.rules.proofs.Sentence.{follows-gap}
-use Rattle.rules.proofs.LowFirst.{Bytes}
 use Rattle.rules.proofs.OccurrenceOrder.{rows-in-order}
 use Rattle.rules.proofs.Occurs.{parts-worded, parts-some, rows-are}
 use Rattle.rules.proofs.Prefix.{size-some}
 use Rattle.rules.proofs.Reading.{handed-stays, none-stays, read-whole, read-none, reads}
 use Rattle.rules.proofs.Refused.{EachRefusal, each-refusal}
-use Rattle.rules.proofs.Relayed.{leg-between}
-use Rattle.rules.proofs.Searches.{list-rises, list-holds}
-use Rattle.rules.proofs.Saves.{written-gives, restore-saved, ended-restores, save-restored, restored-cut, saved-cut}
+use Rattle.rules.proofs.Searches.{walk-lawful, list-rises, list-holds, list-spells}
+use Rattle.rules.proofs.Saves.{written-gives}
 use Rattle.rules.proofs.Stays.{save-stays, recover-stays, join-stays, leg-stays}
 use Rattle.rules.proofs.TextRefused.{TextRefused, text-refused}
+use Rattle.rules.proofs.Tried.{Once, passes-candidates, passes-once, passes-counted}
 use Rattle.rules.proofs.Ways.{weight-count, support-counts, support-sequences}
 use Rattle.rules.proofs.Weights.{their-lengths, leg-weights}
 
@@ -62,7 +63,7 @@ pub record Demand1 : Type 0 where
   -- of a call's checks, in their order, the first that applies is told, all before it being fine; so a call is refused only if one
   -- of its checks applies
   pub first-applies : (vs : List Verdict) (n p : ℕ) → (first vs ≡ refused n p) ↔ FirstOf vs n p
-  -- and each of 1 to 17 and 21 to 23 applies exactly if its sentence, the paper's or request 2's, holds, and tells the place that it names
+  -- and each of 1 to 17 and 21 to 24 applies exactly if its sentence, the paper's or a request's, holds, and tells the place that it names
   pub each : EachRefusal
   -- 18 is the printing program's: it comes before all others, exactly if a line of its input is bad, and tells the lowest that is
   pub text : TextRefused
@@ -128,10 +129,20 @@ pub record Demand2 : Type 0 where
       Follows (nth (parts t j m) (suc i) .near) (nth (parts t j m) (suc i) .far) p q ↔ Gap (c .length) (d .low) (d .high) p q
   -- the weighted support is the number of the motif's occurrences, added over all sequences
   pub weights : (t : Template) (j m : ℕ) (ss : List (List ℕ)) → weight (parts t j m) ss ≡ sum (map (λ s. length (occurrences (parts t j m) s)) ss)
-  -- every template asks for an exact search, and of an exact search the paper's own words hold. The list holds exactly the motifs
-  -- whose support reaches the quorum; each letter of an occurrence is the one that stands there; a prefix is frequent if its
-  -- support reaches the quorum, and the steps are 4 times the number of frequent prefixes of 0 to K - 1 letters
-  pub exact : (t : Template) → profile-of t ≡ exactly
+  -- OF EITHER KIND of search: sequences are counted, so that the list holds exactly the numbers of K allowed letters whose support reaches
+  -- the quorum, and a prefix is frequent if its support does
+  pub list : (t : Template) → SoundTemplate t → (quorum : ℕ) (ss : List (List ℕ)) (m : ℕ)
+      → List·Memᴰ m (frequent-motifs t quorum ss) ↔ (Spells t (size t) m × (quorum ≤ support (parts t (size t) m) ss))
+  pub prefix : (t : Template) (quorum : ℕ) (ss : List (List ℕ)) (j m : ℕ) → 1 ≤ j → (walk-over t quorum ss) .good j m ≡ leb quorum (support (parts t j m) ss)
+  -- the steps are the candidates, each once: prefixes of 1 to K allowed letters whose prefix one letter shorter is frequent
+  pub candidates : (t : Template) → SoundTemplate t → (quorum : ℕ) (ss : List (List ℕ)) (p : Place)
+      → let W = walk-over t quorum ss in List·Memᴰ p (from W (start W)) ↔ CandidateIn t quorum ss p
+  pub each-once : (t : Template) → SoundTemplate t → (quorum : ℕ) (ss : List (List ℕ)) → let W = walk-over t quorum ss in Once (from W (start W))
+  pub count : (t : Template) → SoundTemplate t → (quorum : ℕ) (ss : List (List ℕ)) → let W = walk-over t quorum ss in length (from W (start W)) ≡ whole-steps t quorum ss
+  -- OF AN EXACT SEARCH the paper's own words hold. The list holds exactly the motifs whose support reaches the quorum; each letter of an
+  -- occurrence is the one that stands there; a prefix is frequent if its support reaches the quorum, and the steps are 4 times the number
+  -- of frequent prefixes of 0 to K - 1 letters
+  pub exact : (t : Template) → t .profile ≡ Exact → profile-of t ≡ exactly
   pub exact-list : (t : Template) → profile-of t ≡ exactly → SoundTemplate t → (quorum : ℕ) (ss : List (List ℕ)) (m : ℕ)
       → List·Memᴰ m (frequent-motifs t quorum ss) ↔ ((m < Letter-BASES ^ size t) × (quorum ≤ support (parts t (size t) m) ss))
   pub exact-occurrence : (t : Template) → profile-of t ≡ exactly → (j m : ℕ) (s ps : List ℕ)
@@ -140,6 +151,15 @@ pub record Demand2 : Type 0 where
       → (walk-over t quorum ss) .good j m ≡ leb quorum (support (parts t j m) ss)
   pub exact-count : (t : Template) → profile-of t ≡ exactly → (quorum : ℕ) (ss : List (List ℕ))
       → whole-steps t quorum ss ≡ Letter-BASES * goods (walk-over t quorum ss) (size t)
+  -- OF A MIXED SEARCH request 5's. A motif's number lies below 16 to the power of K, its letters are among the fourteen, and of a
+  -- component's no more than its allowance stand for several bases; each letter of an occurrence stands for the base there
+  pub mixed : (t : Template) → t .profile ≡ Mixed → profile-of t ≡ mixed (λ c. c .allowance)
+  pub mixed-list : (t : Template) → t .profile ≡ Mixed → SoundTemplate t → (quorum : ℕ) (ss : List (List ℕ)) (m : ℕ)
+      → List·Memᴰ m (frequent-motifs t quorum ss)
+      ↔ ((m < Letter-DIGITS ^ size t) × ((i : ℕ) → i < length (components t) → Allows Mixed (getD (components t) i none) (letters-in t i (spell Letter-DIGITS (size t) m)))
+      × (quorum ≤ support (parts t (size t) m) ss))
+  pub mixed-occurrence : (t : Template) → t .profile ≡ Mixed → (j m : ℕ) (s ps : List ℕ)
+      → Occurs (parts t j m) s ps ↔ OccursBy (λ x y. List·Memᴰ y (getD bases x [])) (components t) (spell Letter-DIGITS j m) s ps
   -- a leg of a new search that answers ended has listed it whole
   pub one-leg : (letters lengths : List ℕ) (t : Template) (quorum : ℕ) (s : Search) (budget : ℕ) (motifs supports weights : List ℕ)
       → begin-rule letters lengths t quorum ≡ gives s
@@ -162,7 +182,7 @@ pub record Demand2 : Type 0 where
   -- the weighted supports of a search's list are the lengths of its motifs' lists
   pub listed-weights : (t : Template) (quorum : ℕ) (ss : List (List ℕ)) → their-weights t quorum ss ≡ map (λ m. length (whole-list t ss m)) (frequent-motifs t quorum ss)
   -- the weighted support in a row of any leg, ended or not, is below 2^57, and is what a recovery of the row's motif answers as its
-  -- list's length, under the search's template, whatever that holds past its components
+  -- list's length, under the search's template, whatever that holds that it does not use
   pub leg-weights : (letters lengths : List ℕ) (s : Search) (budget : ℕ) (motifs supports weights : List ℕ) (t : Template) (i : ℕ) → trimmed t ≡ trimmed (s .template)
       → let l = leg-rule letters lengths s budget motifs supports weights in i < l .told .rows
       → (getD (l .weights) i 0 < 2 ^ 57) × Recovers letters lengths t (getD (l .motifs) i 0) (getD (l .weights) i 0)
@@ -187,37 +207,6 @@ pub record Demand2 : Type 0 where
   pub fasta-room : (file : List ℕ) → length (each letters-of (records file)) + length (records file) ≤ length file
   -- the program `lines` prints the records' letters, one sequence a line, for the printing program to search
   pub fasta-lines : FastaProgram
-
--- ---- DEMAND 3: legs, saves and restores
-
-pub record Demand3 : Type 0 where
-  -- the lists of a new search's legs, laid end to end, are demand 2's list once one answers ended, and the steps add up
-  pub end-to-end : (letters lengths : List ℕ) (t : Template) (quorum : ℕ) (s : Search) (gs : List Lent) → begin-rule letters lengths t quorum ≡ gives s
-      → (relay letters lengths gs s) .answer ≡ gives ended
-      → let r = relay letters lengths gs s in Complete t quorum (sequences letters lengths) (r .steps) (r .motifs) (r .supports) (r .weights)
-  -- it ends within that many legs, if each has a budget and room of at least one
-  pub ends : (letters lengths : List ℕ) (t : Template) (quorum : ℕ) (s : Search) (gs : List Lent) → begin-rule letters lengths t quorum ≡ gives s → Roomy t gs → Ample gs
-      → whole-steps t quorum (sequences letters lengths) ≤ length gs → (relay letters lengths gs s) .answer ≡ gives ended
-  -- nothing on the way is refused
-  pub answers : (letters lengths : List ℕ) (t : Template) (quorum : ℕ) (s : Search) (gs : List Lent) → begin-rule letters lengths t quorum ≡ gives s → Roomy t gs
-      → (a : Stop) × ((relay letters lengths gs s) .answer ≡ gives a)
-  -- a leg's steps and rows are those of the candidates between its old place and its new
-  pub between : (letters lengths : List ℕ) (s : Search) (budget : ℕ) (motifs supports weights : List ℕ) → first (search-checks letters lengths s) ≡ fine
-      → let l = leg-rule letters lengths s budget motifs supports weights in let W = walk-of letters lengths s in
-      (taken : List Place) × (from W (s .place) ≡ taken ++ from W (l .told .search .place)) × (l .told .steps ≡ length taken) × (take (l .told .rows) (l .motifs) ≡ listed W taken)
-  -- restore accepts bytes exactly if they are well formed and the uninterrupted search passes through their place
-  pub accepts : (letters lengths bs : List ℕ) (s : Search)
-      → (restore-rule letters lengths bs ≡ gives s) ↔ (WellFormed letters lengths bs × Through letters lengths (read-search bs) × (s ≡ read-search bs))
-  -- what was saved restores to the same search, with nothing in the slots that its template does not count; an ended one as ended
-  pub restores : (letters lengths : List ℕ) (s : Search) → first (search-checks letters lengths s) ≡ fine → restore-rule letters lengths (bytes s) ≡ gives (trimmed-search s)
-  pub ended-restores : (letters lengths : List ℕ) (s r : Search) → first (search-checks letters lengths s) ≡ fine → s .place ≡ ended-place
-      → restore-rule letters lengths (bytes s) ≡ gives r → r .place ≡ ended-place
-  -- saving a restored search gives the same bytes
-  pub same-bytes : (letters lengths bs : List ℕ) (s : Search) → Bytes bs → restore-rule letters lengths bs ≡ gives s → bytes s ≡ bs
-  -- what a save wrote, cut short at any byte, is refused, whatever sequences are lent; and so are any bytes that restore accepts
-  pub cut-short : (letters lengths : List ℕ) (s : Search) (out : List ℕ) (k n : ℕ) → (save-rule letters lengths s out) .told ≡ gives k → n < k
-      → RefusedAsCut (take n ((save-rule letters lengths s out) .out))
-  pub cut-accepted : (letters lengths bs : List ℕ) (s : Search) (n : ℕ) → restore-rule letters lengths bs ≡ gives s → n < length bs → RefusedAsCut (take n bs)
 
 -- ---- THE PROOFS
 
@@ -259,11 +248,19 @@ demand2 =
       weights = λ t j m ss. weight-count (parts t j m) ss;
       occurring = λ t o j m h s. support-counts (parts t j m) s (parts-worded t o j m) (parts-some t o j m h);
       gaps = λ t j m i p q. follows-gap (profile-of t .reading) 0 (components t) (spell (base-of t) j m) i p q;
+      list = λ t o quorum ss. list-spells t quorum ss o;
+      prefix = frequent-support;
+      candidates = λ t o quorum ss. passes-candidates t quorum ss o;
+      each-once = λ t o quorum ss. passes-once (walk-over t quorum ss) (walk-lawful t quorum ss o);
+      count = λ t o quorum ss. passes-counted t quorum ss o;
       exact = exact-search;
       exact-list = λ t e o quorum ss. exact-motifs t e quorum ss o;
       exact-occurrence = exact-occurs;
       exact-prefix = exact-frequent;
       exact-count = exact-steps;
+      mixed = mixed-search;
+      mixed-list = mixed-motifs;
+      mixed-occurrence = mixed-occurs;
       one-leg = λ letters lengths t quorum s budget motifs supports weights b. leg-complete letters lengths t quorum s b budget motifs supports weights;
       one-leg-ends = λ letters lengths t quorum s budget motifs supports weights b. leg-ends letters lengths t quorum s b budget motifs supports weights;
       recovered = λ t o ss m row. rows-are (parts t (size t) m) ss (parts-worded t o (size t) m) (parts-some t o (size t) m (size-some t o)) row;
@@ -278,19 +275,4 @@ demand2 =
       fasta-reads = reads;
       fasta-room = records-fit;
       fasta-lines = fasta-program;
-    }
-
-pub demand3 : Demand3
-demand3 =
-    record {
-      end-to-end = λ letters lengths t quorum s gs b. relay-complete letters lengths t quorum s b gs;
-      ends = λ letters lengths t quorum s gs b. relay-ends letters lengths t quorum s b gs;
-      answers = λ letters lengths t quorum s gs b. relay-answers letters lengths t quorum s b gs;
-      between = leg-between;
-      accepts = restore-accepts;
-      restores = restore-saved;
-      ended-restores = ended-restores;
-      same-bytes = λ letters lengths bs s b e. save-restored letters lengths bs s e b;
-      cut-short = saved-cut;
-      cut-accepted = λ letters lengths bs s n e. restored-cut letters lengths bs s e n;
     }

@@ -1,9 +1,9 @@
 -- What each check says, by its number: a check is fine exactly if its sentence holds of the numbers. Each is a test that
 -- refuses, or a search for the first bad one of a list.
-use mathlib.Core.Path.{_≡_, refl, ap, _∙_}
+use mathlib.Core.Path.{_≡_, refl, sym, ap, _∙_}
 use mathlib.Core.Logic.{_↔_, Iff·rfl, Iff·trans}
-use mathlib.Core.Bool.{Bool, true, false, _&&_, not}
-use mathlib.Core.List.{List, []}
+use mathlib.Core.Bool.{Bool, true, false, _&&_, not, false≢true}
+use mathlib.Core.List.{List, [], _∷_}
 use Prim.Native.Nat.{ℕ, zero, suc, _+_, _≤_, _<_}
 use native.Mathlib.Nat.{zero-add, add-zero}
 use native.Mathlib.Omega.{arith}
@@ -13,20 +13,20 @@ use borrow.Author.Tests.{ltb-false, le-ltb, eqb-true, eq-eqb, ne-eqb}
 use Rattle.rules.specs.Join.{rising?}
 use Rattle.rules.specs.Letters.{letter?}
 use Rattle.rules.specs.Limits.{Record-EXTRA, Template-COMPONENTS, Template-LENGTH, Template-GAP, SequenceSet-SEQUENCES, SequenceSet-LETTERS}
-use Rattle.rules.specs.Lists.{sum}
+use Rattle.rules.specs.Lists.{if, keep, some?, sum}
 use Rattle.rules.specs.Profile.{profile-of}
 use Rattle.rules.specs.Recovery.{whole-list}
-use Rattle.rules.specs.Refusals.{refuse-if, bad-byte, bad-length, bad-range, bad-gap, check1, check2, check3, check4, check5, check6, check7, check8, check9, check10, check11, check12, passes?, check13, check14, check15, check6-head, check8-range, check16, check17, check21, check22, check23, first-bad}
-use Rattle.rules.specs.Saved.{sized?, record-at, component-count, saved-records, kind?, unnamed-blank?, sums?, place-rule?}
+use Rattle.rules.specs.Refusals.{refuse-if, bad-byte, bad-length, bad-range, bad-gap, bad-allowance, check1, check2, check3, check4, check5, check6, check7, check8, check9, check10, check11, check12, passes?, check13, check14, check15, check6-head, check8-range, check16, check17, check21, check22, check23, check24, first-bad}
+use Rattle.rules.specs.Saved.{sized?, record-at, component-count, read-profile, saved-records, kind?, unnamed-blank?, sums?, place-rule?}
 use Rattle.rules.specs.Sequences.{sequences}
 use Rattle.rules.specs.Support.{valid}
-use Rattle.rules.specs.Template.{slots, none, components, size}
+use Rattle.rules.specs.Template.{allowance-in, slots, none, components, size}
 use Rattle.rules.specs.Told.{fine}
 use Rattle.rules.specs.declared.Component.{Component}
 use Rattle.rules.specs.declared.Search.{Search}
 use Rattle.rules.specs.declared.Template.{Template}
 use Rattle.rules.proofs.Over.{length-map-run, getD-map-run}
-use Rattle.rules.proofs.Tests.{neither, both, not-false, two}
+use Rattle.rules.proofs.Tests.{neither, both, not-false, two, denied}
 use Rattle.rules.proofs.Verdicts.{inside, refuse-if-fine, refuse-at-fine, none-bad, all-good, none-bad-in, all-good-in}
 
 not-less : (a b : ℕ) → (ltb a b ≡ false) ↔ (b ≤ a)
@@ -43,6 +43,27 @@ says b n = Iff·trans (refuse-if-fine b n)
 -- a check that wants a test to pass
 wants : {P : Type 0} (b : Bool) (n : ℕ) → (b ≡ true) ↔ P → (refuse-if (not b) n ≡ fine) ↔ P
 wants b n p = says (not b) n (Iff·trans (not-false b) p)
+
+-- some of a list pass a test exactly if one at an index does
+pub some-passes : {A : Type 0} (f : A → Bool) (d : A) (xs : List A) → (some? (keep f xs) ≡ true) ↔ ((i : ℕ) × (i < length xs) × (f (getD xs i d) ≡ true))
+unfolding some? keep
+some-passes f d [] = (λ e. absurd (false≢true e), λ h. absurd (omega (arith, h .1)))
+some-passes {A} f d (x ∷ xs) = go (f x) refl (some-passes f d xs)
+  where
+    Some : List A → Type 0
+    Some l = (i : ℕ) × (i < length l) × (f (getD l i d) ≡ true)
+
+    later : (i : ℕ) → i < length (x ∷ xs) → f (getD (x ∷ xs) i d) ≡ true → f x ≡ false → Some xs
+    later zero l q e = absurd (false≢true (sym e ∙ q))
+    later (suc i) l q e = (i, omega arith, q)
+
+    go : (b : Bool) → f x ≡ b → (some? (keep f xs) ≡ true) ↔ Some xs → (some? (if b (x ∷ keep f xs) (keep f xs)) ≡ true) ↔ Some (x ∷ xs)
+    go true e rest = (λ q. (0, omega arith, e), λ h. refl)
+    go false e rest = (λ q. let h = rest .0 q in (suc (h .0), omega (arith, h .1), h .2), λ h. rest .1 (later (h .0) (h .1) (h .2) e))
+
+-- and none passes exactly if each fails
+none-passes : {A : Type 0} (f : A → Bool) (d : A) (xs : List A) → (some? (keep f xs) ≡ false) ↔ ((i : ℕ) → i < length xs → f (getD xs i d) ≡ false)
+none-passes f d xs = Iff·trans (denied _ (some-passes f d xs)) (λ h i l. denied _ Iff·rfl .1 (λ e. h (i, l, e)), λ h k. false≢true (sym (h (k .0) (k .1)) ∙ k .2))
 
 range : (low high : ℕ) → (bad-range low high ≡ false) ↔ ((low ≤ high) × (high ≤ Template-GAP))
 range low high = (
@@ -80,6 +101,12 @@ module _ (t : Template) where
   pub check7-fine : (check7 t ≡ fine) ↔ (size t ≤ profile-of t .most)
   unfolding check7
   check7-fine = says _ 7 (not-less (profile-of t .most) (size t))
+
+  -- 24: no allowance is above its component's length
+  pub check24-fine : (check24 t ≡ fine)
+      ↔ ((i : ℕ) → i < length (components t) → allowance-in (t .profile) (getD (components t) i none) ≤ (getD (components t) i none) .length)
+  unfolding check24
+  check24-fine = says _ 24 (Iff·trans (none-passes (bad-allowance (t .profile)) none (components t)) (λ h i l. not-less _ _ .0 (h i l), λ h i l. not-less _ _ .1 (h i l)))
 
   module _ (few : t .count ≤ Template-COMPONENTS) where
     -- 6: the length of each component lies in its limits
@@ -140,10 +167,10 @@ pub check11-fine : (bs : List ℕ) → (check11 bs ≡ fine) ↔ ((i : ℕ) → 
 unfolding check11
 check11-fine bs = each-record 11 (kind? (component-count bs)) bs
 
--- 21: and 0 in the bytes that the paper does not name
-pub check21-fine : (bs : List ℕ) → (check21 bs ≡ fine) ↔ ((i : ℕ) → i < component-count bs + Record-EXTRA → unnamed-blank? (component-count bs) i (record-at bs i) ≡ true)
+-- 21: and 0 in the bytes that the papers do not name
+pub check21-fine : (bs : List ℕ) → (check21 bs ≡ fine) ↔ ((i : ℕ) → i < component-count bs + Record-EXTRA → unnamed-blank? (read-profile bs) (component-count bs) i (record-at bs i) ≡ true)
 unfolding check21
-check21-fine bs = each-record 21 (unnamed-blank? (component-count bs)) bs
+check21-fine bs = each-record 21 (unnamed-blank? (read-profile bs) (component-count bs)) bs
 
 -- 22: K is the sum of the lengths
 pub check22-fine : (bs : List ℕ) → (check22 bs ≡ fine) ↔ (sums? bs ≡ true)

@@ -1,10 +1,10 @@
 -- What is so of an exact search, in document 01's words: four letters, each of which stands for itself and may follow any; the
 -- list is that of the motifs whose support reaches the quorum, and the steps are four for each frequent prefix.
 use mathlib.Core.Path.{_≡_, refl, sym, ap, _∙_}
-use mathlib.Core.Logic.{_↔_}
+use mathlib.Core.Logic.{_↔_, Iff·trans, Iff·symm}
 use mathlib.Core.Bool.{true, _&&_}
 use mathlib.Core.List.{List, [], _∷_, List·Memᴰ}
-use Prim.Native.Nat.{ℕ, zero, suc, _*_, _^_, _≤_, _<_}
+use Prim.Native.Nat.{ℕ, _*_, _^_, _≤_, _<_}
 use native.Mathlib.Omega.{arith}
 use lib.Dec.{leb, ltb}
 use lib.ListN.{drop}
@@ -12,25 +12,33 @@ use borrow.Author.Tests.{ltb-true, lt-ltb}
 use Rattle.rules.specs.Limits.{Letter-BASES, Template-LETTERS}
 use Rattle.rules.specs.Motif.{spell}
 use Rattle.rules.specs.Occurrence.{Occurs, OccursExactly}
-use Rattle.rules.specs.Profile.{allowed, exactly, profile-of, base-of}
+use Rattle.rules.specs.Profile.{allowed, exactly, mixed, profile-by, profile-of, base-of}
+use Rattle.rules.specs.Refused.{Spells}
 use Rattle.rules.specs.Relay.{frequent-motifs, whole-steps}
 use Rattle.rules.specs.Saved.{place-rule?}
 use Rattle.rules.specs.Sound.{SoundTemplate}
-use Rattle.rules.specs.Support.{support, counted, parts, parts-in, allowed-in, valid, measure, reaches, frequent}
+use Rattle.rules.specs.Support.{support, counted, parts, parts-in, allowed-in, valid, frequent}
 use Rattle.rules.specs.Template.{Part, components, size, cut}
 use Rattle.rules.specs.Walk.{walk-in, walk-over, goods}
 use Rattle.rules.specs.declared.Component.{Component}
 use Rattle.rules.specs.declared.Place.{Place}
+use Rattle.rules.specs.declared.Profile.the-variants.{Exact, Mixed}
 use Rattle.rules.specs.declared.Template.{Template}
+use Rattle.rules.proofs.EachKind.{frequent-support}
 use Rattle.rules.proofs.Sentence.{occurs-exactly}
 use Rattle.rules.proofs.Plain.{tries-plain}
 use Rattle.rules.proofs.Searches.{list-holds}
+use Rattle.rules.proofs.Spells.{valid-says}
 use Rattle.rules.proofs.Tests.{and-true}
 
--- EVERY TEMPLATE asks for an exact search, today
-pub exact-search : (t : Template) → profile-of t ≡ exactly
-unfolding profile-of
-exact-search t = refl
+-- what a template asks for, by its kind
+pub exact-search : (t : Template) → t .profile ≡ Exact → profile-of t ≡ exactly
+unfolding profile-by
+exact-search t e = ap profile-by e
+
+pub mixed-search : (t : Template) → t .profile ≡ Mixed → profile-of t ≡ mixed (λ c. c .allowance)
+unfolding profile-by
+mixed-search t e = ap profile-by e
 
 allowed-all : (cs : List Component) (w : List ℕ) → allowed (λ c w. true) cs w ≡ true
 unfolding allowed
@@ -80,9 +88,7 @@ module _ (t : Template) (e : profile-of t ≡ exactly) where
 
     -- a prefix with a letter is frequent by its support
     pub exact-frequent : (j m : ℕ) → 1 ≤ j → frequent t quorum ss j m ≡ leb quorum (support (parts t j m) ss)
-    unfolding reaches measure exactly
-    exact-frequent zero m h = absurd (omega arith)
-    exact-frequent (suc j) m h = rw e
+    exact-frequent j m h = frequent-support t quorum ss j m h
 
     -- the list: the motifs whose support reaches the quorum
     pub exact-motifs : SoundTemplate t → (m : ℕ) → List·Memᴰ m (frequent-motifs t quorum ss) ↔ ((m < Letter-BASES ^ size t) × (quorum ≤ support (parts t (size t) m) ss))
@@ -97,3 +103,7 @@ module _ (t : Template) (e : profile-of t ≡ exactly) where
     pub exact-steps : whole-steps t quorum ss ≡ Letter-BASES * goods (walk-over t quorum ss) (size t)
     unfolding whole-steps walk-in
     exact-steps = tries-plain (walk-over t quorum ss) exact-may (size t) ∙ ap (λ b. b * goods (walk-over t quorum ss) (size t)) exact-base
+
+-- a number spells letters of an exact search if it lies below 4 to the power of how many
+pub exact-spells : (t : Template) → t .profile ≡ Exact → (j m : ℕ) → Spells t j m ↔ (m < Letter-BASES ^ j)
+exact-spells t e j m = Iff·trans (Iff·symm (valid-says t j m)) (rw (exact-valid t (exact-search t e) j m) (ltb-true m _, lt-ltb m _))

@@ -205,9 +205,9 @@ module _ (t : Template) (quorum : ℕ) (ss : List (List ℕ)) (sound : SoundTemp
       go zero e = absurd (omega (arith, size-some t sound))
       go (suc k) e = rw e (omega (arith, goods-few k (omega arith), sound .deep))
 
--- a whole search takes fewer than 2 ^ 63 steps
-pub whole-steps-few : (t : Template) → profile-of t ≡ exactly → (quorum : ℕ) (letters lengths : List ℕ) → SoundTemplate t → SoundSet letters lengths → 1 ≤ quorum
+-- a whole exact search takes fewer than 2 ^ 63 steps
+pub exact-steps-few : (t : Template) → profile-of t ≡ exactly → (quorum : ℕ) (letters lengths : List ℕ) → SoundTemplate t → SoundSet letters lengths → 1 ≤ quorum
     → whole-steps t quorum (sequences letters lengths) < 2 ^ 63
-whole-steps-few t e quorum letters lengths sound set some =
+exact-steps-few t e quorum letters lengths sound set some =
     rw (exact-steps t e quorum (sequences letters lengths), e)
     (steps-few t quorum (sequences letters lengths) sound some (omega (arith, sequences-letters letters lengths set, set .short)))

@@ -7,29 +7,28 @@ use mathlib.Core.List.{List, [], _∷_, map}
 use Prim.Native.Nat.{ℕ, zero, suc, _+_, _-_, _*_, _≤_, _<_}
 use native.Mathlib.Nat.{add-zero}
 use native.Mathlib.Omega.{arith}
-use lib.Dec.{eqb}
+use lib.Dec.{eqb, leb}
 use lib.ListN.{getD, take, drop}
 use lib.Seq.{getD-drop, drop-drop}
-use borrow.Author.Tests.{leb-true, ltb-true, le-leb, lt-ltb}
-use Rattle.rules.specs.Limits.{Record-EXTRA, Record-SIZE, Record-COMPONENT, Record-PLACE, Template-COMPONENTS}
+use borrow.Author.Tests.{leb-true, leb-false, le-leb, lt-leb}
+use Rattle.rules.specs.Limits.{Profile-MIXED, Record-EXTRA, Record-SIZE, Record-COMPONENT, Record-PLACE, Template-COMPONENTS}
 use Rattle.rules.specs.Lists.{all?, run, sum}
-use Rattle.rules.specs.Profile.{profile-of, exactly}
 use Rattle.rules.specs.Refused.{byte, Blank, NotZero, OfRecord, WrongKind, NotBlank, SizeLaid, ComponentLaid, PlaceLaid, RecordsLaid, saved-size, saved-lengths, saved-place, PlaceRule}
-use Rattle.rules.specs.Saved.{read-low, record-at, field, component-count, read-component, read-place, read-template, read-search, blank?, size-kind?, component-kind?, place-kind?, size-blank?, component-blank?, place-blank?, size-record?, component-record?, place-record?, component-records?, sums?, place-rule?, laid-out?, by-record, kind?, unnamed-blank?}
+use Rattle.rules.specs.Saved.{read-low, record-at, field, component-count, read-profile, read-component, read-place, read-template, read-search, blank?, size-kind?, component-kind?, place-kind?, size-blank?, allowance-blank?, component-blank?, place-blank?, size-record?, component-record?, place-record?, component-records?, sums?, place-rule?, laid-out?, by-record, kind?, unnamed-blank?}
 use Rattle.rules.specs.Template.{size}
 use Rattle.rules.specs.Walk.{place}
-use Rattle.rules.specs.declared.Place.{Place}
-use Rattle.rules.specs.declared.Template.{Template}
+use Rattle.rules.specs.declared.Profile.{Profile}
+use Rattle.rules.specs.declared.Profile.the-variants.{Exact, Mixed}
 use Rattle.rules.proofs.EachCheck.{same}
-use Rattle.rules.proofs.Exact.{exact-place}
 use Rattle.rules.proofs.LaidOut.{at-component, at-place, which-record, components-each}
-use Rattle.rules.proofs.Rewritten.{read-components}
+use Rattle.rules.proofs.Rewritten.{component-in, read-components}
+use Rattle.rules.proofs.Spells.{place-rule-says}
 use Rattle.rules.proofs.Tests.{both, two, denied, one-fails}
 
 -- ---- fields and blanks
 
 -- a field of one byte is that byte
-field-byte : (r : List ℕ) (k : ℕ) → field r k 1 ≡ getD r k 0
+pub field-byte : (r : List ℕ) (k : ℕ) → field r k 1 ≡ getD r k 0
 unfolding field read-low
 field-byte r k = rw (getD-drop k r 0 0, add-zero k) (omega arith)
 
@@ -73,21 +72,36 @@ not-blank bs i k n to e = (
 
 -- ---- the records
 
+-- a mixed search is not exact
+pub not-exact : Mixed ≡ Exact → ⊥
+not-exact e = let z : _≡_ {A = ℕ} 0 1 = cc in omega arith
+
 module _ (bs : List ℕ) where
   -- a byte is x
   byte-says : (i k x : ℕ) → (eqb (field (record-at bs i) k 1) x ≡ true) ↔ (byte bs i k ≡ x)
   byte-says i k x = rw (field-byte (record-at bs i) k) (same (byte bs i k) x)
 
+  -- a byte is at most x
+  byte-most : (i k x : ℕ) → (leb (field (record-at bs i) k 1) x ≡ true) ↔ (byte bs i k ≤ x)
+  byte-most i k x = rw (field-byte (record-at bs i) k) (leb-true (byte bs i k) x, le-leb (byte bs i k) x)
+
   -- the size record keeps its layout
   size-says : (size-record? (record-at bs 0) ≡ true) ↔ SizeLaid bs
   unfolding size-record? size-kind? size-blank?
-  size-says = Iff·trans (two _ _ (byte-says 0 0 Record-SIZE) (blank-says bs 0 12 4 15 refl)) (λ h. record { kind = h .0; blank = h .1 }, λ h. (h .kind, h .blank))
+  size-says =
+      Iff·trans (two _ _ (byte-says 0 0 Record-SIZE) (two _ _ (byte-most 0 12 Profile-MIXED) (blank-says bs 0 13 3 15 refl)))
+      (λ h. record { kind = h .0; profile = h .1 .0; blank = h .1 .1 }, λ h. (h .kind, (h .profile, h .blank)))
+
+  -- the byte of an allowance is 0 in an exact search
+  allowance-says : (p : Profile) (i : ℕ) → (allowance-blank? p (record-at bs i) ≡ true) ↔ (p ≡ Exact → Blank bs i 3 3)
+  allowance-says Exact i = Iff·trans (blank-says bs i 3 1 3 refl) (λ h e. h, λ h. h refl)
+  allowance-says Mixed i = (λ e q. absurd (not-exact q), λ h. refl)
 
   -- so does record i, a component's
-  component-says : (i : ℕ) → (component-record? i (record-at bs i) ≡ true) ↔ ComponentLaid bs i
+  component-says : (i : ℕ) → (component-record? (read-profile bs) i (record-at bs i) ≡ true) ↔ ComponentLaid bs i
   unfolding component-record? component-kind? component-blank?
   component-says i =
-      Iff·trans (two _ _ (two _ _ (byte-says i 0 Record-COMPONENT) (byte-says i 1 i)) (two _ _ (blank-says bs i 3 1 3 refl) (blank-says bs i 8 8 15 refl)))
+      Iff·trans (two _ _ (two _ _ (byte-says i 0 Record-COMPONENT) (byte-says i 1 i)) (two _ _ (allowance-says (read-profile bs) i) (blank-says bs i 8 8 15 refl)))
       (λ h. record { kind = h .0 .0; component = h .0 .1; blank = h .1 .0; rest = h .1 .1 }, λ h. ((h .kind, h .component), (h .blank, h .rest)))
 
   -- and record i, the place's
@@ -144,19 +158,24 @@ module _ (bs : List ℕ) (i : ℕ) (h : i < component-count bs + Record-EXTRA) w
   unfolding kind? size-kind? component-kind? place-kind?
   kind-fails = of-record (component-count bs) i _ _ _ (byte-not 0 Record-SIZE) (one-fails _ _ (byte-not 0 Record-COMPONENT) (byte-not 1 i)) (byte-not 0 Record-PLACE) h
 
+  -- a byte is above x
+  byte-above : (k x : ℕ) → (leb (field (record-at bs i) k 1) x ≡ false) ↔ (x < byte bs i k)
+  byte-above k x = rw (field-byte (record-at bs i) k) (leb-false (byte bs i k) x, lt-leb (byte bs i k) x)
+
+  -- the byte of an allowance is not 0 in an exact search
+  allowance-fails : (p : Profile) → (allowance-blank? p (record-at bs i) ≡ false) ↔ ((p ≡ Exact) × NotZero bs i 3 3)
+  allowance-fails Exact = Iff·trans (not-blank bs i 3 1 3 refl) (λ z. (refl, z), λ z. z .1)
+  allowance-fails Mixed = (λ e. absurd (false≢true (sym e)), λ z. absurd (not-exact (z .0)))
+
   -- or not 0 where it must
-  pub blank-fails : (unnamed-blank? (component-count bs) i (record-at bs i) ≡ false) ↔ NotBlank bs i
+  pub blank-fails : (unnamed-blank? (read-profile bs) (component-count bs) i (record-at bs i) ≡ false) ↔ NotBlank bs i
   unfolding unnamed-blank? size-blank? component-blank? place-blank?
   blank-fails =
-      of-record (component-count bs) i _ _ _ (not-blank bs i 12 4 15 refl) (one-fails _ _ (not-blank bs i 3 1 3 refl) (not-blank bs i 8 8 15 refl)) (not-blank bs i 2 6 7 refl) h
-
--- ---- the place rule
-
--- place is 0 to K, and the number lies below 4 to the power of the place
-pub place-rule-says : (t : Template) → profile-of t ≡ exactly → (p : Place) → (place-rule? t p ≡ true) ↔ PlaceRule (size t) p
-place-rule-says t e p =
-    rw (exact-place t e p)
-    (Iff·trans (two _ _ (leb-true (p .letters) (size t), le-leb (p .letters) (size t)) (ltb-true (p .number) _, lt-ltb (p .number) _)) (λ h. record { most = h .0; below = h .1 }, λ h. (h .most, h .below)))
+      of-record (component-count bs) i _ _ _
+      (one-fails _ _ (byte-above 12 Profile-MIXED) (not-blank bs i 13 3 15 refl))
+      (one-fails _ _ (allowance-fails (read-profile bs)) (not-blank bs i 8 8 15 refl))
+      (not-blank bs i 2 6 7 refl)
+      h
 
 -- ---- all of it
 
@@ -165,7 +184,7 @@ saved-sum : (bs : List ℕ) → component-count bs ≤ Template-COMPONENTS → s
 unfolding size read-component
 saved-sum bs few = rw (read-components bs few) (ap sum (lengths (run 1 (component-count bs))))
   where
-    lengths : (is : List ℕ) → map (λ c. c .length) (map (λ i. read-component (record-at bs i)) is) ≡ map (λ i. byte bs i 2) is
+    lengths : (is : List ℕ) → map (λ c. c .length) (map (component-in bs) is) ≡ map (λ i. byte bs i 2) is
     lengths [] = refl
     lengths (i ∷ is) = rw (field-byte (record-at bs i) 2, lengths is)
 
@@ -181,13 +200,12 @@ module _ (bs : List ℕ) (few : component-count bs ≤ Template-COMPONENTS) wher
   unfolding sums?
   adds-say = rw (field-two (record-at bs 0) 6, saved-sum bs few) (same (saved-size bs) (sum (saved-lengths bs)))
 
-  module _ (exact : profile-of (read-template bs) ≡ exactly) where
-    -- the place keeps its rule
-    rule-says : (place-rule? (read-template bs) (read-place (record-at bs (suc (component-count bs)))) ≡ true) ↔ PlaceRule (sum (saved-lengths bs)) (saved-place bs)
-    unfolding read-place
-    rule-says = rw (← (saved-sum bs few), ← (field-byte (record-at bs (suc (component-count bs))) 1)) (place-rule-says (read-template bs) exact (read-place (record-at bs (suc (component-count bs)))))
+  -- the place keeps its rule
+  rule-says : (place-rule? (read-template bs) (read-place (record-at bs (suc (component-count bs)))) ≡ true) ↔ PlaceRule (read-template bs) (saved-place bs)
+  unfolding read-place
+  rule-says = rw (← (field-byte (record-at bs (suc (component-count bs))) 1)) (place-rule-says (read-template bs) (read-place (record-at bs (suc (component-count bs)))))
 
-    -- bytes are laid out exactly if every record keeps its layout, K is the sum of the lengths, and the place keeps its rule
-    pub laid-says : (laid-out? bs ≡ true) ↔ (RecordsLaid bs × (saved-size bs ≡ sum (saved-lengths bs)) × PlaceRule (sum (saved-lengths bs)) (saved-place bs))
-    unfolding laid-out?
-    laid-says = Iff·trans (two _ _ (two _ _ (records-say bs) adds-say) rule-says) (λ h. (h .0 .0, h .0 .1, h .1), λ h. ((h .0, h .1), h .2))
+  -- bytes are laid out exactly if every record keeps its layout, K is the sum of the lengths, and the place keeps its rule
+  pub laid-says : (laid-out? bs ≡ true) ↔ (RecordsLaid bs × (saved-size bs ≡ sum (saved-lengths bs)) × PlaceRule (read-template bs) (saved-place bs))
+  unfolding laid-out?
+  laid-says = Iff·trans (two _ _ (two _ _ (records-say bs) adds-say) rule-says) (λ h. (h .0 .0, h .0 .1, h .1), λ h. ((h .0, h .1), h .2))

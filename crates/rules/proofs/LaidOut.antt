@@ -10,9 +10,10 @@ use native.Mathlib.Omega.{arith}
 use borrow.Author.Tests.{eqb-true, ne-eqb, le-leb, lt-leb}
 use Rattle.rules.specs.Limits.{Record-EXTRA}
 use Rattle.rules.specs.Refusals.{check11, check21, check22, check23}
-use Rattle.rules.specs.Saved.{record-at, field, component-count, read-template, read-search, size-kind?, component-kind?, place-kind?, size-blank?, component-blank?, place-blank?, size-record?, component-record?, component-records?, place-record?, sums?, place-rule?, laid-out?, by-record, kind?, unnamed-blank?}
+use Rattle.rules.specs.Saved.{record-at, field, component-count, read-profile, read-template, read-search, size-kind?, component-kind?, place-kind?, size-blank?, component-blank?, place-blank?, size-record?, component-record?, component-records?, place-record?, sums?, place-rule?, laid-out?, by-record, kind?, unnamed-blank?}
 use Rattle.rules.specs.Template.{size}
 use Rattle.rules.specs.Told.{fine}
+use Rattle.rules.specs.declared.Profile.{Profile}
 use Rattle.rules.proofs.EachCheck.{check11-fine, check21-fine, check22-fine, check23-fine}
 use Rattle.rules.proofs.Tests.{both}
 
@@ -71,28 +72,28 @@ each-passes n size component place = (
     go h i (inr (inr e)) = rw (e, at-place n (size (suc n)) (component (suc n)) (place (suc n))) (h .2)
 
 -- the component records keep their layout exactly if each does
-pub components-each : (bs : List ℕ) (i n : ℕ) → (component-records? bs i n ≡ true) ↔ ((j : ℕ) → i ≤ j → j < i + n → component-record? j (record-at bs j) ≡ true)
+pub components-each : (bs : List ℕ) (i n : ℕ) → (component-records? bs i n ≡ true) ↔ ((j : ℕ) → i ≤ j → j < i + n → component-record? (read-profile bs) j (record-at bs j) ≡ true)
 unfolding component-records?
 components-each bs i zero = (λ e j h l. absurd (omega arith), λ f. refl)
 components-each bs i (suc n) =
     Iff·trans (both _ _)
     (λ h j l. each (h .0) (components-each bs (suc i) n .0 (h .1)) j (eq-or-lt-of-le l), λ f. (f i (omega arith) (omega arith), components-each bs (suc i) n .1 (λ j h l. f j (omega arith) (omega arith))))
   where
-    each : component-record? i (record-at bs i) ≡ true → ((j : ℕ) → suc i ≤ j → j < suc i + n → component-record? j (record-at bs j) ≡ true)
-        → (j : ℕ) → (i ≡ j) ⊎ (i < j) → j < i + suc n → component-record? j (record-at bs j) ≡ true
+    each : component-record? (read-profile bs) i (record-at bs i) ≡ true → ((j : ℕ) → suc i ≤ j → j < suc i + n → component-record? (read-profile bs) j (record-at bs j) ≡ true)
+        → (j : ℕ) → (i ≡ j) ⊎ (i < j) → j < i + suc n → component-record? (read-profile bs) j (record-at bs j) ≡ true
     each h f j (inl e) l = rw (← e) h
     each h f j (inr k) l = f j k (omega arith)
 
 -- ---- the four checks
 
--- a record keeps its layout exactly if it has its kind, and 0 in the bytes that the paper does not name
+-- a record keeps its layout exactly if it has its kind, and 0 in the bytes that the papers do not name
 size-both : (r : List ℕ) → (size-record? r ≡ true) ↔ ((size-kind? r ≡ true) × (size-blank? r ≡ true))
 unfolding size-record?
 size-both r = both _ _
 
-component-both : (i : ℕ) (r : List ℕ) → (component-record? i r ≡ true) ↔ ((component-kind? i r ≡ true) × (component-blank? r ≡ true))
+component-both : (p : Profile) (i : ℕ) (r : List ℕ) → (component-record? p i r ≡ true) ↔ ((component-kind? i r ≡ true) × (component-blank? p r ≡ true))
 unfolding component-record?
-component-both i r = both _ _
+component-both p i r = both _ _
 
 place-both : (r : List ℕ) → (place-record? r ≡ true) ↔ ((place-kind? r ≡ true) × (place-blank? r ≡ true))
 unfolding place-record?
@@ -110,10 +111,10 @@ module _ (bs : List ℕ) where
   -- 21 those that have 0 where they must
   blanks-pass : (check21 bs ≡ fine)
       ↔ ((size-blank? (record-at bs 0) ≡ true)
-      × ((i : ℕ) → 1 ≤ i → i ≤ component-count bs → component-blank? (record-at bs i) ≡ true)
+      × ((i : ℕ) → 1 ≤ i → i ≤ component-count bs → component-blank? (read-profile bs) (record-at bs i) ≡ true)
       × (place-blank? (record-at bs (suc (component-count bs))) ≡ true))
   unfolding unnamed-blank?
-  blanks-pass = Iff·trans (check21-fine bs) (each-passes (component-count bs) (λ i. size-blank? (record-at bs i)) (λ i. component-blank? (record-at bs i)) (λ i. place-blank? (record-at bs i)))
+  blanks-pass = Iff·trans (check21-fine bs) (each-passes (component-count bs) (λ i. size-blank? (record-at bs i)) (λ i. component-blank? (read-profile bs) (record-at bs i)) (λ i. place-blank? (record-at bs i)))
 
   -- and both, those whose records keep their layout
   records-pass : (size-record? (record-at bs 0) && component-records? bs 1 (component-count bs) && place-record? (record-at bs (suc (component-count bs))) ≡ true)
@@ -125,13 +126,13 @@ module _ (bs : List ℕ) where
         let s = size-both _ .0 (g .0) in
         let c = components-each bs 1 (component-count bs) .0 (g .1) in
         let p = place-both _ .0 (h .1) in (
-          kinds-pass .1 (s .0, λ i k l. component-both i _ .0 (c i k (omega arith)) .0, p .0),
-          blanks-pass .1 (s .1, λ i k l. component-both i _ .0 (c i k (omega arith)) .1, p .1),
+          kinds-pass .1 (s .0, λ i k l. component-both (read-profile bs) i _ .0 (c i k (omega arith)) .0, p .0),
+          blanks-pass .1 (s .1, λ i k l. component-both (read-profile bs) i _ .0 (c i k (omega arith)) .1, p .1),
         ),
     λ h.
         let k = kinds-pass .0 (h .0) in
         let b = blanks-pass .0 (h .1) in
-        let c : component-records? bs 1 (component-count bs) ≡ true = components-each bs 1 (component-count bs) .1 (λ i l m. component-both i _ .1 (k .1 i l (omega arith), b .1 i l (omega arith))) in
+        let c : component-records? bs 1 (component-count bs) ≡ true = components-each bs 1 (component-count bs) .1 (λ i l m. component-both (read-profile bs) i _ .1 (k .1 i l (omega arith), b .1 i l (omega arith))) in
         both _ _ .1 (both _ _ .1 (size-both _ .1 (k .0, b .0), c), place-both _ .1 (k .2, b .2)),
   )
 

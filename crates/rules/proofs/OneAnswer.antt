@@ -24,7 +24,7 @@ use Rattle.rules.specs.declared.LegAnswer.the-variants as answer
 use Rattle.rules.specs.declared.Recovered.{Recovered}
 use Rattle.rules.specs.declared.Recovered.the-variants as recovered
 use Rattle.rules.specs.declared.Refusal.{Refusal}
-use Rattle.rules.specs.declared.Refusal.the-variants.{SequenceCount, LetterCount, LengthSum, NotALetter, ComponentCount, ComponentLength, MotifLength, GapRange, Quorum, SavedSize, SavedKind, OtherSet, NotACandidate, MotifNumber, FirstRow, JoinList, Room, TextLine, SavedBlank, SavedSum, PlaceRule}
+use Rattle.rules.specs.declared.Refusal.the-variants.{SequenceCount, LetterCount, LengthSum, NotALetter, ComponentCount, ComponentLength, MotifLength, GapRange, Quorum, SavedSize, SavedKind, OtherSet, NotACandidate, MotifNumber, FirstRow, JoinList, Room, TextLine, SavedBlank, SavedSum, PlaceRule, Allowance}
 use Rattle.rules.specs.declared.Saved.{Saved}
 use Rattle.rules.specs.declared.Saved.the-variants as saved
 use Rattle.rules.specs.declared.Search.{Search}
@@ -59,6 +59,7 @@ named n p =
     ∷ SavedBlank (record { 0 = p })
     ∷ SavedSum
     ∷ PlaceRule (record { 0 = p })
+    ∷ Allowance
     ∷ [])
     (n - 1)
     Room
@@ -86,6 +87,7 @@ named-told (TextLine n) = refl
 named-told (SavedBlank i) = refl
 named-told SavedSum = refl
 named-told (PlaceRule i) = refl
+named-told Allowance = refl
 
 -- what an answer tells, back into the answer: it gives something, or it refuses
 abbrev back : {A B : Type 0} → (A → B) → (Refusal → B) → Told A → B

@@ -42,7 +42,7 @@ module _ (P : Profile) (proper : Proper P) where
       go (suc n) ih = let z : List ℕ = [] in rw (take-all n z (omega arith), drop-of-length-le z {i = n} (omega arith)) (both _ _ .1 (proper .first c, allowed-nil (P .allows) cs))
 
   -- where some letters are allowed, so are those before the last
-  allowed-less : (cs : List Component) (v : List ℕ) (y : ℕ) → allowed (P .allows) cs (v ++ (y ∷ [])) ≡ true → allowed (P .allows) cs v ≡ true
+  pub allowed-less : (cs : List Component) (v : List ℕ) (y : ℕ) → allowed (P .allows) cs (v ++ (y ∷ [])) ≡ true → allowed (P .allows) cs v ≡ true
   unfolding allowed
   allowed-less [] v y e = refl
   allowed-less (c ∷ cs) [] y e = refl

@@ -16,6 +16,7 @@ use Rattle.rules.specs.Saved.{low-first, size-record, component-record, 
 use Rattle.rules.specs.Template.{components, slots, none}
 use Rattle.rules.specs.declared.Component.{Component}
 use Rattle.rules.specs.declared.Place.{Place}
+use Rattle.rules.specs.declared.Profile.{Profile}
 use Rattle.rules.specs.declared.Search.{Search}
 use Rattle.rules.proofs.Lists.{run-append}
 use Rattle.rules.proofs.Tests.{both}
@@ -64,44 +65,48 @@ unfolding size-record low-first
 size-record-length s = refl
 
 -- so does a component's record
-pub component-record-length : (i : ℕ) (c : Component) → length (component-record i c) ≡ Record-BYTES
+pub component-record-length : (p : Profile) (i : ℕ) (c : Component) → length (component-record p i c) ≡ Record-BYTES
 unfolding component-record low-first
-component-record-length i c = refl
+component-record-length p i c = refl
 
 -- and the place record
 pub place-record-length : (p : Place) → length (place-record p) ≡ Record-BYTES
 unfolding place-record low-first
 place-record-length p = refl
 
-component-records-are : (P : List ℕ → Type 0) (i : ℕ) (cs : List Component) → ((k : ℕ) → k < length cs → P (component-record (i + k) (getD cs k none))) → All P (component-records i cs)
+component-records-are : (P : List ℕ → Type 0) (p : Profile) (i : ℕ) (cs : List Component) → ((k : ℕ) → k < length cs → P (component-record p (i + k) (getD cs k none)))
+    → All P (component-records p i cs)
 unfolding component-records
-component-records-are P i [] h = tt
-component-records-are P i (c ∷ cs) h = (
+component-records-are P p i [] h = tt
+component-records-are P p i (c ∷ cs) h = (
   rw add-zero at (h 0 (omega arith)),
-  component-records-are P (suc i) cs (λ k l. let e : suc i + k ≡ i + suc k = omega arith in rw e (h (suc k) (omega arith))),
+  component-records-are P p (suc i) cs (λ k l. let e : suc i + k ≡ i + suc k = omega arith in rw e (h (suc k) (omega arith))),
 )
 
 -- what holds of each kind of record holds of each of a search's records
 pub records-are : (P : List ℕ → Type 0) (s : Search) → P (size-record s)
-    → ((k : ℕ) → k < length (components (s .template)) → P (component-record (1 + k) (getD (components (s .template)) k none)))
+    → ((k : ℕ) → k < length (components (s .template)) → P (component-record (s .template .profile) (1 + k) (getD (components (s .template)) k none)))
     → P (place-record (s .place)) → All P (records s)
 unfolding records
 records-are P s h c p =
-    (h, all-append P (component-records 1 (components (s .template))) (place-record (s .place) ∷ []) (component-records-are P 1 (components (s .template)) c) (p, tt))
+    let k = s .template .profile in
+    (h, all-append P (component-records k 1 (components (s .template))) (place-record (s .place) ∷ []) (component-records-are P k 1 (components (s .template)) c) (p, tt))
 
 -- so each has 16 bytes
 pub records-sixteen : (s : Search) → All (λ r. length r ≡ Record-BYTES) (records s)
-records-sixteen s = records-are (λ r. length r ≡ Record-BYTES) s (size-record-length s) (λ k h. component-record-length (1 + k) (getD (components (s .template)) k none)) (place-record-length (s .place))
+records-sixteen s = records-are (λ r. length r ≡ Record-BYTES) s (size-record-length s) (λ k h. component-record-length (s .template .profile) (1 + k) (getD (components (s .template)) k none)) (place-record-length (s .place))
 
-component-records-length : (i : ℕ) (cs : List Component) → length (component-records i cs) ≡ length cs
+component-records-length : (p : Profile) (i : ℕ) (cs : List Component) → length (component-records p i cs) ≡ length cs
 unfolding component-records
-component-records-length i [] = refl
-component-records-length i (c ∷ cs) = ap suc (component-records-length (suc i) cs)
+component-records-length p i [] = refl
+component-records-length p i (c ∷ cs) = ap suc (component-records-length p (suc i) cs)
 
 -- there is one for each component, and two
 pub records-length : (s : Search) → length (records s) ≡ length (components (s .template)) + Record-EXTRA
 unfolding records
-records-length s = omega (arith, length-append (component-records 1 (components (s .template))) (place-record (s .place) ∷ []), component-records-length 1 (components (s .template)))
+records-length s =
+    let p = s .template .profile in
+    omega (arith, length-append (component-records p 1 (components (s .template))) (place-record (s .place) ∷ []), component-records-length p 1 (components (s .template)))
 
 -- a saved search has 16 bytes for each component, and 32
 pub bytes-length : (s : Search) → length (bytes s) ≡ Record-BYTES * (length (components (s .template)) + Record-EXTRA)
@@ -122,29 +127,33 @@ pub size-at : (s : Search) → record-at (bytes s) 0 ≡ size-record s
 unfolding records
 size-at s = record-at-bytes s 0 (omega (arith, records-length s))
 
-component-records-at : (i k : ℕ) (cs : List Component) → k < length cs → getD (component-records i cs) k [] ≡ component-record (i + k) (getD cs k none)
+component-records-at : (p : Profile) (i k : ℕ) (cs : List Component) → k < length cs → getD (component-records p i cs) k [] ≡ component-record p (i + k) (getD cs k none)
 unfolding component-records
-component-records-at i k [] h = absurd (omega arith)
-component-records-at i zero (c ∷ cs) h = rw add-zero
-component-records-at i (suc k) (c ∷ cs) h = rw (add-suc, ← (suc-add i k)) (component-records-at (suc i) k cs (omega arith))
+component-records-at p i k [] h = absurd (omega arith)
+component-records-at p i zero (c ∷ cs) h = rw add-zero
+component-records-at p i (suc k) (c ∷ cs) h = rw (add-suc, ← (suc-add i k)) (component-records-at p (suc i) k cs (omega arith))
 
 module _ (s : Search) (few : s .template .count ≤ Template-COMPONENTS) where
+  open Search s using (template, place)
+
   -- then comes the record of each component
-  pub component-at : (k : ℕ) → k < s .template .count → record-at (bytes s) (suc k) ≡ component-record (suc k) (getD (slots (s .template)) k none)
+  pub component-at : (k : ℕ) → k < template .count → record-at (bytes s) (suc k) ≡ component-record (template .profile) (suc k) (getD (slots template) k none)
   unfolding records
   component-at k h =
-      let n : length (component-records 1 (components (s .template))) ≡ s .template .count = component-records-length 1 _ ∙ components-length (s .template) few in
-      record-at-bytes s (suc k) (omega (arith, records-length s, components-length (s .template) few))
-      ∙ List·getD-append (component-records 1 (components (s .template))) (place-record (s .place) ∷ []) [] k (omega arith)
-      ∙ component-records-at 1 k (components (s .template)) (omega (arith, components-length (s .template) few))
-      ∙ rw (components-at (s .template) k h, suc-add, zero-add)
+      let cs = components template in
+      let n : length (component-records (template .profile) 1 cs) ≡ template .count = component-records-length (template .profile) 1 cs ∙ components-length template few in
+      record-at-bytes s (suc k) (omega (arith, records-length s, components-length template few))
+      ∙ List·getD-append (component-records (template .profile) 1 cs) (place-record place ∷ []) [] k (omega arith)
+      ∙ component-records-at (template .profile) 1 k cs (omega (arith, components-length template few))
+      ∙ rw (components-at template k h, suc-add, zero-add)
 
   -- and the last is the place record
-  pub place-at : record-at (bytes s) (suc (s .template .count)) ≡ place-record (s .place)
+  pub place-at : record-at (bytes s) (suc (template .count)) ≡ place-record place
   unfolding records
   place-at =
-      record-at-bytes s (suc (s .template .count)) (omega (arith, records-length s, components-length (s .template) few))
-      ∙ getD-at (component-records 1 (components (s .template))) (place-record (s .place)) [] [] (s .template .count) (component-records-length 1 (components (s .template)) ∙ components-length (s .template) few)
+      let cs = components template in
+      record-at-bytes s (suc (template .count)) (omega (arith, records-length s, components-length template few))
+      ∙ getD-at (component-records (template .profile) 1 cs) (place-record place) [] [] (template .count) (component-records-length (template .profile) 1 cs ∙ components-length template few)
 
 -- READING. n records of some bytes, from record i on, laid end to end, are that part of the bytes
 records-joined : (bs : List ℕ) (i n : ℕ) → joined (map (record-at bs) (run i n)) ≡ take (Record-BYTES * n) (drop (Record-BYTES * i) bs)

@@ -1,44 +1,47 @@
 -- WHAT EACH REFUSAL SAYS: a check refuses, with its number, exactly if the paper's sentence holds of what it is given, and tells
 -- the place that the paper names, or 0. The statements stand in front, the proofs behind them: each check is a test, and a test
 -- that applies says what it tests.
-use mathlib.Core.Path.{_≡_, refl, sym, ap, _∙_}
-use mathlib.Core.Logic.{_↔_, Iff·trans, Iff·symm, _⊎_, inl, inr, ⊎-elim, ⊎-swap}
+use mathlib.Core.Path.{_≡_, refl, sym, ap}
+use mathlib.Core.Logic.{_↔_, Iff·trans, Iff·symm, _⊎_, inl, inr, ⊎-swap}
 use mathlib.Core.Bool.{Bool, true, false, _&&_, not, false≢true}
 use mathlib.Core.List.{List, []}
-use Prim.Native.Nat.{ℕ, zero, suc, _+_, _-_, _*_, _/_, _^_, _≤_, _<_}
+use Prim.Native.Nat.{ℕ, suc, _+_, _-_, _*_, _^_, _≤_, _<_}
 use native.Mathlib.Omega.{arith}
 use lib.Dec.{eqb, leb, ltb}
 use lib.ListN.{length, getD}
-use borrow.Author.Tests.{ltb-true, ltb-false, leb-true, leb-false, lt-ltb, le-ltb, lt-leb, le-leb}
+use borrow.Author.Tests.{ltb-true, ltb-false, leb-false, lt-ltb, le-ltb, lt-leb}
 use Rattle.rules.specs.Letters.{value, letter?}
-use Rattle.rules.specs.Limits.{Letter-BASES, Record-BYTES, Record-EXTRA, Template-COMPONENTS, Template-LENGTH, Template-LETTERS, Template-GAP, SequenceSet-SEQUENCES, SequenceSet-LETTERS}
+use Rattle.rules.specs.Limits.{Letter-BASES, Letter-DIGITS, Profile-MIXED, Record-BYTES, Record-EXTRA, Template-COMPONENTS, Template-LENGTH, Template-LETTERS, Template-MIXED, Template-GAP, SequenceSet-SEQUENCES, SequenceSet-LETTERS}
 use Rattle.rules.specs.Lists.{if, sum}
-use Rattle.rules.specs.Profile.{exactly, profile-of}
+use Rattle.rules.specs.Motif.{spell}
+use Rattle.rules.specs.Profile.{profile-of}
 use Rattle.rules.specs.Recovery.{whole-list}
-use Rattle.rules.specs.Refusals.{refuse-if, outside, bad-byte, bad-length, bad-range, bad-gap, check1, check2, check3, check4, check5, check6, check7, check8, check9, check10, check11, check12, passes?, check13, check14, check15, check6-head, check8-range, check16, check17, check21, check22, check23, first-bad}
-use Rattle.rules.specs.Refused.{FirstBad, RefusesAt, RefusesIf, Outside, IsLetter, numbered, BadRange, BadGap, WrongKind, NotBlank, RecordsLaid, saved-size, saved-lengths, saved-place, PlaceRule, Frequent, CandidateIn, BadList}
-use Rattle.rules.specs.Saved.{bytes, record-at, record-count, component-count, saved-records, kind?, unnamed-blank?, read-template, read-search, sized?}
+use Rattle.rules.specs.Refusals.{refuse-if, outside, bad-byte, bad-length, bad-range, bad-gap, bad-allowance, check1, check2, check3, check4, check5, check6, check7, check8, check9, check10, check11, check12, passes?, check13, check14, check15, check6-head, check8-range, check16, check17, check21, check22, check23, check24, first-bad}
+use Rattle.rules.specs.Refused.{FirstBad, RefusesAt, RefusesIf, Outside, IsLetter, numbered, BadRange, BadGap, byte, WrongKind, NotBlank, RecordsLaid, saved-size, saved-lengths, saved-place, letters-in, Allows, Spells, PlaceRule, CandidateIn, BadList}
+use Rattle.rules.specs.Saved.{bytes, record-at, record-count, component-count, read-profile, saved-records, kind?, unnamed-blank?, read-template, read-search, sized?}
 use Rattle.rules.specs.Sequences.{sequences}
-use Rattle.rules.specs.Support.{frequent, reaches}
-use Rattle.rules.specs.Template.{components, size, none}
+use Rattle.rules.specs.Template.{allowance-in, components, size, none}
 use Rattle.rules.specs.Told.{Verdict, fine, refused}
-use Rattle.rules.specs.Walk.{ended-place, walk-in, walk-over, walk-of, candidate}
+use Rattle.rules.specs.Walk.{ended-place, walk-in, walk-of, candidate}
 use Rattle.rules.specs.declared.Component.{Component}
+use Rattle.rules.specs.declared.Profile.the-variants.{Exact, Mixed}
 use Rattle.rules.specs.declared.Search.{Search}
 use Rattle.rules.specs.declared.Template.{Template}
-use Rattle.rules.proofs.EachCheck.{same, check13-fine, records-counted, record-numbered}
-use Rattle.rules.proofs.Exact.{exact-base, exact-most, exact-valid, exact-may, exact-frequent}
+use Rattle.rules.proofs.EachCheck.{same, some-passes, check13-fine, records-counted, record-numbered}
+use Rattle.rules.proofs.Exact.{exact-search, exact-most, exact-valid, exact-spells}
 use Rattle.rules.proofs.First.{first-bad-at}
 use Rattle.rules.proofs.JoinLists.{rising-says}
-use Rattle.rules.proofs.Laid.{place-rule-says, saved-read, kind-fails, blank-fails, adds-say, laid-says}
+use Rattle.rules.proofs.Laid.{saved-read, kind-fails, blank-fails, adds-say, laid-says}
 use Rattle.rules.proofs.LaidOut.{laid-out-passes}
 use Rattle.rules.proofs.Places.{same-place}
-use Rattle.rules.proofs.Plain.{candidate-plain}
+use Rattle.rules.proofs.Mixed.{mixed-most, mixed-spells}
+use Rattle.rules.proofs.ReadKind.{mixed-saved, saved-allowance, kind-read}
 use Rattle.rules.proofs.Records.{bytes-counted}
+use Rattle.rules.proofs.Spells.{valid-says, place-rule-says}
 use Rattle.rules.proofs.Tests.{neither, two, either, denied, one-fails, of-three-fails}
+use Rattle.rules.proofs.Tried.{candidate-in}
 use Rattle.rules.proofs.Verdicts.{never}
 
--- What the paper says of K, places and motif numbers it says of an exact search, and every template asks for one (`Demand2.exact`)
 pub record EachRefusal : Type 0 where
   -- 1: number of sequences
   pub one : (lengths : List ℕ) → RefusesIf (check1 lengths) 1 (Outside 1 SequenceSet-SEQUENCES (length lengths))
@@ -53,8 +56,10 @@ pub record EachRefusal : Type 0 where
   -- 6: component length, with the first such component; and of a join's head, with place 1
   pub six : (t : Template) → RefusesAt (check6 t) 6 (FirstBad 1 (length (components t)) (λ i. Outside 1 Template-LENGTH (numbered t i .length)))
   pub six-head : (head : ℕ) → RefusesAt (check6-head head) 6 (λ p. (p ≡ 1) × Outside 1 Template-LENGTH head)
-  -- 7: K above 32
-  pub seven : (t : Template) → profile-of t ≡ exactly → RefusesIf (check7 t) 7 (Template-LETTERS < size t)
+  -- 7: K above what the kind of search takes: 32 letters, and 16 in a mixed one
+  pub seven : (t : Template) → RefusesIf (check7 t) 7 (profile-of t .most < size t)
+  pub seven-exact : (t : Template) → t .profile ≡ Exact → RefusesIf (check7 t) 7 (Template-LETTERS < size t)
+  pub seven-mixed : (t : Template) → t .profile ≡ Mixed → RefusesIf (check7 t) 7 (Template-MIXED < size t)
   -- 8: gap range, also a first component's that is not 0, 0, with the first such component; in a join only l <= u, 0 to 255, with place 1
   pub eight : (t : Template) → RefusesAt (check8 t) 8 (FirstBad 1 (length (components t)) (λ i. BadGap i (numbered t i)))
   pub eight-range : (low high : ℕ) → RefusesAt (check8-range low high) 8 (λ p. (p ≡ 1) × BadRange low high)
@@ -69,12 +74,18 @@ pub record EachRefusal : Type 0 where
   pub twelve : (letters lengths : List ℕ) (s : Search)
       → RefusesIf (check12 letters lengths s) 12 ((s .set .sequences ≡ length lengths → ⊥) ⊎ (s .set .letters ≡ length letters → ⊥))
   -- 13: place is neither a candidate of this search nor the ended place. By then 23 has been fine, and so the place keeps its rule
-  pub thirteen : (letters lengths : List ℕ) (s : Search) → profile-of (s .template) ≡ exactly → PlaceRule (size (s .template)) (s .place)
+  pub thirteen : (letters lengths : List ℕ) (s : Search) → PlaceRule (s .template) (s .place)
       → RefusesIf (check13 letters lengths s) 13 ((CandidateIn (s .template) (s .quorum) (sequences letters lengths) (s .place) → ⊥) × (s .place ≡ ended-place → ⊥))
-  pub thirteen-fine : (letters lengths : List ℕ) (s : Search) → profile-of (s .template) ≡ exactly → PlaceRule (size (s .template)) (s .place)
+  pub thirteen-fine : (letters lengths : List ℕ) (s : Search) → PlaceRule (s .template) (s .place)
       → (check13 letters lengths s ≡ fine) ↔ (CandidateIn (s .template) (s .quorum) (sequences letters lengths) (s .place) ⊎ (s .place ≡ ended-place))
-  -- 14: motif number not below 4^K
-  pub fourteen : (t : Template) → profile-of t ≡ exactly → (m : ℕ) → RefusesIf (check14 t m) 14 (Letter-BASES ^ size t ≤ m)
+  -- 14: a number that is not one of K allowed letters; in an exact search every letter is allowed, and so it is a number not below 4^K
+  pub fourteen : (t : Template) (m : ℕ) → RefusesIf (check14 t m) 14 (Spells t (size t) m → ⊥)
+  pub fourteen-exact : (t : Template) → t .profile ≡ Exact → (m : ℕ) → RefusesIf (check14 t m) 14 (Letter-BASES ^ size t ≤ m)
+  -- what a number spells: in an exact search any letters, if it lies below 4 to the power of their number; in a mixed one it lies below 16
+  -- to that power, and of each component the letters are among the fourteen, and no more than its allowance stand for several bases
+  pub spells-exact : (t : Template) → t .profile ≡ Exact → (j m : ℕ) → Spells t j m ↔ (m < Letter-BASES ^ j)
+  pub spells-mixed : (t : Template) → t .profile ≡ Mixed → (j m : ℕ)
+      → Spells t j m ↔ ((m < Letter-DIGITS ^ j) × ((i : ℕ) → i < length (components t) → Allows Mixed (getD (components t) i none) (letters-in t i (spell Letter-DIGITS j m))))
   -- 15: first row above the list's length
   pub fifteen : (letters lengths : List ℕ) (t : Template) (m f : ℕ)
       → RefusesIf (check15 letters lengths t m f) 15 (length (whole-list t (sequences letters lengths) m) < f)
@@ -84,21 +95,27 @@ pub record EachRefusal : Type 0 where
   pub seventeen : (needed : ℕ) (out : List ℕ) → RefusesIf (check17 needed out) 17 (length out < needed)
   -- a save has 16 bytes for each record, and k + 2 records. By then 5 has been fine, and so k is no more than a template has
   pub seventeen-save : (s : Search) → s .template .count ≤ Template-COMPONENTS → length (bytes s) ≡ Record-BYTES * (s .template .count + Record-EXTRA)
-  -- 21: a byte that must be 0 is not, with the first such record
+  -- 21: a byte that must be 0 is not, or the size record's byte 12 is neither 0 nor 1, with the first such record
   pub twenty-one : (bs : List ℕ) → RefusesAt (check21 bs) 21 (FirstBad 0 (component-count bs + Record-EXTRA) (NotBlank bs))
   -- 22: K is not the sum of lengths, with the record that it stands in, 0. By then 5 has been fine, and so there are no more components
   -- than a template has
   pub twenty-two : (bs : List ℕ) → component-count bs ≤ Template-COMPONENTS → RefusesAt (check22 bs) 22 (λ p. (p ≡ 0) × (saved-size bs ≡ sum (saved-lengths bs) → ⊥))
   -- 23: the place breaks its rule, with the number that the place record has, or would have: it comes after those of the components
-  pub twenty-three : (s : Search) → profile-of (s .template) ≡ exactly
-      → RefusesAt (check23 s) 23 (λ p. (p ≡ suc (s .template .count)) × (PlaceRule (size (s .template)) (s .place) → ⊥))
-  -- of saved bytes it is the K, the place and the record that they have
+  pub twenty-three : (s : Search) → RefusesAt (check23 s) 23 (λ p. (p ≡ suc (s .template .count)) × (PlaceRule (s .template) (s .place) → ⊥))
+  -- of saved bytes it is the K, the place and the record that they have, and the kind of search: a mixed one exactly if byte 12 of the
+  -- size record is 1, and then byte 3 of a component's record is its allowance
   pub twenty-three-read : (bs : List ℕ) → component-count bs ≤ Template-COMPONENTS
       → (size (read-search bs .template) ≡ sum (saved-lengths bs)) × (read-search bs .place ≡ saved-place bs) × (read-search bs .template .count ≡ component-count bs)
+  pub twenty-three-kind : (bs : List ℕ) → (read-search bs .template .profile ≡ read-profile bs) × ((read-profile bs ≡ Mixed) ↔ (byte bs 0 12 ≡ Profile-MIXED))
+  pub twenty-three-allowances : (bs : List ℕ) → component-count bs ≤ Template-COMPONENTS → read-profile bs ≡ Mixed → (i : ℕ) → 1 ≤ i → i ≤ component-count bs
+      → numbered (read-search bs .template) i .allowance ≡ byte bs i 3
   -- 11 and 21 to 23 are fine exactly if each record keeps its layout, K is the sum of lengths, and the place keeps its rule
-  pub layout-fine : (bs : List ℕ) → component-count bs ≤ Template-COMPONENTS → profile-of (read-template bs) ≡ exactly
+  pub layout-fine : (bs : List ℕ) → component-count bs ≤ Template-COMPONENTS
       → ((check11 bs ≡ fine) × (check21 bs ≡ fine) × (check22 bs ≡ fine) × (check23 (read-search bs) ≡ fine))
-      ↔ (RecordsLaid bs × (saved-size bs ≡ sum (saved-lengths bs)) × PlaceRule (sum (saved-lengths bs)) (saved-place bs))
+      ↔ (RecordsLaid bs × (saved-size bs ≡ sum (saved-lengths bs)) × PlaceRule (read-template bs) (saved-place bs))
+  -- 24: an allowance above the length; only a mixed search has allowances
+  pub twenty-four : (t : Template)
+      → RefusesIf (check24 t) 24 ((i : ℕ) × (i < length (components t)) × ((getD (components t) i none) .length < allowance-in (t .profile) (getD (components t) i none)))
 
 -- ---- one check
 
@@ -175,33 +192,16 @@ gap-says i c = either _ _ (range-says (c .low) (c .high)) (two _ _ (same i 1) (n
 
 -- ---- candidates
 
-module _ (t : Template) (e : profile-of t ≡ exactly) (quorum : ℕ) (ss : List (List ℕ)) where
-  -- a prefix is frequent by its support, and the empty one always
-  frequent-says : (j m : ℕ) → (frequent t quorum ss j m ≡ true) ↔ Frequent t quorum ss j m
-  unfolding reaches
-  frequent-says zero m = (λ q. inl refl, λ h. refl)
-  frequent-says (suc j) m = rw (exact-frequent t e quorum ss (suc j) m (omega arith)) (λ h. inr (leb-true _ _ h), ⊎-elim (λ q. absurd (omega arith)) (le-leb _ _))
-
-  -- a prefix is a candidate exactly if it has a letter and the one that is a letter shorter is frequent
-  candidate-says : (j m : ℕ) → (candidate (walk-over t quorum ss) j m ≡ true) ↔ ((1 ≤ j) × Frequent t quorum ss (j - 1) (m / Letter-BASES))
-  unfolding candidate walk-in
-  candidate-says zero m = (λ q. absurd (false≢true q), λ h. absurd (omega arith))
-  candidate-says (suc j) m =
-      let z : suc j - 1 ≡ j = omega arith in
-      let c : candidate (walk-over t quorum ss) (suc j) m ≡ frequent t quorum ss j (m / Letter-BASES) =
-      candidate-plain (walk-over t quorum ss) (exact-may t e quorum ss) j m ∙ ap (λ b. frequent t quorum ss j (m / b)) (exact-base t e) in
-      rw (c, z)
-      (Iff·trans (frequent-says j (m / Letter-BASES)) (λ h. (omega arith, h), λ h. h .1))
-
-module _ (letters lengths : List ℕ) (s : Search) (e : profile-of (s .template) ≡ exactly) (rule : PlaceRule (size (s .template)) (s .place)) where
+module _ (letters lengths : List ℕ) (s : Search) (rule : PlaceRule (s .template) (s .place)) where
   -- the place of a search is a candidate
   abbrev Here : Type 0
   Here = CandidateIn (s .template) (s .quorum) (sequences letters lengths) (s .place)
 
   here-says : (candidate (walk-of letters lengths s) (s .place .letters) (s .place .number) ≡ true) ↔ Here
+  unfolding walk-in
   here-says =
-      Iff·trans (candidate-says (s .template) e (s .quorum) (sequences letters lengths) (s .place .letters) (s .place .number))
-      (λ h. record { some = h .0; most = rule .most; below = rule .below; shorter = h .1 }, λ h. (h .some, h .shorter))
+      let c = candidate-in (s .template) (s .quorum) (sequences letters lengths) (s .place) in
+      (λ e. c .0 (record { most = rule .most; below = rule .spells .below; is = e }), λ h. c .1 h .is)
 
   -- or the ended place
   ended-says : (eqb (s .place .letters) 0 && eqb (s .place .number) 0 ≡ true) ↔ (s .place ≡ ended-place)
@@ -234,7 +234,7 @@ records-first n test Bad bs says =
 -- ---- all of them
 
 pub each-refusal : EachRefusal
-unfolding check1 check2 check3 check4 check5 check6 check6-head check7 check8 check8-range check9 check10 check11 check12 check13 check14 check15 check16 check17 check21 check22 check23
+unfolding check1 check2 check3 check4 check5 check6 check6-head check7 check8 check8-range check9 check10 check11 check12 check13 check14 check15 check16 check17 check21 check22 check23 check24
 each-refusal =
     record {
       one = λ lengths. refuses-if _ 1 (outside-says 1 SequenceSet-SEQUENCES (length lengths));
@@ -244,23 +244,31 @@ each-refusal =
       five = λ t. refuses-if _ 5 (outside-says 1 Template-COMPONENTS (t .count));
       six = λ t. first-same (λ i l. outside-says 1 Template-LENGTH (numbered t i .length)) (first-bad-at 6 bad-length none 1 (components t));
       six-head = λ head. refuses-at _ 6 1 (outside-says 1 Template-LENGTH head);
-      seven = λ t e. rw (exact-most t e) (refuses-if _ 7 (less Template-LETTERS (size t)));
+      seven = λ t. refuses-if _ 7 (less (profile-of t .most) (size t));
+      seven-exact = λ t e. rw (exact-most t (exact-search t e)) (refuses-if _ 7 (less Template-LETTERS (size t)));
+      seven-mixed = λ t e. rw (mixed-most t e) (refuses-if _ 7 (less Template-MIXED (size t)));
       eight = λ t. first-same (λ i l. gap-says i (numbered t i)) (first-bad-at 8 bad-gap none 1 (components t));
       eight-range = λ low high. refuses-at _ 8 1 (range-says low high);
       nine = λ lengths quorum. refuses-if _ 9 (outside-says 1 (length lengths) quorum);
       ten = λ bs. refuses-unless _ 10 (sized-fails bs);
       eleven = λ bs. records-first 11 (kind? (component-count bs)) (WrongKind bs) bs (kind-fails bs);
       twelve = λ letters lengths s. refuses-unless _ 12 (one-fails _ _ (differ (s .set .sequences) (length lengths)) (differ (s .set .letters) (length letters)));
-      thirteen = λ letters lengths s e r. refuses-unless _ 13 (passes-not letters lengths s e r);
-      thirteen-fine = λ letters lengths s e r. Iff·trans (check13-fine letters lengths s) (passes-says letters lengths s e r);
-      fourteen = λ t e m. rw (exact-valid t e (size t) m) (refuses-unless _ 14 (ltb-false m _, le-ltb m _));
+      thirteen = λ letters lengths s r. refuses-unless _ 13 (passes-not letters lengths s r);
+      thirteen-fine = λ letters lengths s r. Iff·trans (check13-fine letters lengths s) (passes-says letters lengths s r);
+      fourteen = λ t m. refuses-unless _ 14 (denied _ (valid-says t (size t) m));
+      fourteen-exact = λ t e m. rw (exact-valid t (exact-search t e) (size t) m) (refuses-unless _ 14 (ltb-false m _, le-ltb m _));
+      spells-exact = exact-spells;
+      spells-mixed = mixed-spells;
       fifteen = λ letters lengths t m f. refuses-if _ 15 (less _ f);
       sixteen = λ xs ys. refuses-unless _ 16 (one-fails _ _ (rising-says xs) (rising-says ys));
       seventeen = λ needed out. refuses-if _ 17 (less (length out) needed);
       seventeen-save = bytes-counted;
-      twenty-one = λ bs. records-first 21 (unnamed-blank? (component-count bs)) (NotBlank bs) bs (blank-fails bs);
+      twenty-one = λ bs. records-first 21 (unnamed-blank? (read-profile bs) (component-count bs)) (NotBlank bs) bs (blank-fails bs);
       twenty-two = λ bs few. refuses-unless _ 22 (denied _ (adds-say bs few));
-      twenty-three = λ s e. refuses-at _ 23 (suc (s .template .count)) (not-says _ (denied _ (place-rule-says (s .template) e (s .place))));
+      twenty-three = λ s. refuses-at _ 23 (suc (s .template .count)) (not-says _ (denied _ (place-rule-says (s .template) (s .place))));
       twenty-three-read = saved-read;
-      layout-fine = λ bs few e. Iff·trans (Iff·symm (laid-out-passes bs)) (laid-says bs few e);
+      twenty-three-kind = λ bs. (kind-read bs, mixed-saved bs);
+      twenty-three-allowances = saved-allowance;
+      layout-fine = λ bs few. Iff·trans (Iff·symm (laid-out-passes bs)) (laid-says bs few);
+      twenty-four = λ t. refuses-if _ 24 (Iff·trans (some-passes (bad-allowance (t .profile)) none (components t)) (λ h. (h .0, h .1, ltb-true _ _ (h .2)), λ h. (h .0, h .1, lt-ltb _ _ (h .2))));
     }

@@ -1,6 +1,7 @@
 -- A saved search holds the search: each field is as wide as what it holds, so reading a record gives back what was written,
--- and the bytes are well formed. What a save can't tell apart are the slots that a template does not count.
-use mathlib.Core.Path.{_≡_, refl}
+-- and the bytes are well formed. What a save can't tell apart are the slots that a template does not count, and allowances in an exact
+-- search.
+use mathlib.Core.Path.{_≡_, refl, ap, _∙_}
 use mathlib.Core.Bool.{Bool, true, false}
 use mathlib.Core.List.{List, _++_}
 use Prim.Native.Nat.{ℕ, zero, suc, _+_, _*_, _^_, _≤_, _<_}
@@ -10,32 +11,35 @@ use lib.Dec.{leb, ltb}
 use lib.ListN.{length, getD, drop}
 use borrow.Author.Tests.{leb-true, ltb-true, le-leb, eq-eqb}
 use Rattle.rules.specs.Calls.{trimmed-search}
-use Rattle.rules.specs.Limits.{Record-BYTES, Record-EXTRA, Template-COMPONENTS, Template-LETTERS}
+use Rattle.rules.specs.Limits.{Profile-MIXED, Record-BYTES, Record-EXTRA, Template-COMPONENTS, Template-LETTERS}
 use Rattle.rules.specs.Lists.{if, all?, joined}
-use Rattle.rules.specs.Profile.{profile-of, base-of}
-use Rattle.rules.specs.Saved.{low-first, read-low, size-record, component-record, place-record, records, bytes, record-at, field, record-count, component-count, read-component, read-place, read-template, read-search, sized?, blank?, size-kind?, component-kind?, place-kind?, size-blank?, component-blank?, place-blank?, size-record?, component-record?, place-record?, component-records?, place-rule?, sums?, laid-out?}
+use Rattle.rules.specs.Profile.{profile-of, base-of, profile-number, numbered-profile}
+use Rattle.rules.specs.Saved.{low-first, read-low, size-record, component-record, place-record, records, bytes, record-at, field, record-count, component-count, read-profile, read-component, read-place, read-template, read-search, sized?, blank?, size-kind?, component-kind?, place-kind?, size-blank?, component-blank?, place-blank?, size-record?, component-record?, place-record?, component-records?, place-rule?, sums?, laid-out?}
 use Rattle.rules.specs.Sound.{SoundSet, SoundTemplate}
-use Rattle.rules.specs.Template.{none, slots, components, kept, size, trimmed}
+use Rattle.rules.specs.Template.{allowance-in, none, slots, components, kept, size, trimmed}
 use Rattle.rules.specs.declared.Component.{Component}
 use Rattle.rules.specs.declared.Place.{Place}
+use Rattle.rules.specs.declared.Profile.{Profile}
+use Rattle.rules.specs.declared.Profile.the-variants.{Exact, Mixed}
 use Rattle.rules.specs.declared.Search.{Search}
 use Rattle.rules.proofs.LowFirst.{Bytes, read-written}
 use Rattle.rules.proofs.Searches.{profile-proper}
 use Rattle.rules.proofs.Tests.{both}
 use Rattle.rules.proofs.Components.{components-length, components-at}
 use Rattle.rules.proofs.Records.{All, all-at, all-joined, records-are, bytes-counted, size-at, component-at, place-at}
-use Rattle.rules.proofs.Trimmed.{trimmed-size, trimmed-rule}
+use Rattle.rules.proofs.Trimmed.{used, used-twice, trimmed-size, trimmed-rule}
 
--- a component fits the fields of its record
-pub record FitsComponent (c : Component) : Type 0 where
+-- a component of a kind of search fits the fields of its record
+pub record FitsComponent (p : Profile) (c : Component) : Type 0 where
   pub length : c .length < 256
+  pub allowance : allowance-in p c < 256
   pub low : c .low < 256 ^ 2
   pub high : c .high < 256 ^ 2
 
 -- a search fits the fields of its records
 pub record Fits (s : Search) : Type 0 where
   pub count : s .template .count ≤ Template-COMPONENTS
-  pub each : (i : ℕ) → i < s .template .count → FitsComponent (getD (slots (s .template)) i none)
+  pub each : (i : ℕ) → i < s .template .count → FitsComponent (s .template .profile) (getD (slots (s .template)) i none)
   pub quorum : s .quorum < 256 ^ 2
   pub sequences : s .set .sequences < 256 ^ 2
   pub size : size (s .template) < 256 ^ 2
@@ -58,7 +62,7 @@ sound-fits letters lengths s set t n m q rule =
     let y : b ^ s .place .letters ≤ 256 ^ 8 = le-trans (pow-le-pow-right {n = b} (proper .pos) k) (proper .wide) in
     record {
       count = t .few;
-      each = λ i h. let c = t .each i h in record { length = omega arith; low = omega arith; high = omega arith };
+      each = λ i h. let c = t .each i h in record { length = omega arith; allowance = omega (arith, t .within i h); low = omega arith; high = omega arith };
       quorum = omega (arith, set .few);
       sequences = omega (arith, set .few);
       size = omega (arith, t .deep);
@@ -67,13 +71,24 @@ sound-fits letters lengths s set t n m q rule =
       number = omega arith;
     }
 
+-- the number of a kind of search is 0 or 1, and tells the kind
+number-most : (p : Profile) → profile-number p ≤ Profile-MIXED
+number-most Exact = omega arith
+number-most Mixed = omega arith
+
+numbered-back : (p : Profile) → numbered-profile (profile-number p) ≡ p
+numbered-back Exact = refl
+numbered-back Mixed = refl
+
 -- a search that fits is saved as bytes
 pub saved-bytes : (s : Search) → Fits s → Bytes (bytes s)
 unfolding bytes size-record component-record place-record low-first
 saved-bytes s f =
+    let p = s .template .profile in
+    let most = number-most p in
     all-at (λ b. b < 256) 0 (bytes s) (omega arith) (all-joined (λ b. b < 256) (records s) (records-are (All (λ b. b < 256)) s (omega arith) (λ k h.
     let l : k < s .template .count = omega (arith, components-length (s .template) (f .count)) in
-    let c : FitsComponent (getD (components (s .template)) k none) = rw (components-at (s .template) k l) (f .each k l) in
+    let c : FitsComponent p (getD (components (s .template)) k none) = rw (components-at (s .template) k l) (f .each k l) in
     omega arith) (omega arith)))
 
 -- READING A RECORD THAT WAS WRITTEN. A number that was written in n bytes from byte k on
@@ -81,13 +96,16 @@ field-back : (r : List ℕ) (k n x : ℕ) → drop k r ≡ low-first n x ++ drop
 unfolding field
 field-back r k n x e h = rw e (read-written n x (drop (k + n) r) h)
 
-component-record-back : (i : ℕ) (c : Component) → FitsComponent c → read-component (component-record i c) ≡ c
+-- of a component what its kind of search uses
+component-record-back : (p : Profile) (i : ℕ) (c : Component) → FitsComponent p c → read-component (component-record p i c) ≡ used p c
 unfolding read-component component-record field low-first read-low
-component-record-back i c f =
-    let n : field (component-record i c) 2 1 ≡ c .length = omega arith in
-    let l : field (component-record i c) 4 2 ≡ c .low = field-back (component-record i c) 4 2 (c .low) refl (f .low) in
-    let u : field (component-record i c) 6 2 ≡ c .high = field-back (component-record i c) 6 2 (c .high) refl (f .high) in
-    rw (n, l, u)
+component-record-back p i c f =
+    let r = component-record p i c in
+    let n : field r 2 1 ≡ c .length = omega arith in
+    let a : field r 3 1 ≡ allowance-in p c = omega arith in
+    let l : field r 4 2 ≡ c .low = field-back r 4 2 (c .low) refl (f .low) in
+    let u : field r 6 2 ≡ c .high = field-back r 6 2 (c .high) refl (f .high) in
+    rw (n, a, l, u)
 
 place-record-back : (p : Place) → p .number < 256 ^ 8 → read-place (place-record p) ≡ p
 unfolding read-place place-record field low-first read-low
@@ -105,22 +123,28 @@ count-back : (s : Search) → component-count (bytes s) ≡ s .template .count
 unfolding component-count
 count-back s = omega (arith, count-written s)
 
--- a slot is the same if it is so where it counts
-kept-same : (n i : ℕ) (x y : Component) → (i ≤ n → x ≡ y) → kept n i x ≡ kept n i y
-kept-same n i x y h = go (leb i n) (λ e. h (leb-true i n e))
+-- and so is its kind of search
+profile-back : (s : Search) → read-profile (bytes s) ≡ s .template .profile
+unfolding read-profile size-record field low-first read-low
+profile-back s = let p = s .template .profile in rw (size-at s) (ap numbered-profile (let e : profile-number p + 256 * 0 ≡ profile-number p = omega arith in e) ∙ numbered-back p)
+
+-- a slot is the same if what is used of it is so where it counts
+kept-same : (p : Profile) (n i : ℕ) (x y : Component) → (i ≤ n → used p x ≡ used p y) → kept p n i x ≡ kept p n i y
+kept-same p n i x y h = go (leb i n) (λ e. h (leb-true i n e))
   where
-    go : (b : Bool) → (b ≡ true → x ≡ y) → if b x none ≡ if b y none
+    go : (b : Bool) → (b ≡ true → used p x ≡ used p y) → if b (used p x) none ≡ if b (used p y) none
     go true h = h refl
     go false h = refl
 
 -- each kind of record, as written, keeps its layout
 size-laid-out : (s : Search) → size-record? (size-record s) ≡ true
 unfolding size-record? size-kind? size-blank? size-record field low-first read-low blank? all?
-size-laid-out s = refl
+size-laid-out s = let most = number-most (s .template .profile) in rw (le-leb (profile-number (s .template .profile) + 256 * 0) Profile-MIXED (omega arith))
 
-component-laid-out : (i : ℕ) (c : Component) → component-record? i (component-record i c) ≡ true
+component-laid-out : (p : Profile) (i : ℕ) (c : Component) → component-record? p i (component-record p i c) ≡ true
 unfolding component-record? component-kind? component-blank? component-record field low-first read-low blank? all?
-component-laid-out i c = rw (eq-eqb (i + 256 * 0) i (omega arith))
+component-laid-out Exact i c = rw (eq-eqb (i + 256 * 0) i (omega arith))
+component-laid-out Mixed i c = rw (eq-eqb (i + 256 * 0) i (omega arith))
 
 place-laid-out : (p : Place) → place-record? (place-record p) ≡ true
 unfolding place-record? place-kind? place-blank? place-record field low-first read-low blank? all?
@@ -136,13 +160,16 @@ saved-sized s h =
 module _ (s : Search) (f : Fits s) where
   open Search s using (template, quorum, set, place)
 
-  slot-back : (k : ℕ) → kept (template .count) (suc k) (read-component (record-at (bytes s) (suc k))) ≡ kept (template .count) (suc k) (getD (slots template) k none)
-  slot-back k = kept-same (template .count) (suc k) _ _ (λ h. rw (component-at s (f .count) k h) (component-record-back (suc k) _ (f .each k h)))
+  slot-back : (k : ℕ) → kept (template .profile) (template .count) (suc k) (read-component (record-at (bytes s) (suc k)))
+      ≡ kept (template .profile) (template .count) (suc k) (getD (slots template) k none)
+  slot-back k =
+      let p = template .profile in
+      kept-same p (template .count) (suc k) _ _ (λ h. rw (component-at s (f .count) k h, component-record-back p (suc k) _ (f .each k h)) (used-twice p _))
 
-  -- the template that a saved search holds is the search's, with nothing in the slots that it does not count
+  -- the template that a saved search holds is the search's, with nothing in what it does not use
   pub template-back : read-template (bytes s) ≡ trimmed template
   unfolding read-template trimmed
-  template-back = rw (count-back s, slot-back 0, slot-back 1, slot-back 2, slot-back 3, slot-back 4, slot-back 5)
+  template-back = rw (profile-back s, count-back s, slot-back 0, slot-back 1, slot-back 2, slot-back 3, slot-back 4, slot-back 5)
 
   -- the place that it holds is the search's
   place-back : read-place (record-at (bytes s) (suc (component-count (bytes s)))) ≡ place
@@ -168,7 +195,7 @@ module _ (s : Search) (f : Fits s) where
   components-laid-out : (k n : ℕ) → k + n ≡ template .count → component-records? (bytes s) (suc k) n ≡ true
   unfolding component-records?
   components-laid-out k zero e = refl
-  components-laid-out k (suc n) e = rw (component-at s (f .count) k (omega arith), component-laid-out (suc k) (getD (slots template) k none)) (components-laid-out (suc k) n (omega arith))
+  components-laid-out k (suc n) e = rw (profile-back s, component-at s (f .count) k (omega arith), component-laid-out (template .profile) (suc k) (getD (slots template) k none)) (components-laid-out (suc k) n (omega arith))
 
   -- and so do all its records, if the place keeps its rule
   pub saved-laid-out : place-rule? template place ≡ true → laid-out? (bytes s) ≡ true

@@ -48,7 +48,7 @@ module _ (letters lengths : List ℕ) where
   pub checked-fits : (s : Search) → SoundSearch letters lengths s → Fits s
   checked-fits s o = sound-fits letters lengths s (o .set) (o .template) (o .count) (o .total) (o .most) (o .place)
 
-  -- and passes them with nothing in the slots that it does not count
+  -- and passes them with nothing in what it does not use
   trimmed-passes : (s : Search) → SoundSearch letters lengths s → SoundSearch letters lengths (trimmed-search s)
   unfolding passes?
   trimmed-passes s o =
@@ -81,7 +81,7 @@ module _ (letters lengths : List ℕ) where
     pub restored-passes : first (search-checks letters lengths s) ≡ fine
     restored-passes = let h = restore-exactly bs s .0 e in rw (h .1) (search-fine letters lengths (read-search bs) (h .0 .search))
 
-    -- has nothing in the slots that it does not count,
+    -- has nothing in what it does not use,
     pub restored-trimmed : trimmed (s .template) ≡ s .template
     unfolding read-search
     restored-trimmed = let h = restore-exactly bs s .0 e in rw (h .1) (read-trimmed bs)

@@ -1,15 +1,17 @@
--- The paper's own sentence of an occurrence. What `Occurs` says of parts that are read exactly, `OccursExactly` says of the
+-- The paper's own sentence of an occurrence. What `Occurs` says of parts whose every letter must fit, `OccursBy` says of the
 -- components and their ranges, and back: a part's distances are its range after the length of the component before it.
-use mathlib.Core.Path.{_≡_, refl}
-use mathlib.Core.Logic.{_↔_}
+use mathlib.Core.Path.{_≡_, refl, sym, ap, _∙_}
+use mathlib.Core.Bool.{true}
+use mathlib.Core.Logic.{_↔_, Iff·trans}
 use mathlib.Core.List.{List, [], _∷_}
 use Prim.Native.Nat.{ℕ, zero, suc, _+_, _<_}
 use native.Mathlib.Omega.{arith}
 use lib.ListN.{length, drop, getD}
-use Rattle.rules.specs.Occurrence.{nth, Found, Follows, Occurs, Stands, Gap, OccursExactly}
-use Rattle.rules.specs.Template.{Reading, none, deal, cut-after, cut}
+use borrow.Author.Tests.{eqb-true, eq-eqb}
+use Rattle.rules.specs.Occurrence.{nth, Found, Follows, Occurs, Stands, Gap, OccursBy, OccursExactly}
+use Rattle.rules.specs.Template.{Reading, literal, none, deal, cut-after, cut}
 use Rattle.rules.specs.declared.Component.{Component}
-use Rattle.rules.proofs.Stands.{stands-exactly}
+use Rattle.rules.proofs.Stands.{stands-fitting}
 
 -- the distances of a component's part, if the one before has n letters
 record Distances (n : ℕ) (c : Component) (near far : ℕ) : Type 0 where
@@ -42,25 +44,56 @@ follows-gap R n cs w i p q l =
       λ g. record { least = omega (arith, d .least, g .least); most = omega (arith, d .most, g .most) },
     )
 
--- a part that is read exactly is found where each of its letters is the one there
-cut-stands : (n : ℕ) (cs : List Component) (w s : List ℕ) (i p : ℕ) → i < length (cut-after n cs w)
-    → Found (nth (cut-after n cs w) i) s p ↔ Stands (nth (cut-after n cs w) i .word) s p
+-- so many parts, with the same letters, however they are read
+deal-long : (R : Reading) (n : ℕ) (cs : List Component) (w : List ℕ) → length (deal R n cs w) ≡ length (cut-after n cs w)
 unfolding deal
-cut-stands n [] w s i p l = absurd (omega arith)
-cut-stands n (c ∷ cs) [] s i p l = absurd (omega arith)
-cut-stands n (c ∷ cs) (x ∷ w) s zero p l = stands-exactly _ s p
-cut-stands n (c ∷ cs) (x ∷ w) s (suc i) p l = cut-stands (c .length) cs (drop (c .length) (x ∷ w)) s i p (omega arith)
+deal-long R n [] w = refl
+deal-long R n (c ∷ cs) [] = refl
+deal-long R n (c ∷ cs) (x ∷ w) = ap suc (deal-long R (c .length) cs (drop (c .length) (x ∷ w)))
 
+-- ---- where every letter must fit
+
+module _ (R : Reading) (tight : (c : Component) → R .slack c ≡ 0) where
+  -- a part is found where each of its letters fits the one there
+  deal-stands : (n : ℕ) (cs : List Component) (w s : List ℕ) (i p : ℕ) → i < length (cut-after n cs w)
+      → Found (nth (deal R n cs w) i) s p ↔ Stands (λ x y. R .fits x y ≡ true) (nth (cut-after n cs w) i .word) s p
+  unfolding deal
+  deal-stands n [] w s i p l = absurd (omega arith)
+  deal-stands n (c ∷ cs) [] s i p l = absurd (omega arith)
+  deal-stands n (c ∷ cs) (x ∷ w) s zero p l = rw (tight c) (stands-fitting (R .fits) _ s p)
+  deal-stands n (c ∷ cs) (x ∷ w) s (suc i) p l = deal-stands (c .length) cs (drop (c .length) (x ∷ w)) s i p (omega arith)
+
+  pub occurs-fitting : (cs : List Component) (w s ps : List ℕ) → Occurs (deal R 0 cs w) s ps ↔ OccursBy (λ x y. R .fits x y ≡ true) cs w s ps
+  occurs-fitting cs w s ps =
+      let e = deal-long R 0 cs w in (
+        λ o. record {
+          one-each = o .one-each ∙ e;
+          standing = λ i l. deal-stands 0 cs w s i _ l .0 (o .standing i (rw e l));
+          gaps = λ i l. follows-gap R 0 cs w i _ _ (rw e l) .0 (o .gaps i (rw e l));
+        },
+        λ o. record {
+          one-each = o .one-each ∙ sym e;
+          standing = λ i l. deal-stands 0 cs w s i _ (rw e at l) .1 (o .standing i (rw e at l));
+          gaps = λ i l. follows-gap R 0 cs w i _ _ l .1 (o .gaps i (rw e at l));
+        },
+      )
+
+-- ---- what it is to fit
+
+fits-more : {F G : ℕ → ℕ → Type 0} → ((x y : ℕ) → F x y → G x y) → (cs : List Component) (w s ps : List ℕ) → OccursBy F cs w s ps → OccursBy G cs w s ps
+fits-more more cs w s ps o =
+    record {
+      one-each = o .one-each;
+      standing = λ i l. let h = o .standing i l in record { counted = h .counted; room = h .room; each = λ k m. more _ _ (h .each k m) };
+      gaps = o .gaps;
+    }
+
+-- a reading says of an occurrence what it says of each letter
+pub occurs-by : (R : Reading) → ((c : Component) → R .slack c ≡ 0) → (Fits : ℕ → ℕ → Type 0) → ((x y : ℕ) → (R .fits x y ≡ true) ↔ Fits x y)
+    → (cs : List Component) (w s ps : List ℕ) → Occurs (deal R 0 cs w) s ps ↔ OccursBy Fits cs w s ps
+occurs-by R tight Fits says cs w s ps =
+    Iff·trans (occurs-fitting R tight cs w s ps) (fits-more (λ x y. says x y .0) cs w s ps, fits-more (λ x y. says x y .1) cs w s ps)
+
+-- exactly: it is the one there
 pub occurs-exactly : (cs : List Component) (w s ps : List ℕ) → Occurs (cut cs w) s ps ↔ OccursExactly cs w s ps
-occurs-exactly cs w s ps = (
-  λ o. record {
-    one-each = o .one-each;
-    standing = λ i l. cut-stands 0 cs w s i _ l .0 (o .standing i l);
-    gaps = λ i l. follows-gap _ 0 cs w i _ _ l .0 (o .gaps i l);
-  },
-  λ o. record {
-    one-each = o .one-each;
-    standing = λ i l. cut-stands 0 cs w s i _ l .1 (o .standing i l);
-    gaps = λ i l. follows-gap _ 0 cs w i _ _ l .1 (o .gaps i l);
-  },
-)
+occurs-exactly = occurs-by literal (λ c. refl) (λ x y. y ≡ x) (λ x y. (λ e. sym (eqb-true x y e), λ e. eq-eqb x y (sym e)))

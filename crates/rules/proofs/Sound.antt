@@ -3,13 +3,13 @@
 use mathlib.Core.Path.{_≡_, refl}
 use mathlib.Core.Bool.{true}
 use mathlib.Core.List.{List, [], _∷_}
-use Prim.Native.Nat.{ℕ, _≤_}
+use Prim.Native.Nat.{ℕ, _≤_, _<_}
 use native.Mathlib.Omega.{arith}
 use lib.ListN.{length}
 use Rattle.rules.specs.Join.{rising?}
 use Rattle.rules.specs.Limits.{Template-LENGTH, Template-GAP}
 use Rattle.rules.specs.Recovery.{whole-list}
-use Rattle.rules.specs.Refusals.{first, check5, check6, check7, check8, check9, check10, check11, passes?, check14, check15, check17, check21, check22, set-checks, value-checks, new-checks, restore-checks, search-checks, save-checks, recover-checks, join-checks}
+use Rattle.rules.specs.Refusals.{first, check5, check6, check7, check8, check9, check10, check11, passes?, check14, check15, check17, check21, check22, check24, set-checks, value-checks, new-checks, restore-checks, search-checks, save-checks, recover-checks, join-checks}
 use Rattle.rules.specs.Saved.{bytes, sized?, laid-out?, place-rule?, read-search}
 use Rattle.rules.specs.Sequences.{sequences}
 use Rattle.rules.specs.Sound.{SoundSet, SoundTemplate}
@@ -18,8 +18,9 @@ use Rattle.rules.specs.Template.{size}
 use Rattle.rules.specs.Told.{Verdict, fine}
 use Rattle.rules.specs.declared.Search.{Search}
 use Rattle.rules.specs.declared.Template.{Template}
+use Rattle.rules.proofs.Components.{components-at, components-length}
 use Rattle.rules.proofs.Searches.{profile-proper}
-use Rattle.rules.proofs.EachCheck.{check1-fine, check2-fine, check3-fine, check4-fine, check5-fine, check6-fine, check7-fine, check8-fine, check9-fine, check10-fine, check12-fine, check13-fine, check14-fine, check15-fine, check6-head-fine, check8-range-fine, check16-fine, check17-fine, check23-fine}
+use Rattle.rules.proofs.EachCheck.{check1-fine, check2-fine, check3-fine, check4-fine, check5-fine, check6-fine, check7-fine, check8-fine, check9-fine, check10-fine, check12-fine, check13-fine, check14-fine, check15-fine, check6-head-fine, check8-range-fine, check16-fine, check17-fine, check23-fine, check24-fine}
 use Rattle.rules.proofs.LaidOut.{laid-out-passes}
 use Rattle.rules.proofs.Verdicts.{first-both, none-of, Fine, all-fine}
 
@@ -45,9 +46,9 @@ module _ (letters lengths : List ℕ) where
       (check1-fine lengths .1 (s .some, s .few), (check2-fine letters .1 (s .short), (check3-fine letters lengths .1 (s .adds), (check4-fine letters .1 (s .spelt), tt))))
 
 module _ (t : Template) where
-  -- a template from what each of 5 to 8 says
-  from-checks : check5 t ≡ fine → check6 t ≡ fine → check7 t ≡ fine → check8 t ≡ fine → SoundTemplate t
-  from-checks e5 e6 e7 e8 =
+  -- a template from what each of 5 to 8 and 24 says
+  from-checks : check5 t ≡ fine → check6 t ≡ fine → check7 t ≡ fine → check8 t ≡ fine → check24 t ≡ fine → SoundTemplate t
+  from-checks e5 e6 e7 e8 e24 =
       let n = check5-fine t .0 e5 in
       let l = check6-fine t (n .1) .0 e6 in
       let g = check8-fine t (n .1) .0 e8 in
@@ -58,6 +59,7 @@ module _ (t : Template) where
         deep = omega (arith, check7-fine t .0 e7, profile-proper t .short);
         short = check7-fine t .0 e7;
         each = λ i h. record { some = l i h .0; short = l i h .1; ordered = g i h .0; near = g i h .1 };
+        within = λ i h. rw (components-at t i h) at (check24-fine t .0 e24 i (rw (components-length t (n .1)) h));
         low = z .0;
         high = z .1;
       }
@@ -75,12 +77,15 @@ module _ (t : Template) where
     fine8 : check8 t ≡ fine
     fine8 = check8-fine t (s .few) .1 (λ i h. (s .each i h .ordered, s .each i h .near, λ q. rw q (s .low, s .high)))
 
-  -- what 5 to 8 pass is sound, and back
-  pub template-sound : first (check5 t ∷ check6 t ∷ check7 t ∷ check8 t ∷ []) ≡ fine → SoundTemplate t
-  template-sound e = let c = none-of (check5 t ∷ check6 t ∷ check7 t ∷ check8 t ∷ []) e in from-checks (c 0) (c 1) (c 2) (c 3)
+    fine24 : check24 t ≡ fine
+    fine24 = check24-fine t .1 (λ i h. let l : i < t .count = rw (components-length t (s .few)) at h in rw (components-at t i l) (s .within i l))
 
-  pub template-fine : SoundTemplate t → first (check5 t ∷ check6 t ∷ check7 t ∷ check8 t ∷ []) ≡ fine
-  template-fine s = all-fine (check5 t ∷ check6 t ∷ check7 t ∷ check8 t ∷ []) (fine5 s, (fine6 s, (fine7 s, (fine8 s, tt))))
+  -- what 5 to 8 and 24 pass is sound, and back
+  pub template-sound : first (check5 t ∷ check6 t ∷ check7 t ∷ check8 t ∷ check24 t ∷ []) ≡ fine → SoundTemplate t
+  template-sound e = let c = none-of (check5 t ∷ check6 t ∷ check7 t ∷ check8 t ∷ check24 t ∷ []) e in from-checks (c 0) (c 1) (c 2) (c 3) (c 4)
+
+  pub template-fine : SoundTemplate t → first (check5 t ∷ check6 t ∷ check7 t ∷ check8 t ∷ check24 t ∷ []) ≡ fine
+  template-fine s = all-fine (check5 t ∷ check6 t ∷ check7 t ∷ check8 t ∷ check24 t ∷ []) (fine5 s, (fine6 s, (fine7 s, (fine8 s, (fine24 s, tt)))))
 
 -- ---- the calls
 
@@ -128,23 +133,23 @@ pub record SoundJoin (xs ys : List ℕ) (head low high : ℕ) (out : List ℕ) :
 module _ (letters lengths : List ℕ) where
   module _ (t : Template) (quorum : ℕ) where
     new-rest : List Verdict
-    new-rest = check5 t ∷ check6 t ∷ check7 t ∷ check8 t ∷ check9 lengths quorum ∷ []
+    new-rest = check5 t ∷ check6 t ∷ check7 t ∷ check8 t ∷ check24 t ∷ check9 lengths quorum ∷ []
 
-    -- what 1 to 9 pass is sound, and back
+    -- what 1 to 9 and 24 pass is sound, and back
     pub new-sound : first (new-checks letters lengths t quorum) ≡ fine → SoundNew letters lengths t quorum
     unfolding new-checks new-rest
     new-sound e =
         let h = first-both (set-checks letters lengths) new-rest .0 e in
         let c = none-of new-rest (h .1) in
-        let q = check9-fine lengths quorum .0 (c 4) in
-        record { set = set-sound letters lengths (h .0); template = from-checks t (c 0) (c 1) (c 2) (c 3); some = q .0; most = q .1 }
+        let q = check9-fine lengths quorum .0 (c 5) in
+        record { set = set-sound letters lengths (h .0); template = from-checks t (c 0) (c 1) (c 2) (c 3) (c 4); some = q .0; most = q .1 }
 
     pub new-fine : SoundNew letters lengths t quorum → first (new-checks letters lengths t quorum) ≡ fine
     unfolding new-checks new-rest
     new-fine s =
         let k = s .template in
         first-both (set-checks letters lengths) new-rest .1
-        (set-fine letters lengths (s .set), all-fine new-rest (fine5 t k, (fine6 t k, (fine7 t k, (fine8 t k, (check9-fine lengths quorum .1 (s .some, s .most), tt))))))
+        (set-fine letters lengths (s .set), all-fine new-rest (fine5 t k, (fine6 t k, (fine7 t k, (fine8 t k, (fine24 t k, (check9-fine lengths quorum .1 (s .some, s .most), tt)))))))
 
   module _ (s : Search) where
     search-rest : List Verdict
@@ -156,24 +161,24 @@ module _ (letters lengths : List ℕ) where
     search-sound e =
         let h = first-both (set-checks letters lengths) search-rest .0 e in
         let c = none-of search-rest (h .1) in
-        let n = check12-fine letters lengths s .0 (c 5) in
-        let q = check9-fine lengths (s .quorum) .0 (c 6) in
+        let n = check12-fine letters lengths s .0 (c 6) in
+        let q = check9-fine lengths (s .quorum) .0 (c 7) in
         record {
           set = set-sound letters lengths (h .0);
-          template = from-checks (s .template) (c 0) (c 2) (c 3) (c 4);
+          template = from-checks (s .template) (c 0) (c 2) (c 3) (c 4) (c 5);
           place = check23-fine s .0 (c 1);
           count = n .0;
           total = n .1;
           some = q .0;
           most = q .1;
-          passes = check13-fine letters lengths s .0 (c 7);
+          passes = check13-fine letters lengths s .0 (c 8);
         }
 
     -- the end of a restore's order, of a sound search
     fine-value : SoundSearch letters lengths s → Fine (value-checks letters lengths s)
     fine-value o =
         let k = o .template in
-        (check23-fine s .1 (o .place), (fine6 (s .template) k, (fine7 (s .template) k, (fine8 (s .template) k, (check12-fine letters lengths s .1 (o .count, o .total), (check9-fine lengths (s .quorum) .1 (o .some, o .most), (check13-fine letters lengths s .1 (o .passes), tt)))))))
+        (check23-fine s .1 (o .place), (fine6 (s .template) k, (fine7 (s .template) k, (fine8 (s .template) k, (fine24 (s .template) k, (check12-fine letters lengths s .1 (o .count, o .total), (check9-fine lengths (s .quorum) .1 (o .some, o .most), (check13-fine letters lengths s .1 (o .passes), tt))))))))
 
     pub search-fine : SoundSearch letters lengths s → first (search-checks letters lengths s) ≡ fine
     unfolding search-checks search-rest
@@ -206,20 +211,20 @@ module _ (letters lengths : List ℕ) where
         let s : Search = read-search bs in
         let h = first-both (set-checks letters lengths) restore-rest .0 e in
         let c = none-of restore-rest (h .1) in
-        let n = check12-fine letters lengths s .0 (c 9) in
-        let q = check9-fine lengths (s .quorum) .0 (c 10) in
+        let n = check12-fine letters lengths s .0 (c 10) in
+        let q = check9-fine lengths (s .quorum) .0 (c 11) in
         record {
           sized = check10-fine bs .0 (c 0);
           laid-out = laid-out-passes bs .1 (c 2, c 3, c 4, c 5);
           search = record {
             set = set-sound letters lengths (h .0);
-            template = from-checks (s .template) (c 1) (c 6) (c 7) (c 8);
+            template = from-checks (s .template) (c 1) (c 6) (c 7) (c 8) (c 9);
             place = check23-fine s .0 (c 5);
             count = n .0;
             total = n .1;
             some = q .0;
             most = q .1;
-            passes = check13-fine letters lengths s .0 (c 11);
+            passes = check13-fine letters lengths s .0 (c 12);
           };
         }
 
@@ -234,9 +239,9 @@ module _ (letters lengths : List ℕ) where
 
   module _ (t : Template) (m f : ℕ) where
     recover-rest : List Verdict
-    recover-rest = check5 t ∷ check6 t ∷ check7 t ∷ check8 t ∷ check14 t m ∷ check15 letters lengths t m f ∷ []
+    recover-rest = check5 t ∷ check6 t ∷ check7 t ∷ check8 t ∷ check24 t ∷ check14 t m ∷ check15 letters lengths t m f ∷ []
 
-    -- what 1 to 8, 14 and 15 pass is sound, and back
+    -- what 1 to 8, 24, 14 and 15 pass is sound, and back
     pub recover-sound : first (recover-checks letters lengths t m f) ≡ fine → SoundRecovery letters lengths t m f
     unfolding recover-checks recover-rest
     recover-sound e =
@@ -244,9 +249,9 @@ module _ (letters lengths : List ℕ) where
         let c = none-of recover-rest (h .1) in
         record {
           set = set-sound letters lengths (h .0);
-          template = from-checks t (c 0) (c 1) (c 2) (c 3);
-          motif = check14-fine t m .0 (c 4);
-          row = check15-fine letters lengths t m f .0 (c 5);
+          template = from-checks t (c 0) (c 1) (c 2) (c 3) (c 4);
+          motif = check14-fine t m .0 (c 5);
+          row = check15-fine letters lengths t m f .0 (c 6);
         }
 
     pub recover-fine : SoundRecovery letters lengths t m f → first (recover-checks letters lengths t m f) ≡ fine
@@ -255,7 +260,7 @@ module _ (letters lengths : List ℕ) where
         let k = s .template in
         first-both (set-checks letters lengths) recover-rest .1 (
           set-fine letters lengths (s .set),
-          all-fine recover-rest (fine5 t k, (fine6 t k, (fine7 t k, (fine8 t k, (check14-fine t m .1 (s .motif), (check15-fine letters lengths t m f .1 (s .row), tt)))))),
+          all-fine recover-rest (fine5 t k, (fine6 t k, (fine7 t k, (fine8 t k, (fine24 t k, (check14-fine t m .1 (s .motif), (check15-fine letters lengths t m f .1 (s .row), tt))))))),
         )
 
 module _ (xs ys : List ℕ) (head low high : ℕ) (out : List ℕ) where

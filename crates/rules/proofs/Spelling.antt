@@ -2,13 +2,11 @@
 use mathlib.Core.List.{List, [], _∷_, _++_, map}
 use mathlib.Core.Path.{_≡_, refl, sym, ap, _∙_}
 use Prim.Native.Nat.{ℕ, zero, suc, _+_, _-_, _*_, _/_, _%_, _^_, _≤_, _<_}
-use native.Mathlib.Nat.{zero-add, suc-add, pow-zero, pow-suc, pow-succ', div-one, div-div-eq-div-mul, div-add-mod', div-lt-iff-lt-mul, mod-lt, mod-eq-of-lt, one-le-pow, mul-add-div-right, mul-add-mod-self-right, mul-comm, div-eq-of-lt, mul-le-mul-right}
+use native.Mathlib.Nat.{zero-add, suc-add, pow-zero, pow-suc, pow-succ', div-one, div-div-eq-div-mul, div-add-mod', div-lt-iff-lt-mul, mod-lt, mod-eq-of-lt, one-le-pow, mul-add-div-right, mul-add-mod-self-right, div-eq-of-lt, mul-le-mul-right}
 use native.Mathlib.Numerals.{add-one}
 use native.Mathlib.Omega.{arith}
 use lib.ListN.{length, getD, drop, set, length-append, length-set, drop-of-length-le}
 use lib.Seq.{drop-cons, drop-set-lt, getD-set-same}
-use Rattle.rules.specs.Letters.{letter}
-use Rattle.rules.specs.Limits.{Letter-BASES}
 use Rattle.rules.specs.Motif.{number, spell}
 
 -- a letter more is the lowest digit
@@ -83,27 +81,27 @@ spell-at base zero m i h = absurd (omega arith)
 spell-at base (suc j) m zero h = let e : suc j - 1 - 0 ≡ j = omega arith in rw e
 spell-at base (suc j) m (suc i) h = let e : suc j - 1 - suc i ≡ j - 1 - i = omega arith in rw e (spell-at base j m i (omega arith))
 
--- ---- a loop that spells a number in bytes, from its last letter on
+-- ---- a loop that writes what f makes of each letter, from the last on
 
 -- before the first letter nothing is spelled, and all of the number is left
-pub spelled-none : (m : ℕ) (l : List ℕ) → (m ≡ m / Letter-BASES ^ (length l - length l)) × (drop (length l) l ≡ map letter (spell Letter-BASES (length l - length l) m))
+pub spelled-none : (f : ℕ → ℕ) (base m : ℕ) (l : List ℕ) → (m ≡ m / base ^ (length l - length l)) × (drop (length l) l ≡ map f (spell base (length l - length l) m))
 unfolding spell
-spelled-none m l =
+spelled-none f base m l =
     let e : length l - length l ≡ 0 = omega arith in
-    rw (e, drop-of-length-le l {i = length l} (omega arith)) (sym (div-one m), refl)
+    rw (e, pow-zero, drop-of-length-le l {i = length l} (omega arith)) (sym (div-one m), refl)
 
 -- one letter more, before those that are spelled
-module _ (m : ℕ) (l : List ℕ) (i n : ℕ) (some : 0 < i) (inside : i ≤ length l) (few : i ≤ n) {rest : ℕ} (e : rest ≡ m / Letter-BASES ^ (n - i)) where
+module _ (f : ℕ → ℕ) (base m : ℕ) (l : List ℕ) (i n : ℕ) (some : 0 < i) (inside : i ≤ length l) (few : i ≤ n) {rest : ℕ} (e : rest ≡ m / base ^ (n - i)) where
   one-more : n - (i - 1) ≡ suc (n - i)
   one-more = omega arith
 
   -- what is left of the number
-  pub spelled-rest : rest / Letter-BASES ≡ m / Letter-BASES ^ (n - (i - 1))
-  spelled-rest = rw (one-more, e, div-div-eq-div-mul, pow-succ', mul-comm Letter-BASES (Letter-BASES ^ (n - i)))
+  pub spelled-rest : rest / base ≡ m / base ^ (n - (i - 1))
+  spelled-rest = rw (one-more, e, div-div-eq-div-mul, pow-suc)
 
   -- and the letters that stand
-  pub spelled-more : {v : ℕ} → v ≡ letter (rest % Letter-BASES) → drop i l ≡ map letter (spell Letter-BASES (n - i) m)
-      → drop (i - 1) (set l (i - 1) v) ≡ map letter (spell Letter-BASES (n - (i - 1)) m)
+  pub spelled-more : {v : ℕ} → v ≡ f (rest % base) → drop i l ≡ map f (spell base (n - i) m)
+      → drop (i - 1) (set l (i - 1) v) ≡ map f (spell base (n - (i - 1)) m)
   unfolding spell
   spelled-more {v} ev el =
       let h : i - 1 < length l = omega arith in

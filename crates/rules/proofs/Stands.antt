@@ -1,15 +1,15 @@
 -- Where letters stand and where the next part may start: what `found` and `reach` find is what the sentences `Found` and
 -- `Follows` say. Letters are compared one by one from the front, and a reach is a run of numbers between its two ends.
-use mathlib.Core.Path.{_≡_, refl, sym, _∙_}
+use mathlib.Core.Path.{_≡_, refl}
 use mathlib.Core.Logic.{_↔_, _⊎_, inl, inr}
 use mathlib.Core.Bool.{Bool, true, false, false≢true}
 use mathlib.Core.List.{List, [], _∷_, List·Memᴰ, List·Memᴰ·head, List·Memᴰ·tail, List·Memᴰ·not-nil, List·Memᴰ·cases-cons}
 use Prim.Native.Nat.{ℕ, zero, suc, _+_, _-_, _≤_, _<_}
 use native.Mathlib.Omega.{arith}
-use lib.Dec.{eqb, ltb}
+use lib.Dec.{ltb}
 use lib.ListN.{length, drop, getD, length-drop}
 use lib.Seq.{getD-drop}
-use borrow.Author.Tests.{ltb-true, ltb-false, eqb-true, eq-eqb}
+use borrow.Author.Tests.{ltb-true, ltb-false}
 use Rattle.rules.specs.Lists.{run, if}
 use Rattle.rules.specs.Occurrence.{spare, front-by, stands-by, found, reach, misses, StandsBy, Found, Stands, Follows}
 use Rattle.rules.specs.Template.{Part}
@@ -89,11 +89,11 @@ module _ (f : ℕ → ℕ → Bool) where
 pub found-is : (c : Part) (s : List ℕ) (p : ℕ) → 1 ≤ length (c .word) → (found c s p ≡ true) ↔ Found c s p
 found-is c s p some = stands-by-is (c .fits) (c .slack) (c .word) s p some
 
--- read exactly, letters stand where each is the one there
-pub stands-exactly : (w s : List ℕ) (p : ℕ) → StandsBy eqb 0 w s p ↔ Stands w s p
-stands-exactly w s p = (
-  λ h. record { counted = h .counted; room = h .room; same = λ i l. sym (eqb-true (getD w i 0) (getD s (p - 1 + i) 0) (rw getD-drop at (none-missed eqb w (drop (p - 1) s) (omega (arith, h .counted, h .room, length-drop (p - 1) s)) (h .close) i l))) },
-  λ h. record { counted = h .counted; room = h .room; close = all-fit eqb w (drop (p - 1) s) (omega (arith, h .counted, h .room, length-drop (p - 1) s)) (λ i l. eq-eqb (getD w i 0) _ (sym (h .same i l) ∙ sym (getD-drop (p - 1) s i 0))) },
+-- where none may fail to, letters stand where each fits the one there
+pub stands-fitting : (f : ℕ → ℕ → Bool) (w s : List ℕ) (p : ℕ) → StandsBy f 0 w s p ↔ Stands (λ x y. f x y ≡ true) w s p
+stands-fitting f w s p = (
+  λ h. record { counted = h .counted; room = h .room; each = λ i l. rw getD-drop at (none-missed f w (drop (p - 1) s) (omega (arith, h .counted, h .room, length-drop (p - 1) s)) (h .close) i l) },
+  λ h. record { counted = h .counted; room = h .room; close = all-fit f w (drop (p - 1) s) (omega (arith, h .counted, h .room, length-drop (p - 1) s)) (λ i l. rw getD-drop (h .each i l)) },
 )
 
 -- a run holds the numbers between its ends, and nothing else

@@ -11,20 +11,19 @@ use Rattle.rules.specs.Relay.{whole-steps, Lent, Roomy, relay}
 use Rattle.rules.specs.Sequences.{sequences}
 use Rattle.rules.specs.Sound.{SoundTemplate}
 use Rattle.rules.specs.Told.{gives}
-use Rattle.rules.specs.Walk.{Walk, walk-in, walk-over, walk-of, first-place, from}
+use Rattle.rules.specs.Walk.{Walk, walk-over, walk-of, first-place, from}
 use Rattle.rules.specs.declared.Place.{Place}
 use Rattle.rules.specs.declared.Search.{Search}
 use Rattle.rules.specs.declared.Template.{Template}
 use Rattle.rules.proofs.Begins.{Beginning, begins}
 use Rattle.rules.proofs.Candidates.{start-first}
-use Rattle.rules.proofs.Exact.{exact-search}
-use Rattle.rules.proofs.Few.{whole-steps-few}
+use Rattle.rules.proofs.FewMixed.{whole-steps-few}
 use Rattle.rules.proofs.Legs.{Passed, leg-law, legs-law, leg-why}
 use Rattle.rules.proofs.Places.{place-deep}
 use Rattle.rules.proofs.Searches.{walk-lawful}
 use Rattle.rules.proofs.Relayed.{granted, relay-legs}
 use Rattle.rules.proofs.Sound.{search-fine}
-use Rattle.rules.proofs.Whole.{tried}
+use Rattle.rules.proofs.Tried.{passes-counted}
 
 -- what is passed is no more than there is
 passed-most : (W : Walk) (p : Place) (l : Stretch) → Passed W p l → l .steps ≤ length (from W p)
@@ -32,11 +31,9 @@ passed-most W p l r = omega (arith, r .counts, simp length-append at (ap length 
 
 -- from A on there are all the candidates
 pub from-first : (t : Template) (quorum : ℕ) (ss : List (List ℕ)) → SoundTemplate t → length (from (walk-over t quorum ss) first-place) ≡ whole-steps t quorum ss
-unfolding whole-steps walk-in
 from-first t quorum ss o =
     let W : Walk = walk-over t quorum ss in
-    let L = walk-lawful t quorum ss o in
-    ap (λ p. length (from W p)) (sym (start-first W L)) ∙ tried W L
+    ap (λ p. length (from W p)) (sym (start-first W (walk-lawful t quorum ss o))) ∙ passes-counted t quorum ss o
 
 module _ (letters lengths : List ℕ) (t : Template) (quorum : ℕ) (s : Search) (e : begin-rule letters lengths t quorum ≡ gives s) where
   b : Beginning letters lengths t quorum s
@@ -45,7 +42,7 @@ module _ (letters lengths : List ℕ) (t : Template) (quorum : ℕ) (s : Search)
   -- the whole of a search that begins
   pub begun-steps-few : whole-steps t quorum (sequences letters lengths) < 2 ^ 63
   unfolding begun
-  begun-steps-few = whole-steps-few t (exact-search t) quorum letters lengths (b .template) (b .sound .set) (omega (arith, b .sound .some, ap (λ (s : Search). s .quorum) (b .is)))
+  begun-steps-few = whole-steps-few t quorum letters lengths (b .template) (b .sound .set) (omega (arith, b .sound .some, ap (λ (s : Search). s .quorum) (b .is)))
 
   -- the steps of its legs, with a save and a restore between them, are never more
   pub steps-so-far : (gs : List Lent) → Roomy t gs → (relay letters lengths gs s) .steps ≤ whole-steps t quorum (sequences letters lengths)

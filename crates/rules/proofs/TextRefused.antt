@@ -19,12 +19,13 @@ use Rattle.rules.specs.Text.{parsed, malformed, parse-number, parse-comp
 use Rattle.rules.specs.TextRefused.{Without, WithoutAll, with-end, Lined, NumberText, component-text, Writable, TemplateText, BadLine, too-long, missing, no-template, no-quorum, no-end, LowestBad, Reads}
 use Rattle.rules.specs.Told.{fine, refused}
 use Rattle.rules.specs.declared.Component.{Component}
+use Rattle.rules.specs.declared.Profile.the-variants.{Exact}
 use Rattle.rules.proofs.All.{members}
 use Rattle.rules.proofs.Tests.{not-false}
 use Rattle.rules.proofs.TextLines.{text-passes, refused-lowest, fine-none}
 use Rattle.rules.proofs.TextNumbers.{decimal-digits, well-parsed, number-parsed, number-malformed, number-well}
 use Rattle.rules.proofs.TextPieces.{lined, lined-only}
-use Rattle.rules.proofs.TextTemplate.{first-text, template-parsed, template-malformed, template-well, template-bytes}
+use Rattle.rules.proofs.TextTemplate.{first-text, Unmixed, template-parsed, unmixed, template-read, begin-unmixed, template-malformed, template-well, template-bytes}
 
 -- what the paper says of the input
 pub record TextRefused : Type 0 where
@@ -37,8 +38,11 @@ pub record TextRefused : Type 0 where
   pub number : (most : ℕ) (text : List ℕ) (n : ℕ) → 1 ≤ most → most ≤ 20 → (parse-number most text ≡ parsed n) ↔ ((text ≡ decimal n) × (n < 10 ^ most))
   -- template text is runs of N with [l,u] between: a run, and for each later component a [ and its text, l,u] and its run
   pub runs : (c : Component) (cs : List Component) → template-text (c ∷ cs) ≡ replicate (c .length) 78 ++ each (λ p. 91 ∷ p) (map component-text cs)
-  -- a line is read as the components that it is the text of, if they have at least one N each and numbers of 1 to 3 digits
-  pub components : (text : List ℕ) (cs : List Component) → (parse-components text ≡ parsed cs) ↔ ((text ≡ template-text cs) × Writable cs)
+  -- a line is read as the components that it is the text of, if they have at least one N each, numbers of 1 to 3 digits, and no
+  -- allowance, which text does not tell
+  pub components : (text : List ℕ) (cs : List Component) → (parse-components text ≡ parsed cs) ↔ ((text ≡ template-text cs) × Writable cs × Unmixed cs)
+  -- so the template that is read asks for an exact search
+  pub exact : (input : List ℕ) → parse-template input .profile ≡ Exact
   -- and a line that is the text of none is malformed
   pub no-components : (text : List ℕ) → (parse-components text ≡ malformed) ↔ (TemplateText text → ⊥)
   -- an input is refused with 18 and the number of its lowest bad line: too long (0), the first or second malformed or missing,
@@ -89,8 +93,8 @@ module _ (input : List ℕ) where
     })
 
     -- its template and its quorum
-    read-template : parse-components (line input 1) ≡ parsed cs
-    read-template = rw (← read-lines .0) (template-parsed (template-text cs) cs .1 (refl, r .writable))
+    read-template : parse-components (line input 1) ≡ parsed (map unmixed cs)
+    read-template = rw (← read-lines .0) (template-read cs (r .writable))
 
     read-quorum : parse-number Text-QUORUM-DIGITS (line input 2) ≡ parsed quorum
     read-quorum = rw (← read-lines .0) (number-parsed Text-QUORUM-DIGITS (decimal quorum) quorum (omega arith) (omega arith) .1 (refl, r .few-digits))
@@ -102,14 +106,14 @@ module _ (input : List ℕ) where
         go : (p : ℕ) → BadLine input p → ⊥
         go p (too-long e h) = omega (arith, r .short)
         go p (missing a b h) = omega (arith, ap length (read-lines .0))
-        go p (no-template e l h) = h (template-well (line input 1) .0 (well-parsed _ .1 (cs, read-template)))
+        go p (no-template e l h) = h (template-well (line input 1) .0 (well-parsed _ .1 (map unmixed cs, read-template)))
         go p (no-quorum e l h) = h (number-well Text-QUORUM-DIGITS (line input 2) .0 (well-parsed _ .1 (quorum, read-quorum)))
         go p (no-end e h) = omega (arith, ap length (read-lines .1))
 
     -- what is printed of it
     read-printed : print-rule input ≡ print-told (map (map value) ss) (begin-rule (joined ss) (map length ss) (template-of cs) quorum)
     unfolding print-rule parse-template parse-quorum parse-letters parse-lengths sequences
-    read-printed = rw (read-fine, read-template, read-quorum, ← read-lines .0, split-joined ss)
+    read-printed = rw (read-fine, read-template, read-quorum, ← read-lines .0, split-joined ss, begin-unmixed (joined ss) (map length ss) quorum cs)
 
   -- an input that passes is read so
   passed-reads : first (text-checks input) ≡ fine → (cs : List Component) × (quorum : ℕ) × (ss : List (List ℕ)) × Reads input cs quorum ss
@@ -135,6 +139,7 @@ text-refused =
       number = number-parsed;
       runs = first-text;
       components = template-parsed;
+      exact = λ input. unfold parse-template template-of in refl;
       no-components = template-malformed;
       lowest-line = refused-lowest;
       no-line = fine-none;

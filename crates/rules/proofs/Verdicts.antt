@@ -3,7 +3,7 @@
 use mathlib.Core.Path.{_≡_, refl, sym}
 use mathlib.Core.Logic.{_↔_}
 use mathlib.Core.Bool.{Bool, true, false, false≢true}
-use mathlib.Core.List.{List, [], _∷_, _++_}
+use mathlib.Core.List.{List, [], _∷_, _++_, map}
 use Prim.Native.Nat.{ℕ, zero, suc, _+_, _≤_, _<_}
 use native.Mathlib.Nat.{add-right-comm, zero-add}
 use native.Mathlib.Numerals.{add-one}
@@ -102,6 +102,12 @@ module _ {A : Type 0} (n : ℕ) (bad : ℕ → A → Bool) where
       go : (b : Bool) → (if b (refused n k) (first-bad n bad (suc k) xs) ≡ fine) ↔ ((b ≡ false) × (first-bad n bad (suc k) xs ≡ fine))
       go true = (λ e. never n k e, λ h. absurd (false≢true (sym (h .0))))
       go false = (λ e. (refl, e), λ h. h .1)
+
+  -- nor does it matter how they are changed, if what is bad stays bad, and what is not
+  pub first-bad-map : (f : A → A) → ((i : ℕ) (x : A) → bad i (f x) ≡ bad i x) → (k : ℕ) (xs : List A) → first-bad n bad k (map f xs) ≡ first-bad n bad k xs
+  unfolding first-bad
+  first-bad-map f e k [] = refl
+  first-bad-map f e k (x ∷ xs) = rw (e k x, first-bad-map f e (suc k) xs)
 
   -- past the end there is none
   pub over : (k : ℕ) (xs : List A) (i : ℕ) → length xs ≤ i → first-bad n bad (i + k) (drop i xs) ≡ fine

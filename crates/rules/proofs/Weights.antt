@@ -62,7 +62,7 @@ module _ (letters lengths : List ℕ) where
         λ f out h. rw (recover-fine letters lengths t m f (record { set = set; template = sound; motif = v; row = h })) (_, refl, refl),
       )
 
-  -- what a template does not count makes no difference
+  -- what a template does not use makes no difference
   recovers-same : (t u : Template) (m w : ℕ) → trimmed u ≡ trimmed t → Recovers letters lengths t m w → Recovers letters lengths u m w
   recovers-same t u m w e r f out h =
       let same = sym (recover-trimmed letters lengths u m f out) ∙ ap (λ v. recover-rule letters lengths v m f out) e ∙ recover-trimmed letters lengths t m f out in

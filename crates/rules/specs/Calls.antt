@@ -47,7 +47,7 @@ pub record LegRule : Type 0 where
 abbrev pub moved : Search → Place → Search
 moved s p = record { template = s .template; quorum = s .quorum; set = s .set; place = p }
 
--- a search with nothing in the slots that its template does not count: as it comes back from a save
+-- a search with nothing in what its template does not use: as it comes back from a save
 abbrev pub trimmed-search : Search → Search
 trimmed-search s = record { template = trimmed (s .template); quorum = s .quorum; set = s .set; place = s .place }
 

@@ -11,11 +11,11 @@ use Rattle.rules.specs.Letters.{A, C, G, T, value, letter?, letter}
 use Rattle.rules.specs.Lists.{run, keep, each, joined, some?, all?, member?, sum, put}
 use Rattle.rules.specs.Motif.{number, spell}
 use Rattle.rules.specs.Occurrence.{front-by, stands-by, reach, starts, occurrences}
-use Rattle.rules.specs.Profile.{allowed, to-come, exactly, profile-of}
+use Rattle.rules.specs.Profile.{allowed, to-come, exactly, profile-by}
 use Rattle.rules.specs.Recovery.{whole-list, page}
-use Rattle.rules.specs.Refusals.{_else_, first, first-bad, check1, check2, check3, check4, check5, check6, check7, check8, check9, check10, check11, check12, passes?, check13, check14, check15, check6-head, check8-range, check16, check17, check21, check22, check23, new-checks, restore-checks, search-checks, save-checks, recover-checks, join-checks}
+use Rattle.rules.specs.Refusals.{_else_, first, first-bad, check1, check2, check3, check4, check5, check6, check7, check8, check9, check10, check11, check12, passes?, check13, check14, check15, check6-head, check8-range, check16, check17, check21, check22, check23, check24, new-checks, restore-checks, search-checks, save-checks, recover-checks, join-checks}
 use Rattle.rules.specs.Relay.{Lent, relay}
-use Rattle.rules.specs.Saved.{low-first, read-low, size-record, component-record, place-record, component-records, records, bytes, record-at, field, record-count, component-count, read-component, read-place, read-template, read-search, sized?, blank?, size-kind?, component-kind?, place-kind?, size-blank?, component-blank?, place-blank?, saved-records, kind?, unnamed-blank?, sums?, place-rule?}
+use Rattle.rules.specs.Saved.{low-first, read-low, size-record, component-record, place-record, component-records, records, bytes, record-at, field, record-count, component-count, read-profile, read-component, read-place, read-template, read-search, sized?, blank?, size-kind?, component-kind?, place-kind?, size-blank?, component-blank?, place-blank?, saved-records, kind?, unnamed-blank?, sums?, place-rule?}
 use Rattle.rules.specs.Sequences.{split, sequences}
 use Rattle.rules.specs.Support.{marks, support, rows-from, occurrence-rows, weight, allowed-in, parts-in, measure, reaches}
 use Rattle.rules.specs.Template.{Part, component, none, components, size, trimmed, deal, cut}
@@ -23,6 +23,7 @@ use Rattle.rules.specs.Text as text
 use Rattle.rules.specs.Told.{Told, gives, refuses, Counts}
 use Rattle.rules.specs.Walk.{place, first-place, ended-place, walk-in, walk-over, children, later, under, onward, from, up, next, start, motif, listed, spelled, candidate}
 use Rattle.rules.specs.declared.Place.{Place}
+use Rattle.rules.specs.declared.Profile.the-variants.{Exact}
 use Rattle.rules.specs.declared.Search.{Search}
 use Rattle.rules.specs.declared.Template.{Template}
 
@@ -43,7 +44,7 @@ lengths = 5 ∷ 5 ∷ 2 ∷ []
 
 -- N[0,1]N
 unfoldable pub pair : Template
-pair = record { count = 2; c1 = component 1 0 0; c2 = component 1 0 1; c3 = none; c4 = none; c5 = none; c6 = none }
+pair = record { profile = Exact; count = 2; c1 = component 1 0 0; c2 = component 1 0 1; c3 = none; c4 = none; c5 = none; c6 = none }
 
 -- the motifs AA, AG, CG, GT and AT under it, in E or in AAA
 AA : List ℕ
@@ -82,11 +83,11 @@ CCG-TA-GAAC : List Part
 CCG-TA-GAAC = cut (component 3 0 0 ∷ component 2 0 3 ∷ component 4 1 3 ∷ []) (C ∷ C ∷ G ∷ T ∷ A ∷ G ∷ A ∷ A ∷ C ∷ [])
 
 -- what a call tells, as numbers: what it gives, or its refusal's number and place
-search-told : Told Search → List ℕ
+unfoldable pub search-told : Told Search → List ℕ
 search-told (gives s) = s .place .letters ∷ s .place .number ∷ []
 search-told (refuses n p) = n ∷ p ∷ []
 
-counts-told : Told Counts → List ℕ
+unfoldable pub counts-told : Told Counts → List ℕ
 counts-told (gives c) = c .rows ∷ c .length ∷ []
 counts-told (refuses n p) = n ∷ p ∷ []
 
@@ -179,5 +180,5 @@ facts =
     ∷ []
 
 the-facts : map (λ f. f .computed) facts ≡ map (λ f. f .paper) facts
-unfolding facts letters lengths pair AA AG CG GT AT in-E AA-starts table-one CCG-TA-GAAC search-told counts-told answer-told at run-leg whole saved moved-to-CA in-legs input printout run keep each joined some? all? member? sum put value letter? letter split sequences components size trimmed deal number spell front-by stands-by reach starts occurrences marks support rows-from occurrence-rows weight allowed to-come exactly profile-of allowed-in parts-in measure reaches walk-in children later under onward from up next start motif listed spelled candidate leg low-first read-low size-record component-record place-record component-records records bytes record-at field record-count component-count read-component read-place read-template read-search sized? blank? size-kind? component-kind? place-kind? size-blank? component-blank? place-blank? saved-records kind? unnamed-blank? sums? place-rule? partners partnered rising? whole-list page _else_ first first-bad check1 check2 check3 check4 check5 check6 check7 check8 check9 check10 check11 check12 passes? check13 check14 check15 check6-head check8-range check16 check17 check21 check22 check23 new-checks restore-checks search-checks save-checks recover-checks join-checks begun begin-rule stretch supports-of weights-of leg-rule save-rule restore-rule recover-rule join-rule relay text.pieces text.number? text.digits text.parse-number text.run? text.parse-component text.parse-first text.parse-rest text.parse-components text.template-of text.but-last text.last text.lines text.unended text.text-checks text.parse-template text.parse-quorum text.parse-letters text.parse-lengths text.digits-of text.decimal text.shape-rest text.shape text.print-motif text.print-row text.print-end text.print-refused text.print-search text.print-rule
+unfolding facts letters lengths pair AA AG CG GT AT in-E AA-starts table-one CCG-TA-GAAC search-told counts-told answer-told at run-leg whole saved moved-to-CA in-legs input printout run keep each joined some? all? member? sum put value letter? letter split sequences components size trimmed deal number spell front-by stands-by reach starts occurrences marks support rows-from occurrence-rows weight allowed to-come exactly profile-by allowed-in parts-in measure reaches walk-in children later under onward from up next start motif listed spelled candidate leg low-first read-low size-record component-record place-record component-records records bytes record-at field record-count component-count read-profile read-component read-place read-template read-search sized? blank? size-kind? component-kind? place-kind? size-blank? component-blank? place-blank? saved-records kind? unnamed-blank? sums? place-rule? partners partnered rising? whole-list page _else_ first first-bad check1 check2 check3 check4 check5 check6 check7 check8 check9 check10 check11 check12 passes? check13 check14 check15 check6-head check8-range check16 check17 check21 check22 check23 check24 new-checks restore-checks search-checks save-checks recover-checks join-checks begun begin-rule stretch supports-of weights-of leg-rule save-rule restore-rule recover-rule join-rule relay text.pieces text.number? text.digits text.parse-number text.run? text.parse-component text.parse-first text.parse-rest text.parse-components text.template-of text.but-last text.last text.lines text.unended text.text-checks text.parse-template text.parse-quorum text.parse-letters text.parse-lengths text.digits-of text.decimal text.shape-rest text.shape text.print-motif text.print-row text.print-end text.print-refused text.print-search text.print-rule
 the-facts = refl

@@ -12,12 +12,19 @@ Letter-BITS = 2
 abbrev pub Letter-MARK : ℕ
 Letter-MARK = 4
 
--- the letters of a mixed motif, and the base of its number (no code yet)
+-- the letters of a mixed motif, and the base of its number
 abbrev pub Letter-SYMBOLS : ℕ
 Letter-SYMBOLS = 14
 
 abbrev pub Letter-DIGITS : ℕ
 Letter-DIGITS = 16
+
+-- the number of each kind of search, as it is saved
+abbrev pub Profile-EXACT : ℕ
+Profile-EXACT = 0
+
+abbrev pub Profile-MIXED : ℕ
+Profile-MIXED = 1
 
 -- a template's components, the letters of one, the letters in all (K), and the longest gap
 abbrev pub Template-COMPONENTS : ℕ
@@ -29,7 +36,7 @@ Template-LENGTH = 12
 abbrev pub Template-LETTERS : ℕ
 Template-LETTERS = 32
 
--- K of a template for mixed letters (no code yet)
+-- K of a template for mixed letters
 abbrev pub Template-MIXED : ℕ
 Template-MIXED = 16
 

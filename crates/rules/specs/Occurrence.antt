@@ -89,11 +89,11 @@ pub record Occurs (cs : List Part) (s ps : List ℕ) : Type 0 where
   pub standing : (i : ℕ) → i < length cs → Found (nth cs i) s (getD ps i 0)
   pub gaps : (i : ℕ) → suc i < length cs → Follows (nth cs (suc i) .near) (nth cs (suc i) .far) (getD ps i 0) (getD ps (suc i) 0)
 
--- THE PAPER'S OWN SENTENCE, where letters are read exactly. The letters w stand in s at position p: each is the one there
-pub record Stands (w s : List ℕ) (p : ℕ) : Type 0 where
+-- THE PAPER'S OWN SENTENCE, where every letter must fit. The letters w stand in s at position p: each fits the one there
+pub record Stands (Fits : ℕ → ℕ → Type 0) (w s : List ℕ) (p : ℕ) : Type 0 where
   pub counted : 1 ≤ p
   pub room : p + length w ≤ length s + 1
-  pub same : (i : ℕ) → i < length w → getD s (p - 1 + i) 0 ≡ getD w i 0
+  pub each : (i : ℕ) → i < length w → Fits (getD w i 0) (getD s (p - 1 + i) 0)
 
 -- the gap between a component of n letters that starts at p and the next at q lies in the range
 pub record Gap (n low high p q : ℕ) : Type 0 where
@@ -102,8 +102,12 @@ pub record Gap (n low high p q : ℕ) : Type 0 where
 
 -- letters w dealt out to components cs: one start for each, such that its letters stand there, and each next start minus the
 -- previous start minus the previous length lies in its range
-pub record OccursExactly (cs : List Component) (w s ps : List ℕ) : Type 0 where
+pub record OccursBy (Fits : ℕ → ℕ → Type 0) (cs : List Component) (w s ps : List ℕ) : Type 0 where
   pub one-each : length ps ≡ length (cut cs w)
-  pub standing : (i : ℕ) → i < length (cut cs w) → Stands (nth (cut cs w) i .word) s (getD ps i 0)
+  pub standing : (i : ℕ) → i < length (cut cs w) → Stands Fits (nth (cut cs w) i .word) s (getD ps i 0)
   pub gaps : (i : ℕ) → suc i < length (cut cs w)
       → Gap (getD cs i none .length) (getD cs (suc i) none .low) (getD cs (suc i) none .high) (getD ps i 0) (getD ps (suc i) 0)
+
+-- exactly: each letter is the one there
+abbrev pub OccursExactly : List Component → List ℕ → List ℕ → List ℕ → Type 0
+OccursExactly cs w s ps = OccursBy (λ x y. y ≡ x) cs w s ps

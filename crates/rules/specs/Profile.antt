@@ -1,16 +1,18 @@
 -- The kinds of search, as instances of one: how a motif's letters are read, which letters a component may have, and what
--- must reach the quorum. `exactly`, `repeated`, `substituted` and `mixed` are ours, and `profile-of` says which one is asked for.
+-- must reach the quorum. `exactly`, `repeated`, `substituted` and `mixed` are ours, and `profile-by` says which one is asked for.
 use mathlib.Core.Bool.{Bool, true, _&&_}
-use mathlib.Core.List.{List, [], _∷_, _++_}
+use mathlib.Core.List.{List, [], _∷_, _++_, map}
 use mathlib.Core.Path.{_≡_}
-use Prim.Native.Nat.{ℕ, _*_, _^_, _≤_}
+use Prim.Native.Nat.{ℕ, _*_, _/_, _%_, _^_, _≤_}
 use lib.Dec.{leb, ltb, eqb}
 use lib.ListN.{length, take, drop, getD}
 use Rattle.rules.specs.Letters.{A, C, G, T}
-use Rattle.rules.specs.Limits.{Letter-BASES, Letter-SYMBOLS, Letter-DIGITS, Template-LETTERS, Template-MIXED}
-use Rattle.rules.specs.Lists.{keep, all?, member?}
+use Rattle.rules.specs.Limits.{Letter-BASES, Letter-SYMBOLS, Letter-DIGITS, Profile-EXACT, Profile-MIXED, Template-LETTERS, Template-MIXED}
+use Rattle.rules.specs.Lists.{if, keep, all?, member?, sum}
 use Rattle.rules.specs.Template.{Reading, literal, span}
 use Rattle.rules.specs.declared.Component.{Component}
+use Rattle.rules.specs.declared.Profile as declared
+use Rattle.rules.specs.declared.Profile.the-variants.{Exact, Mixed}
 use Rattle.rules.specs.declared.Template.{Template}
 
 -- what must reach the quorum: the sequences in which a motif occurs, or its occurrences
@@ -40,6 +42,14 @@ unfoldable pub to-come : List Component → List ℕ → ℕ
 to-come [] w = 1
 to-come (c ∷ cs) [] = span (c .low) (c .high) * to-come cs []
 to-come (c ∷ cs) (x ∷ w) = to-come cs (drop (c .length) (x ∷ w))
+
+-- the number of each, as it is saved, and the one that has a number: 1 is mixed, and every other exact
+abbrev pub profile-number : declared.Profile → ℕ
+profile-number Exact = Profile-EXACT
+profile-number Mixed = Profile-MIXED
+
+abbrev pub numbered-profile : ℕ → declared.Profile
+numbered-profile n = if (eqb n Profile-MIXED) Mixed Exact
 
 -- what the laws ask of a profile
 pub record Proper (P : Profile) : Type 0 where
@@ -81,6 +91,14 @@ bases =
 unfoldable pub stands-for : ℕ → ℕ → Bool
 stands-for x y = member? y (getD bases x [])
 
+-- a base set in one number: 1 for A, 2 for C, 4 for G, 8 for T, added. The code has the table so
+unfoldable pub base-sets : List ℕ
+base-sets = map (λ ys. sum (map (λ y. 2 ^ y) ys)) bases
+
+-- such a set has the base y
+unfoldable pub has-base : ℕ → ℕ → Bool
+has-base set y = eqb (set / 2 ^ y % 2) 1
+
 -- how many of some letters stand for several bases
 unfoldable pub several : List ℕ → ℕ
 several w = length (keep (leb Letter-BASES) w)
@@ -93,8 +111,12 @@ unfoldable pub mixed : (Component → ℕ) → Profile
 mixed allowance = record { base = Letter-DIGITS; most = Template-MIXED; reading = record { fits = stands-for; slack = λ c. 0 }; allows = within allowance; basis = by-sequence }
 
 -- THE PROFILE of a template: the one place that says which kind of search it asks for
-unfoldable pub profile-of : Template → Profile
-profile-of t = exactly
+unfoldable pub profile-by : declared.Profile → Profile
+profile-by Exact = exactly
+profile-by Mixed = mixed (λ c. c .allowance)
+
+abbrev pub profile-of : Template → Profile
+profile-of t = profile-by (t .profile)
 
 abbrev pub base-of : Template → ℕ
 base-of t = profile-of t .base

@@ -7,16 +7,17 @@ use lib.ListN.{length}
 use Rattle.rules.specs.Join.{rising?}
 use Rattle.rules.specs.Letters.{letter?}
 use Rattle.rules.specs.Limits.{Template-COMPONENTS, Template-LENGTH, Template-GAP, SequenceSet-SEQUENCES, SequenceSet-LETTERS}
-use Rattle.rules.specs.Lists.{if, sum}
+use Rattle.rules.specs.Lists.{if, keep, some?, sum}
 use Rattle.rules.specs.Profile.{profile-of}
 use Rattle.rules.specs.Recovery.{whole-list}
-use Rattle.rules.specs.Saved.{bytes, sized?, component-count, saved-records, kind?, unnamed-blank?, sums?, place-rule?, read-search}
+use Rattle.rules.specs.Saved.{bytes, sized?, component-count, read-profile, saved-records, kind?, unnamed-blank?, sums?, place-rule?, read-search}
 use Rattle.rules.specs.Sequences.{sequences}
 use Rattle.rules.specs.Support.{valid}
-use Rattle.rules.specs.Template.{components, size}
+use Rattle.rules.specs.Template.{allowance-in, components, size}
 use Rattle.rules.specs.Told.{Verdict, fine, refused}
 use Rattle.rules.specs.Walk.{walk-of, candidate}
 use Rattle.rules.specs.declared.Component.{Component}
+use Rattle.rules.specs.declared.Profile as declared
 use Rattle.rules.specs.declared.Search.{Search}
 use Rattle.rules.specs.declared.Template.{Template}
 
@@ -83,6 +84,13 @@ bad-gap i c = bad-range (c .low) (c .high) || (eqb i 1 && not (eqb (c .low) 0 &&
 unfoldable pub check8 : Template → Verdict
 check8 t = first-bad 8 bad-gap 1 (components t)
 
+-- an allowance above the length
+abbrev pub bad-allowance : declared.Profile → Component → Bool
+bad-allowance p c = ltb (c .length) (allowance-in p c)
+
+unfoldable pub check24 : Template → Verdict
+check24 t = refuse-if (some? (keep (bad-allowance (t .profile)) (components t))) 24
+
 -- the quorum:
 unfoldable pub check9 : List ℕ → ℕ → Verdict
 check9 lengths quorum = refuse-if (outside 1 (length lengths) quorum) 9
@@ -99,11 +107,11 @@ unfoldable pub check11 : List ℕ → Verdict
 check11 bs = first-bad 11 (bad-kind (component-count bs)) 0 (saved-records bs)
 
 -- one with a byte that must be 0 and is not
-abbrev pub bad-blank : ℕ → ℕ → List ℕ → Bool
-bad-blank n i r = not (unnamed-blank? n i r)
+abbrev pub bad-blank : declared.Profile → ℕ → ℕ → List ℕ → Bool
+bad-blank p n i r = not (unnamed-blank? p n i r)
 
 unfoldable pub check21 : List ℕ → Verdict
-check21 bs = first-bad 21 (bad-blank (component-count bs)) 0 (saved-records bs)
+check21 bs = first-bad 21 (bad-blank (read-profile bs) (component-count bs)) 0 (saved-records bs)
 
 -- K stands in the size record, record 0
 unfoldable pub check22 : List ℕ → Verdict
@@ -150,16 +158,16 @@ check17 needed out = refuse-if (ltb (length out) needed) 17
 abbrev pub set-checks : List ℕ → List ℕ → List Verdict
 set-checks letters lengths = check1 lengths ∷ check2 letters ∷ check3 letters lengths ∷ check4 letters ∷ []
 
--- new search: 1 to 9
+-- new search: 1 to 8, 24, 9
 unfoldable pub new-checks : List ℕ → List ℕ → Template → ℕ → List Verdict
-new-checks letters lengths t quorum = set-checks letters lengths ++ (check5 t ∷ check6 t ∷ check7 t ∷ check8 t ∷ check9 lengths quorum ∷ [])
+new-checks letters lengths t quorum = set-checks letters lengths ++ (check5 t ∷ check6 t ∷ check7 t ∷ check8 t ∷ check24 t ∷ check9 lengths quorum ∷ [])
 
--- 23, 6, 7, 8, 12, 9, 13: the end of a restore's order, which is of the search
+-- 23, 6, 7, 8, 24, 12, 9, 13: the end of a restore's order, which is of the search
 abbrev pub value-checks : List ℕ → List ℕ → Search → List Verdict
 value-checks letters lengths s =
-    check23 s ∷ check6 (s .template) ∷ check7 (s .template) ∷ check8 (s .template) ∷ check12 letters lengths s ∷ check9 lengths (s .quorum) ∷ check13 letters lengths s ∷ []
+    check23 s ∷ check6 (s .template) ∷ check7 (s .template) ∷ check8 (s .template) ∷ check24 (s .template) ∷ check12 letters lengths s ∷ check9 lengths (s .quorum) ∷ check13 letters lengths s ∷ []
 
--- restore: 1 to 4, 10, 5, 11, 21, 22, 23, 6, 7, 8, 12, 9, 13
+-- restore: 1 to 4, 10, 5, 11, 21, 22, 23, 6, 7, 8, 24, 12, 9, 13
 unfoldable pub restore-checks : List ℕ → List ℕ → List ℕ → List Verdict
 restore-checks letters lengths bs =
     set-checks letters lengths ++ (check10 bs ∷ check5 (read-search bs .template) ∷ check11 bs ∷ check21 bs ∷ check22 bs ∷ value-checks letters lengths (read-search bs))
@@ -171,10 +179,10 @@ search-checks letters lengths s = set-checks letters lengths ++ (check5 (s .temp
 unfoldable pub save-checks : List ℕ → List ℕ → Search → List ℕ → List Verdict
 save-checks letters lengths s out = search-checks letters lengths s ++ (check17 (length (bytes s)) out ∷ [])
 
--- recovery: 1 to 8, 14, 15
+-- recovery: 1 to 8, 24, 14, 15
 unfoldable pub recover-checks : List ℕ → List ℕ → Template → ℕ → ℕ → List Verdict
 recover-checks letters lengths t m f =
-    set-checks letters lengths ++ (check5 t ∷ check6 t ∷ check7 t ∷ check8 t ∷ check14 t m ∷ check15 letters lengths t m f ∷ [])
+    set-checks letters lengths ++ (check5 t ∷ check6 t ∷ check7 t ∷ check8 t ∷ check24 t ∷ check14 t m ∷ check15 letters lengths t m f ∷ [])
 
 -- join: 6, 8, 16, 17
 unfoldable pub join-checks : List ℕ → List ℕ → ℕ → ℕ → ℕ → List ℕ → List Verdict

@@ -4,16 +4,20 @@ use mathlib.Core.Logic.{_⊎_, _↔_}
 use mathlib.Core.List.{List, map}
 use mathlib.Core.Path.{_≡_}
 use Prim.Native.Nat.{ℕ, suc, _+_, _-_, _*_, _/_, _^_, _≤_, _<_}
-use lib.ListN.{length, getD}
-use Rattle.rules.specs.Limits.{Letter-BASES, Record-SIZE, Record-COMPONENT, Record-PLACE, SequenceSet-LETTERS, Template-GAP}
-use Rattle.rules.specs.Lists.{run}
-use Rattle.rules.specs.Saved.{record-at, field, component-count}
+use lib.ListN.{length, take, drop, getD}
+use Rattle.rules.specs.Limits.{Letter-SYMBOLS, Profile-MIXED, Record-SIZE, Record-COMPONENT, Record-PLACE, SequenceSet-LETTERS, Template-GAP}
+use Rattle.rules.specs.Lists.{run, sum}
+use Rattle.rules.specs.Motif.{spell}
+use Rattle.rules.specs.Profile.{base-of, several}
+use Rattle.rules.specs.Saved.{record-at, field, component-count, read-profile}
 use Rattle.rules.specs.Support.{support, parts}
 use Rattle.rules.specs.Template.{none, components, size}
 use Rattle.rules.specs.Told.{Verdict, fine, refused}
 use Rattle.rules.specs.Walk.{place}
 use Rattle.rules.specs.declared.Component.{Component}
 use Rattle.rules.specs.declared.Place.{Place}
+use Rattle.rules.specs.declared.Profile as declared
+use Rattle.rules.specs.declared.Profile.the-variants.{Exact, Mixed}
 use Rattle.rules.specs.declared.Template.{Template}
 
 -- THE ORDER. The first check of a list that applies tells number n and place p; all before it are fine
@@ -81,19 +85,25 @@ WrongKind bs i =
     ((byte bs i 0 ≡ Record-COMPONENT → ⊥) ⊎ (byte bs i 1 ≡ i → ⊥))
     (byte bs i 0 ≡ Record-PLACE → ⊥)
 
--- a byte of it that must be 0, since the paper does not name it, is not
+-- a byte of it that must be 0, since the papers do not name it, is not; nor is byte 12 of the size record 0 or 1, or byte 3 of a
+-- component's 0 in an exact search
 abbrev pub NotBlank : List ℕ → ℕ → Type 0
-NotBlank bs i = OfRecord (component-count bs) i (NotZero bs i 12 15) (NotZero bs i 3 3 ⊎ NotZero bs i 8 15) (NotZero bs i 2 7)
+NotBlank bs i =
+    OfRecord (component-count bs) i
+    ((Profile-MIXED < byte bs i 12) ⊎ NotZero bs i 13 15)
+    (((read-profile bs ≡ Exact) × NotZero bs i 3 3) ⊎ NotZero bs i 8 15)
+    (NotZero bs i 2 7)
 
--- a record keeps its layout: its kind, a component's number, and 0 in the bytes that the paper does not name
+-- a record keeps its layout: its kind, a component's number, and 0 in the bytes that the papers do not name
 pub record SizeLaid (bs : List ℕ) : Type 0 where
   pub kind : byte bs 0 0 ≡ Record-SIZE
-  pub blank : Blank bs 0 12 15
+  pub profile : byte bs 0 12 ≤ Profile-MIXED
+  pub blank : Blank bs 0 13 15
 
 pub record ComponentLaid (bs : List ℕ) (i : ℕ) : Type 0 where
   pub kind : byte bs i 0 ≡ Record-COMPONENT
   pub component : byte bs i 1 ≡ i
-  pub blank : Blank bs i 3 3
+  pub blank : read-profile bs ≡ Exact → Blank bs i 3 3
   pub rest : Blank bs i 8 15
 
 pub record PlaceLaid (bs : List ℕ) (i : ℕ) : Type 0 where
@@ -117,21 +127,36 @@ saved-lengths bs = map (λ i. byte bs i 2) (run 1 (component-count bs))
 abbrev pub saved-place : List ℕ → Place
 saved-place bs = let i = suc (component-count bs) in place (byte bs i 1) (field (record-at bs i) 8 8)
 
--- the place rule: place is 0 to K, and the number lies below 4 to the power of the place
-pub record PlaceRule (k : ℕ) (p : Place) : Type 0 where
-  pub most : p .letters ≤ k
-  pub below : p .number < Letter-BASES ^ p .letters
+-- THE LETTERS of a motif or of a prefix. Those of component i, from 0, among the letters w
+abbrev pub letters-in : Template → ℕ → List ℕ → List ℕ
+letters-in t i w = take ((getD (components t) i none) .length) (drop (sum (map (λ c. c .length) (take i (components t)))) w)
+
+-- what a kind of search asks of a component's letters: an exact one nothing, a mixed one that each is one of the fourteen, and that no
+-- more than its allowance stand for several bases
+abbrev pub Allows : declared.Profile → Component → List ℕ → Type 0
+Allows Exact c w = Unit {0}
+Allows Mixed c w = ((i : ℕ) → i < length w → getD w i 0 < Letter-SYMBOLS) × (several w ≤ c .allowance)
+
+-- m is the number of j letters that the template allows: it lies below 4, or in a mixed search 16, to the power of j
+pub record Spells (t : Template) (j m : ℕ) : Type 0 where
+  pub below : m < base-of t ^ j
+  pub each : (i : ℕ) → i < length (components t) → Allows (t .profile) (getD (components t) i none) (letters-in t i (spell (base-of t) j m))
+
+-- the place rule: place is 0 to K, and the number is that of so many letters
+pub record PlaceRule (t : Template) (p : Place) : Type 0 where
+  pub most : p .letters ≤ size t
+  pub spells : Spells t (p .letters) (p .number)
 
 -- CANDIDATES. A prefix of j letters is frequent if its support is at least the quorum; the empty one counts as frequent
 abbrev pub Frequent : Template → ℕ → List (List ℕ) → ℕ → ℕ → Type 0
 Frequent t quorum ss j m = (j ≡ 0) ⊎ (quorum ≤ support (parts t j m) ss)
 
--- a candidate is a prefix of 1 to K letters whose prefix one letter shorter is frequent
+-- a candidate is a prefix of 1 to K letters that are allowed, whose prefix one letter shorter is frequent
 pub record CandidateIn (t : Template) (quorum : ℕ) (ss : List (List ℕ)) (p : Place) : Type 0 where
   pub some : 1 ≤ p .letters
   pub most : p .letters ≤ size t
-  pub below : p .number < Letter-BASES ^ p .letters
-  pub shorter : Frequent t quorum ss (p .letters - 1) (p .number / Letter-BASES)
+  pub spells : Spells t (p .letters) (p .number)
+  pub shorter : Frequent t quorum ss (p .letters - 1) (p .number / base-of t)
 
 -- A JOIN'S LIST: two positions do not rise, or one lies outside 1 to 65,536
 abbrev pub NotRising : List ℕ → Type 0

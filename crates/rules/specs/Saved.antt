@@ -5,13 +5,16 @@ use mathlib.Core.List.{List, [], _∷_, _++_, map}
 use Prim.Native.Nat.{ℕ, zero, suc, _+_, _-_, _*_, _/_, _%_}
 use lib.Dec.{eqb, leb}
 use lib.ListN.{length, take, drop, getD, replicate}
-use Rattle.rules.specs.Limits.{Record-BYTES, Record-SIZE, Record-COMPONENT, Record-PLACE, Record-EXTRA}
+use Rattle.rules.specs.Limits.{Profile-MIXED, Record-BYTES, Record-SIZE, Record-COMPONENT, Record-PLACE, Record-EXTRA}
 use Rattle.rules.specs.Lists.{if, all?, joined, run}
+use Rattle.rules.specs.Profile.{profile-number, numbered-profile}
 use Rattle.rules.specs.Support.{valid}
-use Rattle.rules.specs.Template.{component, components, kept, size}
+use Rattle.rules.specs.Template.{component, allowing, allowance-in, components, kept, size}
 use Rattle.rules.specs.Walk.{place}
 use Rattle.rules.specs.declared.Component.{Component}
 use Rattle.rules.specs.declared.Place.{Place}
+use Rattle.rules.specs.declared.Profile as declared
+use Rattle.rules.specs.declared.Profile.the-variants.{Exact, Mixed}
 use Rattle.rules.specs.declared.Search.{Search}
 use Rattle.rules.specs.declared.Template.{Template}
 
@@ -28,21 +31,21 @@ read-low (suc n) bs = getD bs 0 0 + 256 * read-low n (drop 1 bs)
 unfoldable pub size-record : Search → List ℕ
 size-record s =
     Record-SIZE ∷ (s .template .count + Record-EXTRA) ∷ low-first 2 (s .quorum) ++ low-first 2 (s .set .sequences)
-    ++ low-first 2 (size (s .template)) ++ low-first 4 (s .set .letters) ++ replicate 4 0
+    ++ low-first 2 (size (s .template)) ++ low-first 4 (s .set .letters) ++ (profile-number (s .template .profile) ∷ replicate 3 0)
 
-unfoldable pub component-record : ℕ → Component → List ℕ
-component-record i c = Record-COMPONENT ∷ i ∷ c .length ∷ 0 ∷ low-first 2 (c .low) ++ low-first 2 (c .high) ++ replicate 8 0
+unfoldable pub component-record : declared.Profile → ℕ → Component → List ℕ
+component-record p i c = Record-COMPONENT ∷ i ∷ c .length ∷ allowance-in p c ∷ low-first 2 (c .low) ++ low-first 2 (c .high) ++ replicate 8 0
 
 unfoldable pub place-record : Place → List ℕ
 place-record p = Record-PLACE ∷ p .letters ∷ replicate 6 0 ++ low-first 8 (p .number)
 
 -- a record for each component, numbered from i
-unfoldable pub component-records : ℕ → List Component → List (List ℕ)
-component-records i [] = []
-component-records i (c ∷ cs) = component-record i c ∷ component-records (suc i) cs
+unfoldable pub component-records : declared.Profile → ℕ → List Component → List (List ℕ)
+component-records p i [] = []
+component-records p i (c ∷ cs) = component-record p i c ∷ component-records p (suc i) cs
 
 unfoldable pub records : Search → List (List ℕ)
-records s = size-record s ∷ component-records 1 (components (s .template)) ++ (place-record (s .place) ∷ [])
+records s = size-record s ∷ component-records (s .template .profile) 1 (components (s .template)) ++ (place-record (s .place) ∷ [])
 
 -- a search as it is saved
 unfoldable pub bytes : Search → List ℕ
@@ -62,23 +65,29 @@ record-count bs = getD bs 1 0
 unfoldable pub component-count : List ℕ → ℕ
 component-count bs = record-count bs - Record-EXTRA
 
+-- the kind of search that the size record tells
+unfoldable pub read-profile : List ℕ → declared.Profile
+read-profile bs = numbered-profile (field (record-at bs 0) 12 1)
+
 unfoldable pub read-component : List ℕ → Component
-read-component r = component (field r 2 1) (field r 4 2) (field r 6 2)
+read-component r = allowing (field r 3 1) (component (field r 2 1) (field r 4 2) (field r 6 2))
 
 unfoldable pub read-place : List ℕ → Place
 read-place r = place (field r 1 1) (field r 8 8)
 
 unfoldable pub read-template : List ℕ → Template
 read-template bs =
+    let p = read-profile bs in
     let n = component-count bs in
     record {
+      profile = p;
       count = n;
-      c1 = kept n 1 (read-component (record-at bs 1));
-      c2 = kept n 2 (read-component (record-at bs 2));
-      c3 = kept n 3 (read-component (record-at bs 3));
-      c4 = kept n 4 (read-component (record-at bs 4));
-      c5 = kept n 5 (read-component (record-at bs 5));
-      c6 = kept n 6 (read-component (record-at bs 6));
+      c1 = kept p n 1 (read-component (record-at bs 1));
+      c2 = kept p n 2 (read-component (record-at bs 2));
+      c3 = kept p n 3 (read-component (record-at bs 3));
+      c4 = kept p n 4 (read-component (record-at bs 4));
+      c5 = kept p n 5 (read-component (record-at bs 5));
+      c6 = kept p n 6 (read-component (record-at bs 6));
     }
 
 -- the search that bytes hold, whatever they are
@@ -109,12 +118,17 @@ component-kind? i r = eqb (field r 0 1) Record-COMPONENT && eqb (field r 1 1) i
 unfoldable pub place-kind? : List ℕ → Bool
 place-kind? r = eqb (field r 0 1) Record-PLACE
 
--- and 0 in the bytes that the paper does not name
+-- and 0 in the bytes that the papers do not name. The size record's byte 12 is the number of a kind of search; a component's byte 3 is its
+-- allowance, and 0 in a kind of search that has none
 unfoldable pub size-blank? : List ℕ → Bool
-size-blank? r = blank? r 12 4
+size-blank? r = leb (field r 12 1) Profile-MIXED && blank? r 13 3
 
-unfoldable pub component-blank? : List ℕ → Bool
-component-blank? r = blank? r 3 1 && blank? r 8 8
+abbrev pub allowance-blank? : declared.Profile → List ℕ → Bool
+allowance-blank? Exact r = blank? r 3 1
+allowance-blank? Mixed r = true
+
+unfoldable pub component-blank? : declared.Profile → List ℕ → Bool
+component-blank? p r = allowance-blank? p r && blank? r 8 8
 
 unfoldable pub place-blank? : List ℕ → Bool
 place-blank? r = blank? r 2 6
@@ -123,8 +137,8 @@ place-blank? r = blank? r 2 6
 unfoldable pub size-record? : List ℕ → Bool
 size-record? r = size-kind? r && size-blank? r
 
-unfoldable pub component-record? : ℕ → List ℕ → Bool
-component-record? i r = component-kind? i r && component-blank? r
+unfoldable pub component-record? : declared.Profile → ℕ → List ℕ → Bool
+component-record? p i r = component-kind? i r && component-blank? p r
 
 unfoldable pub place-record? : List ℕ → Bool
 place-record? r = place-kind? r && place-blank? r
@@ -132,9 +146,9 @@ place-record? r = place-kind? r && place-blank? r
 -- the n component records from record i on
 unfoldable pub component-records? : List ℕ → ℕ → ℕ → Bool
 component-records? bs i zero = true
-component-records? bs i (suc n) = component-record? i (record-at bs i) && component-records? bs (suc i) n
+component-records? bs i (suc n) = component-record? (read-profile bs) i (record-at bs i) && component-records? bs (suc i) n
 
--- the place rule: a place is 0 to K, and the number lies below 4 (the base) to the power of the place, of letters that are allowed
+-- the place rule: a place is 0 to K, and the number lies below the base, 4 or 16, to the power of the place, of letters that are allowed
 unfoldable pub place-rule? : Template → Place → Bool
 place-rule? t p = leb (p .letters) (size t) && valid t (p .letters) (p .number)
 
@@ -160,6 +174,6 @@ by-record n i size component place = if (eqb i 0) size (if (leb i n) component p
 unfoldable pub kind? : ℕ → ℕ → List ℕ → Bool
 kind? n i r = by-record n i (size-kind? r) (component-kind? i r) (place-kind? r)
 
--- its bytes that the paper does not name are 0
-unfoldable pub unnamed-blank? : ℕ → ℕ → List ℕ → Bool
-unnamed-blank? n i r = by-record n i (size-blank? r) (component-blank? r) (place-blank? r)
+-- its bytes that the papers do not name are 0
+unfoldable pub unnamed-blank? : declared.Profile → ℕ → ℕ → List ℕ → Bool
+unnamed-blank? p n i r = by-record n i (size-blank? r) (component-blank? p r) (place-blank? r)

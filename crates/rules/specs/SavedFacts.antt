@@ -1,5 +1,5 @@
--- Small facts of damaged saves: what the definitions compute beside what request 2 says of the save of the paper's p9 (E, quorum 2,
--- after 4 steps) with bytes of it changed.
+-- Small facts of damaged saves, and of those of either kind of search: what the definitions compute beside what requests 2 and 5 say of
+-- the save of the paper's p9 (E, quorum 2, after 4 steps) with bytes of it changed.
 use mathlib.Core.List.{List, [], _∷_, _++_, map}
 use mathlib.Core.Path.{_≡_, refl}
 use Prim.Native.Nat.{ℕ, _+_, _*_}
@@ -7,16 +7,20 @@ use lib.ListN.{take, replicate}
 use Rattle.rules.specs.Calls.{moved, restore-rule, save-rule}
 use Rattle.rules.specs.Facts.{Fact, is, letters, lengths, pair}
 use Rattle.rules.specs.Letters.{value, letter?}
-use Rattle.rules.specs.Lists.{run, all?, sum, joined, put, put-at}
+use Rattle.rules.specs.Lists.{run, keep, each, all?, some?, member?, sum, joined, put, put-at}
 use Rattle.rules.specs.Motif.{spell}
-use Rattle.rules.specs.Profile.{allowed, exactly, profile-of}
-use Rattle.rules.specs.Refusals.{_else_, first, first-bad, check1, check2, check3, check4, check5, check6, check7, check8, check9, check10, check11, check12, check13, check17, check21, check22, check23, restore-checks, search-checks, save-checks}
-use Rattle.rules.specs.Saved.{low-first, read-low, size-record, component-record, place-record, component-records, records, bytes, record-at, field, record-count, component-count, read-component, read-place, read-template, read-search, sized?, blank?, size-kind?, component-kind?, place-kind?, size-blank?, component-blank?, place-blank?, saved-records, kind?, unnamed-blank?, sums?, place-rule?}
-use Rattle.rules.specs.Support.{allowed-in}
-use Rattle.rules.specs.Template.{components, size}
+use Rattle.rules.specs.Occurrence.{front-by, stands-by, reach, starts, occurrences}
+use Rattle.rules.specs.Profile.{allowed, to-come, exactly, bases, stands-for, several, within, mixed, profile-by}
+use Rattle.rules.specs.Refusals.{_else_, first, first-bad, check1, check2, check3, check4, check5, check6, check7, check8, check9, check10, check11, check12, passes?, check13, check17, check21, check22, check23, check24, restore-checks, search-checks, save-checks}
+use Rattle.rules.specs.Saved.{low-first, read-low, size-record, component-record, place-record, component-records, records, bytes, record-at, field, record-count, component-count, read-profile, read-component, read-place, read-template, read-search, sized?, blank?, size-kind?, component-kind?, place-kind?, size-blank?, component-blank?, place-blank?, saved-records, kind?, unnamed-blank?, sums?, place-rule?}
+use Rattle.rules.specs.Sequences.{split, sequences}
+use Rattle.rules.specs.Support.{marks, support, allowed-in, parts-in, measure, reaches}
+use Rattle.rules.specs.Template.{allowing, components, size, deal}
 use Rattle.rules.specs.Told.{Told, gives, refuses}
-use Rattle.rules.specs.Walk.{place}
+use Rattle.rules.specs.Walk.{place, walk-in, spelled, candidate}
 use Rattle.rules.specs.declared.Place.{Place}
+use Rattle.rules.specs.declared.Profile.{Profile}
+use Rattle.rules.specs.declared.Profile.the-variants.{Exact, Mixed}
 use Rattle.rules.specs.declared.Search.{Search}
 
 -- the save: the size record, a record for each of the two components, and the place record, which are its records 0 to 3
@@ -48,10 +52,20 @@ search = record { template = pair; quorum = 2; set = record { sequences = 3; let
 counting : ℕ → Place → Search
 counting n p =
     record {
-      template = record { count = n; c1 = pair .c1; c2 = pair .c2; c3 = pair .c3; c4 = pair .c4; c5 = pair .c5; c6 = pair .c6 };
+      template = record { profile = pair .profile; count = n; c1 = pair .c1; c2 = pair .c2; c3 = pair .c3; c4 = pair .c4; c5 = pair .c5; c6 = pair .c6 };
       quorum = search .quorum;
       set = search .set;
       place = p;
+    }
+
+-- or of a kind of search, with an allowance of one letter in the second component
+allowing-one : Profile → Place → Search
+allowing-one p at =
+    record {
+      template = record { profile = p; count = 2; c1 = pair .c1; c2 = allowing 1 (pair .c2); c3 = pair .c3; c4 = pair .c4; c5 = pair .c5; c6 = pair .c6 };
+      quorum = search .quorum;
+      set = search .set;
+      place = at;
     }
 
 told-of-save : Search → List ℕ
@@ -108,6 +122,42 @@ several-changed =
     ∷ is (told-of-save (counting 3 (place 2 3))) (6 ∷ 3 ∷ [])
     ∷ []
 
-the-facts : map (λ f. f .computed) (one-changed ++ several-changed) ≡ map (λ f. f .paper) (one-changed ++ several-changed)
-unfolding one-changed several-changed saved with-byte told search counting told-of-save letters lengths pair value letter? run all? sum joined put put-at spell allowed exactly profile-of _else_ first first-bad check1 check2 check3 check4 check5 check6 check7 check8 check9 check10 check11 check12 check13 check17 check21 check22 check23 restore-checks search-checks save-checks low-first read-low size-record component-record place-record component-records records bytes record-at field record-count component-count read-component read-place read-template read-search sized? blank? size-kind? component-kind? place-kind? size-blank? component-blank? place-blank? saved-records kind? unnamed-blank? sums? place-rule? allowed-in components size restore-rule save-rule
+-- KINDS OF SEARCH. With its byte 12 at 1 the save is that of a mixed search, where byte 3 of a component's record is its allowance; here
+-- the second component may have one letter that stands for several bases
+mixed-saved : List ℕ
+mixed-saved = with-byte 0 12 1 (with-byte 2 3 1 saved)
+
+of-kinds : List Fact
+of-kinds =
+    -- a search so saved is mixed; of an exact one the allowance is not saved
+    is (bytes (allowing-one Mixed (place 2 3))) mixed-saved
+    ∷ is (bytes (allowing-one Exact (place 2 3))) saved
+    -- it restores, at AT; and at AR and CA, whose numbers are 4 and 16
+    ∷ is (told mixed-saved) (2 ∷ 3 ∷ [])
+    ∷ is (told (with-byte 3 8 4 mixed-saved)) (2 ∷ 4 ∷ [])
+    ∷ is (told (with-byte 3 8 16 mixed-saved)) (2 ∷ 16 ∷ [])
+    -- 21: byte 12 is neither 0 nor 1, a byte after it is not 0, an exact search has an allowance
+    ∷ is (told (with-byte 0 12 2 saved)) (21 ∷ 0 ∷ [])
+    ∷ is (told (with-byte 0 13 1 saved)) (21 ∷ 0 ∷ [])
+    ∷ is (told (with-byte 0 13 1 mixed-saved)) (21 ∷ 0 ∷ [])
+    ∷ is (told (with-byte 2 3 1 saved)) (21 ∷ 2 ∷ [])
+    -- 23: a digit of 14 or 15, the number 259 of 2 letters, and RA, whose R the first component does not allow
+    ∷ is (told (with-byte 3 8 14 mixed-saved)) (23 ∷ 3 ∷ [])
+    ∷ is (told (with-byte 3 8 15 mixed-saved)) (23 ∷ 3 ∷ [])
+    ∷ is (told (with-byte 3 9 1 mixed-saved)) (23 ∷ 3 ∷ [])
+    ∷ is (told (with-byte 3 8 64 mixed-saved)) (23 ∷ 3 ∷ [])
+    ∷ is (told-of-save (allowing-one Mixed (place 2 14))) (23 ∷ 3 ∷ [])
+    ∷ is (told-of-save (allowing-one Mixed (place 2 64))) (23 ∷ 3 ∷ [])
+    -- 24: an allowance of 2 for one letter. It comes after 8 and before 12
+    ∷ is (told (with-byte 2 3 2 mixed-saved)) (24 ∷ 0 ∷ [])
+    ∷ is (told (with-byte 2 7 1 (with-byte 2 3 2 mixed-saved))) (8 ∷ 2 ∷ [])
+    ∷ is (told (with-byte 0 4 4 (with-byte 2 3 2 mixed-saved))) (24 ∷ 0 ∷ [])
+    -- 7 reads 16: lengths of 12 and 4, or 12 and 5, which an exact search takes
+    ∷ is (told (with-byte 1 2 12 (with-byte 2 2 4 (with-byte 0 6 16 mixed-saved)))) (2 ∷ 3 ∷ [])
+    ∷ is (told (with-byte 1 2 12 (with-byte 2 2 5 (with-byte 0 6 17 mixed-saved)))) (7 ∷ 0 ∷ [])
+    ∷ is (told (with-byte 1 2 12 (with-byte 2 2 5 (with-byte 0 6 17 saved)))) (2 ∷ 3 ∷ [])
+    ∷ []
+
+the-facts : map (λ f. f .computed) (one-changed ++ several-changed ++ of-kinds) ≡ map (λ f. f .paper) (one-changed ++ several-changed ++ of-kinds)
+unfolding one-changed several-changed of-kinds saved mixed-saved with-byte told search counting allowing-one told-of-save letters lengths pair value letter? run keep each all? some? member? sum joined put put-at split sequences spell front-by stands-by reach starts occurrences marks support allowed to-come exactly bases stands-for several within mixed profile-by parts-in measure reaches walk-in spelled candidate deal _else_ first first-bad check1 check2 check3 check4 check5 check6 check7 check8 check9 check10 check11 check12 passes? check13 check17 check21 check22 check23 check24 restore-checks search-checks save-checks low-first read-low size-record component-record place-record component-records records bytes record-at field record-count component-count read-profile read-component read-place read-template read-search sized? blank? size-kind? component-kind? place-kind? size-blank? component-blank? place-blank? saved-records kind? unnamed-blank? sums? place-rule? allowed-in components size restore-rule save-rule
 the-facts = refl

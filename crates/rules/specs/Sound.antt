@@ -9,7 +9,7 @@ use Rattle.rules.specs.Letters.{letter?}
 use Rattle.rules.specs.Limits.{Template-COMPONENTS, Template-LENGTH, Template-LETTERS, Template-GAP, SequenceSet-SEQUENCES, SequenceSet-LETTERS}
 use Rattle.rules.specs.Lists.{sum}
 use Rattle.rules.specs.Profile.{profile-of}
-use Rattle.rules.specs.Template.{slots, none, size}
+use Rattle.rules.specs.Template.{allowance-in, slots, none, size}
 use Rattle.rules.specs.declared.Component.{Component}
 use Rattle.rules.specs.declared.Template.{Template}
 
@@ -28,7 +28,7 @@ pub record SoundComponent (c : Component) : Type 0 where
   pub ordered : c .low ≤ c .high
   pub near : c .high ≤ Template-GAP
 
--- 5 to 8 pass
+-- 5 to 8 and 24 pass
 pub record SoundTemplate (t : Template) : Type 0 where
   pub some : 1 ≤ t .count
   pub few : t .count ≤ Template-COMPONENTS
@@ -36,5 +36,6 @@ pub record SoundTemplate (t : Template) : Type 0 where
   pub deep : size t ≤ Template-LETTERS
   pub short : size t ≤ profile-of t .most
   pub each : (i : ℕ) → i < t .count → SoundComponent (getD (slots t) i none)
+  pub within : (i : ℕ) → i < t .count → allowance-in (t .profile) (getD (slots t) i none) ≤ (getD (slots t) i none) .length
   pub low : t .c1 .low ≡ 0
   pub high : t .c1 .high ≡ 0

@@ -6,10 +6,16 @@ use lib.Dec.{leb, eqb}
 use lib.ListN.{length, take, drop}
 use Rattle.rules.specs.Lists.{if, sum}
 use Rattle.rules.specs.declared.Component.{Component}
+use Rattle.rules.specs.declared.Profile as declared
+use Rattle.rules.specs.declared.Profile.the-variants.{Exact, Mixed}
 use Rattle.rules.specs.declared.Template.{Template}
 
+-- a component of n letters after a gap of l to u, and one that allows so many letters that stand for several bases
 abbrev pub component : ℕ → ℕ → ℕ → Component
-component n l u = record { length = n; low = l; high = u }
+component n l u = record { length = n; low = l; high = u; allowance = 0 }
+
+abbrev pub allowing : ℕ → Component → Component
+allowing a c = record { length = c .length; low = c .low; high = c .high; allowance = a }
 
 -- what stands in a slot past the last component
 abbrev pub none : Component
@@ -26,19 +32,25 @@ components t = take (t .count) (slots t)
 unfoldable pub size : Template → ℕ
 size t = sum (map (λ c. c .length) (components t))
 
--- a template with nothing in the slots that it does not count
-abbrev pub kept : ℕ → ℕ → Component → Component
-kept n i c = if (leb i n) c none
+-- the allowance of a component, by the kind of search: an exact one has none, whatever stands there
+abbrev pub allowance-in : declared.Profile → Component → ℕ
+allowance-in Exact c = 0
+allowance-in Mixed c = c .allowance
+
+-- a template with nothing in what it does not use: the slots that it does not count, and in an exact search the allowances
+abbrev pub kept : declared.Profile → ℕ → ℕ → Component → Component
+kept p n i c = if (leb i n) (allowing (allowance-in p c) c) none
 
 unfoldable pub trimmed : Template → Template
 trimmed t = record {
+  profile = t .profile;
   count = t .count;
-  c1 = kept (t .count) 1 (t .c1);
-  c2 = kept (t .count) 2 (t .c2);
-  c3 = kept (t .count) 3 (t .c3);
-  c4 = kept (t .count) 4 (t .c4);
-  c5 = kept (t .count) 5 (t .c5);
-  c6 = kept (t .count) 6 (t .c6);
+  c1 = kept (t .profile) (t .count) 1 (t .c1);
+  c2 = kept (t .profile) (t .count) 2 (t .c2);
+  c3 = kept (t .profile) (t .count) 3 (t .c3);
+  c4 = kept (t .profile) (t .count) 4 (t .c4);
+  c5 = kept (t .profile) (t .count) 5 (t .c5);
+  c6 = kept (t .profile) (t .count) 6 (t .c6);
 }
 
 -- a component of a motif: how far its start may lie from the start of the one before, at least and at most; its letters; which

@@ -7,10 +7,9 @@ use lib.Dec.{eqb, leb, ltb}
 use lib.ListN.{length, take, drop, getD, replicate}
 use Rattle.rules.specs.Calls.{begin-rule}
 use Rattle.rules.specs.Letters.{letter}
-use Rattle.rules.specs.Limits.{Text-BYTES, Text-GAP-DIGITS, Text-QUORUM-DIGITS}
+use Rattle.rules.specs.Limits.{Letter-BASES, Text-BYTES, Text-GAP-DIGITS, Text-QUORUM-DIGITS}
 use Rattle.rules.specs.Lists.{if, all?, each, joined, some?, sum}
 use Rattle.rules.specs.Motif.{number, spell}
-use Rattle.rules.specs.Profile.{base-of}
 use Rattle.rules.specs.Refusals.{first}
 use Rattle.rules.specs.Sequences.{sequences}
 use Rattle.rules.specs.Support.{support, weight, parts}
@@ -18,6 +17,7 @@ use Rattle.rules.specs.Template.{component, none, components, size}
 use Rattle.rules.specs.Told.{Verdict, fine, refused, Told, gives, refuses}
 use Rattle.rules.specs.Walk.{Walk, walk-over, from, start, listed}
 use Rattle.rules.specs.declared.Component.{Component}
+use Rattle.rules.specs.declared.Profile.the-variants.{Exact}
 use Rattle.rules.specs.declared.Search.{Search}
 use Rattle.rules.specs.declared.Template.{Template}
 
@@ -102,6 +102,7 @@ parse-components line = parse-pieces (pieces 91 line)
 unfoldable pub template-of : List Component → Template
 template-of cs =
     record {
+      profile = Exact;
       count = length cs;
       c1 = getD cs 0 none;
       c2 = getD cs 1 none;
@@ -185,9 +186,9 @@ shape (c ∷ cs) text = take (c .length) text ++ shape-rest cs (drop (c .length)
 unfoldable pub template-text : List Component → List ℕ
 template-text cs = shape cs (replicate (sum (map (λ c. c .length) cs)) 78)
 
--- a motif in the template's shape
+-- a motif in the template's shape. The program's searches are exact
 unfoldable pub print-motif : Template → ℕ → List ℕ
-print-motif t m = shape (components t) (map letter (spell (base-of t) (size t) m))
+print-motif t m = shape (components t) (map letter (spell Letter-BASES (size t) m))
 
 -- a row: the motif, its support and its weighted support
 unfoldable pub print-row : List (List ℕ) → Template → ℕ → List ℕ

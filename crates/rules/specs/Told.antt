@@ -17,7 +17,7 @@ use Rattle.rules.specs.declared.LegAnswer.the-variants as answer
 use Rattle.rules.specs.declared.Recovered.{Recovered}
 use Rattle.rules.specs.declared.Recovered.the-variants as recovered
 use Rattle.rules.specs.declared.Refusal.{Refusal}
-use Rattle.rules.specs.declared.Refusal.the-variants.{SequenceCount, LetterCount, LengthSum, NotALetter, ComponentCount, ComponentLength, MotifLength, GapRange, Quorum, SavedSize, SavedKind, OtherSet, NotACandidate, MotifNumber, FirstRow, JoinList, Room, TextLine, SavedBlank, SavedSum, PlaceRule}
+use Rattle.rules.specs.declared.Refusal.the-variants.{SequenceCount, LetterCount, LengthSum, NotALetter, ComponentCount, ComponentLength, MotifLength, GapRange, Quorum, SavedSize, SavedKind, OtherSet, NotACandidate, MotifNumber, FirstRow, JoinList, Room, TextLine, SavedBlank, SavedSum, PlaceRule, Allowance}
 use Rattle.rules.specs.declared.Saved.{Saved}
 use Rattle.rules.specs.declared.Saved.the-variants as saved
 use Rattle.rules.specs.declared.Search.{Search}
@@ -45,6 +45,7 @@ refusal-number (TextLine n) = 18
 refusal-number (SavedBlank i) = 21
 refusal-number SavedSum = 22
 refusal-number (PlaceRule i) = 23
+refusal-number Allowance = 24
 
 -- the place that it tells: the offset of the byte, the number of the component, of the line or of the saved record (K stands in
 -- record 0), and else 0
@@ -70,6 +71,7 @@ refusal-place (TextLine n) = n
 refusal-place (SavedBlank i) = i .0
 refusal-place SavedSum = 0
 refusal-place (PlaceRule i) = i .0
+refusal-place Allowance = 0
 
 -- the number and the place of a refusal of the FASTA reader: 4 tells the offset in the file
 abbrev pub file-refusal-number : FileRefusal → ℕ

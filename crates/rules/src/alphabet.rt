@@ -1,12 +1,14 @@
-// The letters: the value of each, by four comparisons, and back; and a motif spelled in their bytes.
-ghost use mathlib.Core.List.{map};
+// The letters: the value of each, by four comparisons, and back; and the bases that a mixed letter stands for.
 ghost use mathlib.Core.Path.{_≡_};
-ghost use lib.ListN.{length};
+ghost use Prim.Native.Nat.{_<_};
+ghost use lib.ListN.{getD};
 ghost use Rattle.rules.specs.Letters.{letter, letter?, value};
-ghost use Rattle.rules.specs.Limits.{Letter-BASES};
 ghost use Rattle.rules.specs.Lists.{if};
-ghost use Rattle.rules.specs.Motif.{spell};
+ghost use Rattle.rules.specs.Profile.{base-sets, has-base};
 use crate::Letter;
+
+// A C G T, R Y K M S W, B D H V.
+const SETS: [u8; Letter::SYMBOLS as usize] = [1, 2, 4, 8, 5, 10, 12, 3, 6, 9, 14, 13, 11, 7];
 
 // A value where a comparison holds, and otherwise the one so far. No way leads around a comparison, so that a loop can make it on
 // many bytes at a time.
@@ -58,16 +60,36 @@ impl Letter {
         }
     }
 
-    // Writes the last letters of a number as bytes, as many as there is room for.
-    pub fn spell(number: u64, word: &mut [u8])
-        ensures { λ _. ⌜ now (word .exit) ≡ map letter (spell Letter-BASES (length (now (word .entry))) number) ⌝ }
+    // THE MIXED LETTERS, in the order A C G T, R Y K M S W, B D H V: how many there are, and the base of a number that has them for digits.
+    pub const SYMBOLS: u64 = 14;
+
+    pub const DIGITS: u64 = 16;
+
+    // The bases that each stands for, by its place in that order: 1 for A, 2 for C, 4 for G, 8 for T, added. docs/ALPHABET.md has the
+    // table beside the definition `bases`.
+    pub fn base_sets() -> [u8; Letter::SYMBOLS as usize]
+        ensures { λ r. ⌜ r ≡ base-sets ⌝ }
     {
-        let mut rest = number;
-        let mut i = word.len();
-        while 0 < i {
-            i -= 1;
-            word[i] = Letter::byte(rest % Letter::BASES);
-            rest = rest / Letter::BASES;
+        SETS
+    }
+
+    // The bases that a letter stands for; none, if it is no letter's place in the order.
+    pub fn base_set(x: u64) -> u8
+        ensures { λ r. ⌜ r ≡ getD base-sets x 0 ⌝ }
+    {
+        let sets = Letter::base_sets();
+        if x < Letter::SYMBOLS {
+            sets[x as usize]
+        } else {
+            0
         }
+    }
+
+    // Whether such a set has the base with a value. A byte that is no letter has the mark for its value, and is in none.
+    pub fn has_base(set: u8, value: u8) -> bool
+        requires { ⌜ value < 8 ⌝ }
+        ensures { λ r. ⌜ r ≡ has-base set value ⌝ }
+    {
+        (set >> value) % 2 == 1
     }
 }

@@ -3,8 +3,10 @@ ghost use mathlib.Core.Path.{_≡_};
 ghost use Prim.Native.Nat.{_≤_};
 ghost use Rattle.rules.specs.Limits.{Template-COMPONENTS, Template-LENGTH};
 ghost use Rattle.rules.specs.Saved.{low-first, size-record, component-record, place-record};
+ghost use Rattle.rules.specs.Template.{allowance-in};
 use crate::Component;
 use crate::Place;
+use crate::Profile;
 use crate::Record;
 use crate::Search;
 
@@ -55,6 +57,8 @@ impl Record {
         let n = low_first(set.sequences as u64);
         let k = low_first(t.letters() as u64);
         let m = low_first(set.letters as u64);
+        let profile = t.profile;
+        let kind = profile.number();
         let bytes = [
             Record::SIZE,
             count + Record::EXTRA,
@@ -68,7 +72,7 @@ impl Record {
             m[1],
             m[2],
             m[3],
-            0,
+            kind,
             0,
             0,
             0,
@@ -77,18 +81,19 @@ impl Record {
     }
 
     // The record of component i.
-    pub fn of_component(i: u8, c: Component) -> Record
-        requires { ⌜ c .length ≤ Template-LENGTH ⌝ }
-        ensures { λ r. ⌜ r .bytes ≡ component-record i c ⌝ }
+    pub fn of_component(profile: Profile, i: u8, c: Component) -> Record
+        requires { ⌜ (c .length ≤ Template-LENGTH) × (allowance-in profile c ≤ Template-LENGTH) ⌝ }
+        ensures { λ r. ⌜ r .bytes ≡ component-record profile i c ⌝ }
     {
         let length = c.length as u8;
+        let allowance = c.allowance_in(profile) as u8;
         let l = low_first(c.low as u64);
         let u = low_first(c.high as u64);
         let bytes = [
             Record::COMPONENT,
             i,
             length,
-            0,
+            allowance,
             l[0],
             l[1],
             u[0],

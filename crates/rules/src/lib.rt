@@ -1,13 +1,14 @@
 // The paper's types, with their limits and constructors. An inner crate: what it defines stands in specs/, and the laws
 // about that in proofs/.
 mod alphabet;
+mod kinds;
 mod layout;
 mod refusals;
 mod shape;
 
 ghost use mathlib.Core.Path.{_≡_};
 ghost use Prim.Native.Nat.{min};
-ghost use Rattle.rules.specs.Limits.{Letter-BASES, Letter-BITS, Letter-MARK, Template-COMPONENTS, Template-LENGTH, Template-LETTERS, Template-GAP, SequenceSet-SEQUENCES, SequenceSet-LETTERS, Record-BYTES, Record-SIZE, Record-COMPONENT, Record-PLACE, Record-EXTRA, Text-BYTES, Text-GAP-DIGITS, Text-QUORUM-DIGITS, Fasta-BYTES, Fasta-LENGTH};
+ghost use Rattle.rules.specs.Limits.{Letter-BASES, Letter-BITS, Letter-SYMBOLS, Letter-DIGITS, Letter-MARK, Profile-EXACT, Profile-MIXED, Template-COMPONENTS, Template-LENGTH, Template-LETTERS, Template-MIXED, Template-GAP, SequenceSet-SEQUENCES, SequenceSet-LETTERS, Record-BYTES, Record-SIZE, Record-COMPONENT, Record-PLACE, Record-EXTRA, Text-BYTES, Text-GAP-DIGITS, Text-QUORUM-DIGITS, Fasta-BYTES, Fasta-LENGTH};
 ghost use Rattle.rules.specs.Lists.{sign};
 
 // The three countings, each a type of its own, so that none can be taken for another.
@@ -25,18 +26,28 @@ pub struct FileOffset(pub usize);
 // comes after them.
 pub struct RecordNumber(pub u32);
 
-// The letters A, C, G, T: how many there are, the bits that a value takes, and the mark that every other byte has for a value.
+// The letters A, C, G, T of a sequence: how many there are, the bits that a value takes, and the mark that every other byte has for a value. And those of a motif: the
+// same, or in a mixed search fourteen, each of which stands for some of the four.
 pub struct Letter {}
 
-// A component of a template: its length, and the gap range before it.
+// The kind of search that a template asks for: over the letters A, C, G, T, or over mixed ones.
+pub enum Profile {
+    Exact,
+    Mixed,
+}
+
+// A component of a template: its length, the gap range before it, and in a mixed search how many of its letters may stand for several
+// bases. An exact search does not read that.
 pub struct Component {
     pub length: u16,
     pub low: u16,
     pub high: u16,
+    pub allowance: u16,
 }
 
-// A template: how many components there are, and a slot for each that there may be.
+// A template: the kind of search, how many components there are, and a slot for each that there may be.
 pub struct Template {
+    pub profile: Profile,
     pub count: u16,
     pub c1: Component,
     pub c2: Component,
@@ -92,7 +103,7 @@ impl Fasta {
     pub const LENGTH: usize = 4294967295;
 }
 
-// Why a call refuses, one name for each number from 1 to 18 and 21 to 23, with the place where one is told.
+// Why a call refuses, one name for each number from 1 to 18 and 21 to 24, with the place where one is told.
 pub enum Refusal {
     SequenceCount,
     LetterCount,
@@ -115,6 +126,7 @@ pub enum Refusal {
     SavedBlank(RecordNumber),
     SavedSum,
     PlaceRule(RecordNumber),
+    Allowance,
 }
 
 // What a check finds.
@@ -202,10 +214,15 @@ pub fn sign(x: u64) -> u8
 pub fn limits()
     ensures { λ r. do ⌜ (← ⟦Letter::BASES⟧ .entry) ≡ Letter-BASES ⌝ }
     ensures { λ r. do ⌜ (← ⟦Letter::BITS⟧ .entry) ≡ Letter-BITS ⌝ }
+    ensures { λ r. do ⌜ (← ⟦Letter::SYMBOLS⟧ .entry) ≡ Letter-SYMBOLS ⌝ }
+    ensures { λ r. do ⌜ (← ⟦Letter::DIGITS⟧ .entry) ≡ Letter-DIGITS ⌝ }
     ensures { λ r. do ⌜ (← ⟦Letter::MARK⟧ .entry) ≡ Letter-MARK ⌝ }
+    ensures { λ r. do ⌜ (← ⟦Profile::EXACT⟧ .entry) ≡ Profile-EXACT ⌝ }
+    ensures { λ r. do ⌜ (← ⟦Profile::MIXED⟧ .entry) ≡ Profile-MIXED ⌝ }
     ensures { λ r. do ⌜ (← ⟦Template::COMPONENTS⟧ .entry) ≡ Template-COMPONENTS ⌝ }
     ensures { λ r. do ⌜ (← ⟦Template::LENGTH⟧ .entry) ≡ Template-LENGTH ⌝ }
     ensures { λ r. do ⌜ (← ⟦Template::LETTERS⟧ .entry) ≡ Template-LETTERS ⌝ }
+    ensures { λ r. do ⌜ (← ⟦Template::MIXED⟧ .entry) ≡ Template-MIXED ⌝ }
     ensures { λ r. do ⌜ (← ⟦Template::GAP⟧ .entry) ≡ Template-GAP ⌝ }
     ensures { λ r. do ⌜ (← ⟦SequenceSet::SEQUENCES⟧ .entry) ≡ SequenceSet-SEQUENCES ⌝ }
     ensures { λ r. do ⌜ (← ⟦SequenceSet::LETTERS⟧ .entry) ≡ SequenceSet-LETTERS ⌝ }

@@ -34,6 +34,7 @@ impl Refusal {
             Refusal::SavedBlank(_) => 21,
             Refusal::SavedSum => 22,
             Refusal::PlaceRule(_) => 23,
+            Refusal::Allowance => 24,
         }
     }
 
@@ -63,6 +64,7 @@ impl Refusal {
             Refusal::SavedBlank(i) => i.0 as u64,
             Refusal::SavedSum => 0,
             Refusal::PlaceRule(i) => i.0 as u64,
+            Refusal::Allowance => 0,
         }
     }
 }

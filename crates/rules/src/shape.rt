@@ -2,10 +2,11 @@
 ghost use mathlib.Core.Path.{_≡_};
 ghost use Prim.Native.Nat.{min};
 ghost use Rattle.rules.specs.Limits.{Template-COMPONENTS};
-ghost use Rattle.rules.specs.Template.{slots, component, none, kept, trimmed, size};
+ghost use Rattle.rules.specs.Template.{slots, component, allowing, allowance-in, none, kept, trimmed, size};
 ghost use Rattle.rules.specs.Walk.{place, first-place, ended-place};
 use crate::Component;
 use crate::Place;
+use crate::Profile;
 use crate::SequenceSet;
 use crate::Template;
 
@@ -13,7 +14,24 @@ impl Component {
     pub fn new(length: u16, low: u16, high: u16) -> Component
         ensures { λ r. ⌜ r ≡ component length low high ⌝ }
     {
-        Component { length, low, high }
+        Component {
+            length,
+            low,
+            high,
+            allowance: 0,
+        }
+    }
+
+    // The same, with so many letters that may stand for several bases.
+    pub fn allowing(self, allowance: u16) -> Component
+        ensures { λ r. ⌜ r ≡ allowing allowance self ⌝ }
+    {
+        Component {
+            length: self.length,
+            low: self.low,
+            high: self.high,
+            allowance,
+        }
     }
 
     // What stands in a slot past the last component.
@@ -24,24 +42,38 @@ impl Component {
             length: 0,
             low: 0,
             high: 0,
+            allowance: 0,
         }
     }
 
-    // Component i of a template that counts n: itself, or nothing past the last.
-    pub fn keep(self, n: u16, i: u16) -> Component
-        ensures { λ r. ⌜ r ≡ kept n i self ⌝ }
+    // Its allowance, by the kind of search: an exact one has none, whatever stands there.
+    pub fn allowance_in(self, profile: Profile) -> u16
+        ensures { λ r. ⌜ r ≡ allowance-in profile self ⌝ }
     {
-        if i <= n { self } else { Component::none() }
+        match profile {
+            Profile::Exact => 0,
+            Profile::Mixed => self.allowance,
+        }
+    }
+
+    // Component i of a template that counts n, with what its kind of search uses of it; nothing past the last.
+    pub fn keep(self, profile: Profile, n: u16, i: u16) -> Component
+        ensures { λ r. ⌜ r ≡ kept profile n i self ⌝ }
+    {
+        let used = self.allowing(self.allowance_in(profile));
+        if i <= n { used } else { Component::none() }
     }
 }
 
 impl Template {
-    // The most components, letters of one, letters in all, and letters of a gap.
+    // The most components, letters of one, letters in all, those of a mixed motif, and letters of a gap.
     pub const COMPONENTS: u16 = 6;
 
     pub const LENGTH: u16 = 12;
 
     pub const LETTERS: u32 = 32;
+
+    pub const MIXED: u32 = 16;
 
     pub const GAP: u16 = 255;
 
@@ -70,19 +102,21 @@ impl Template {
         }
     }
 
-    // The same template, with nothing in the slots that it does not count.
+    // The same template, with nothing in what it does not use: the slots that it does not count, and in an exact search the allowances.
     pub fn trim(self) -> Template
         ensures { λ r. ⌜ r ≡ trimmed self ⌝ }
     {
+        let p = self.profile;
         let n = self.count;
         Template {
+            profile: p,
             count: n,
-            c1: self.c1.keep(n, 1),
-            c2: self.c2.keep(n, 2),
-            c3: self.c3.keep(n, 3),
-            c4: self.c4.keep(n, 4),
-            c5: self.c5.keep(n, 5),
-            c6: self.c6.keep(n, 6),
+            c1: self.c1.keep(p, n, 1),
+            c2: self.c2.keep(p, n, 2),
+            c3: self.c3.keep(p, n, 3),
+            c4: self.c4.keep(p, n, 4),
+            c5: self.c5.keep(p, n, 5),
+            c6: self.c6.keep(p, n, 6),
         }
     }
 

@@ -4,6 +4,7 @@ mod tell;
 
 use libc::STDOUT_FILENO;
 use rules::Component;
+use rules::Profile;
 use rules::SequenceSet;
 use rules::Template;
 
@@ -11,6 +12,7 @@ use rules::Template;
 fn template(count: u16, c1: Component, c2: Component, c3: Component) -> Template {
     let c = Component::new(1, 0, 0);
     Template {
+        profile: Profile::Exact,
         count,
         c1,
         c2,

@@ -6,7 +6,7 @@ use mathlib.Core.List.{List, [], _∷_, _++_}
 use Prim.Native.Nat.{ℕ}
 use lib.ListN.{length}
 use Rattle.rules.specs.Calls.{written-unless, on-refusal, save-rule}
-use Rattle.rules.specs.Refusals.{_else_, first, check5, check6, check7, check8, check13, check17, set-checks, search-checks, save-checks, restore-checks}
+use Rattle.rules.specs.Refusals.{_else_, first, check5, check6, check7, check8, check24, check13, check17, set-checks, search-checks, save-checks, restore-checks}
 use Rattle.rules.specs.Saved.{bytes, read-search, place-rule?}
 use Rattle.rules.specs.Sound.{SoundSet, SoundTemplate}
 use Rattle.rules.specs.Told.{Verdict, fine, refused, refuses}
@@ -47,7 +47,7 @@ module _ (letters lengths : List ℕ) where
         let c = none-of rest (h .1) in
         record {
           set = set-sound letters lengths (h .0);
-          template = template-sound t (all-fine (check5 t ∷ check6 t ∷ check7 t ∷ check8 t ∷ []) (c 1, (c 6, (c 7, (c 8, tt)))));
+          template = template-sound t (all-fine (check5 t ∷ check6 t ∷ check7 t ∷ check8 t ∷ check24 t ∷ []) (c 1, (c 6, (c 7, (c 8, (c 9, tt))))));
           place = check23-fine s .0 (c 5);
         }
 

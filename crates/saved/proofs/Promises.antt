@@ -32,7 +32,7 @@ module _ (letters lengths : List ℕ) where
         let w = written-gives (first (save-checks letters lengths s out)) (length (bytes s)) n (bytes s) out (sym (saves .0)) in
         (first-both (search-checks letters lengths s) (check17 (length (bytes s)) out ∷ []) .0 (w .0) .0, w .1, saves .1 ∙ w .2)
 
-    -- then `restore` of those n bytes, over the same sequences, answers the search, with nothing in the slots that it does not count
+    -- then `restore` of those n bytes, over the same sequences, answers the search, with nothing in what it does not use
     pub saved-restores : (b : Begun) → toldBegun b ≡ restore-rule letters lengths (take n after) → b ≡ begun.Search (trimmed-search s)
     unfolding put
     saved-restores b e =

@@ -12,6 +12,7 @@ ghost use Rattle.rules.specs.Saved.{read-search};
 ghost use Rattle.rules.specs.Told.{toldChecked, toldSaved, toldBegun};
 ghost use Rattle.saved.specs.Orders.{restore-checks-before-13};
 use blanks::check_blanks;
+use checks::check_allowances;
 use checks::check_count;
 use checks::check_gaps;
 use checks::check_lengths;
@@ -32,7 +33,7 @@ use sizes::check_adds_up;
 use sizes::check_sized;
 use write::write;
 
-// 1 to 4, 10, 5, 11, 21, 22, 23, 6, 7, 8, 12, 9: a restore's order before 13.
+// 1 to 4, 10, 5, 11, 21, 22, 23, 6, 7, 8, 24, 12, 9: a restore's order before 13.
 fn check_saved(letters: &[u8], lengths: &[u32], bytes: &[u8], s: Search) -> Checked
     requires { ⌜ s ≡ read-search (now bytes) ⌝ }
     ensures { λ r. ⌜ toldChecked r ≡ first (restore-checks-before-13 (now (letters .entry)) (now (lengths .entry)) (now (bytes .entry))) ⌝ }
@@ -49,6 +50,7 @@ fn check_saved(letters: &[u8], lengths: &[u32], bytes: &[u8], s: Search) -> Chec
         .then(check_lengths(t))
         .then(check_size(t))
         .then(check_gaps(t))
+        .then(check_allowances(t))
         .then(check_same_set(letters, lengths, s))
         .then(check_quorum(lengths, quorum))
 }

@@ -3,9 +3,10 @@ ghost use mathlib.Core.Path.{_≡_};
 ghost use Prim.Native.Nat.{_+_, _^_, _≤_, _<_};
 ghost use lib.ListN.{getD};
 ghost use Rattle.rules.specs.Limits.{Record-BYTES};
-ghost use Rattle.rules.specs.Saved.{field, record-at, record-count, component-count, read-component, read-place, read-template, read-search};
+ghost use Rattle.rules.specs.Saved.{field, record-at, record-count, component-count, read-profile, read-component, read-place, read-template, read-search};
 use rules::Component;
 use rules::Place;
+use rules::Profile;
 use rules::Record;
 use rules::RecordNumber;
 use rules::Search;
@@ -55,20 +56,30 @@ pub(crate) fn component_count(bytes: &[u8]) -> u8
     }
 }
 
+// The kind of search that the size record tells.
+pub(crate) fn read_profile(bytes: &[u8]) -> Profile
+    ensures { λ r. ⌜ r ≡ read-profile (now (bytes .entry)) ⌝ }
+{
+    let number = field(bytes, RecordNumber(0), 12, 1);
+    Profile::of(number)
+}
+
 // The component that record i holds.
 fn read_component(bytes: &[u8], i: RecordNumber) -> Component
     ensures { λ r. ⌜ r ≡ read-component (record-at (now (bytes .entry)) (i .0)) ⌝ }
 {
     let length = field(bytes, i, 2, 1) as u16;
+    let allowance = field(bytes, i, 3, 1) as u16;
     let low = field(bytes, i, 4, 2) as u16;
     let high = field(bytes, i, 6, 2) as u16;
-    Component::new(length, low, high)
+    Component::new(length, low, high).allowing(allowance)
 }
 
-// The template, with nothing in the slots that it does not count.
+// The template, with nothing in what it does not use.
 fn read_template(bytes: &[u8]) -> Template
     ensures { λ r. ⌜ r ≡ read-template (now (bytes .entry)) ⌝ }
 {
+    let profile = read_profile(bytes);
     let count = component_count(bytes) as u16;
     let c1 = read_component(bytes, RecordNumber(1));
     let c2 = read_component(bytes, RecordNumber(2));
@@ -77,6 +88,7 @@ fn read_template(bytes: &[u8]) -> Template
     let c5 = read_component(bytes, RecordNumber(5));
     let c6 = read_component(bytes, RecordNumber(6));
     let t = Template {
+        profile,
         count,
         c1,
         c2,

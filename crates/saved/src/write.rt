@@ -34,6 +34,7 @@ fn record_at(s: Search, i: usize) -> Record
     ensures { λ r. ⌜ r .bytes ≡ record-at (bytes s) i ⌝ }
 {
     let t = s.template;
+    let profile = t.profile;
     let count = t.count as usize;
     if i == 0 {
         return Record::of_size(s);
@@ -42,7 +43,7 @@ fn record_at(s: Search, i: usize) -> Record
         let cs = t.components();
         let at = i - 1;
         let c = cs[at];
-        return Record::of_component(i as u8, c);
+        return Record::of_component(profile, i as u8, c);
     }
     Record::of_place(s.place)
 }

@@ -1,5 +1,5 @@
 -- The laws that the proofs of this crate's functions lean on.
-pub mod Four
+pub mod Kind
 pub mod Follow
 pub mod Round
 pub mod Ruled

@@ -1,20 +1,20 @@
 -- One round of a leg's loop over a search that the checks accept: what holds before it, and how each way through it goes on.
-use mathlib.Core.Path.{_≡_, refl, sym, ap, _∙_, fun-ext}
-use mathlib.Core.Logic.{inl, inr}
+use mathlib.Core.Path.{_≡_, refl, sym, ap, _∙_}
 use mathlib.Core.Bool.{Bool, true, false, _&&_, false≢true}
 use mathlib.Core.List.{List, map}
 use Prim.Native.Nat.{ℕ, _+_, _^_, _≤_, _<_}
 use native.Mathlib.Decide.{decLt}
 use native.Mathlib.Omega.{arith}
 use lib.ListN.{length, set, drop, length-append, length-drop, length-map}
-use borrow.Author.Tests.{eqb-true, eqb-false, leb-true, lt-leb}
-use lib.Dec.{eqb, leb}
+use borrow.Author.Tests.{eqb-true, eqb-false, leb-true, ltb-true, lt-leb}
+use lib.Dec.{eqb, leb, ltb}
 use Rattle.rules.specs.Calls.{moved, motif-parts, stretch, supports-of, weights-of}
 use Rattle.rules.specs.Legs.{Stop, leg}
-use Rattle.rules.specs.Limits.{Letter-BASES}
 use Rattle.rules.specs.Lists.{if, put}
+use Rattle.rules.specs.Profile.{base-of}
+use Rattle.rules.specs.Saved.{place-rule?}
 use Rattle.rules.specs.Sequences.{sequences}
-use Rattle.rules.specs.Support.{support, weight, frequent, parts}
+use Rattle.rules.specs.Support.{support, weight, frequent, parts, valid}
 use Rattle.rules.specs.Template.{size}
 use Rattle.rules.specs.Told.{gives, toldAnswer, toldLeg}
 use Rattle.rules.specs.Walk.{walk-in, place, next, motif, walk-of}
@@ -23,14 +23,14 @@ use Rattle.rules.specs.declared.LegAnswer.{LegAnswer}
 use Rattle.rules.specs.declared.Place.{Place}
 use Rattle.rules.specs.declared.Search.{Search}
 use Rattle.rules.proofs.Candidates.{Candidate}
-use Rattle.rules.proofs.Exact.{exact-search, exact-base, exact-allowed, exact-frequent}
+use Rattle.rules.proofs.EachKind.{frequent-support}
 use Rattle.rules.proofs.Passing.{Passing, candidate-here, passing-next}
-use Rattle.rules.proofs.Places.{sound-passing}
+use Rattle.rules.proofs.Places.{sound-passing, passing-rule}
 use Rattle.rules.proofs.Searches.{walk-lawful}
 use Rattle.rules.proofs.Sound.{SoundSearch}
 use Rattle.rules.proofs.Tests.{both}
 use Rattle.search.proofs.Follow.{Following, follow-start, follow-passes, follow-lists}
-use Rattle.search.specs.Four.{four}
+use Rattle.search.specs.Kind.{walk-by}
 use Rattle.search.specs.Told.{room-of, told-of}
 
 put-length : (xs table : List ℕ) → length xs ≤ length table → length (put xs table) ≡ length table
@@ -51,22 +51,19 @@ module _ (letters lengths : List ℕ) (s : Search) (o : SoundSearch letters leng
     here : 1 ≤ p .letters → Candidate (walk-of letters lengths s) p
     here h = candidate-here (walk-of letters lengths s) p (r .passing) h
 
-    -- its letters are at most K, and spell its number
-    pub run-depth : p .letters ≤ size (s .template)
-    unfolding walk-in
-    run-depth = go (r .passing)
-      where
-        go : Passing (walk-of letters lengths s) p → p .letters ≤ size (s .template)
-        go (inl e) = omega (arith, ap (λ (p : Place). p .letters) e)
-        go (inr c) = c .most
+    -- its letters are at most K, and are allowed
+    ruled : (leb (p .letters) (size (s .template)) ≡ true) × (valid (s .template) (p .letters) (p .number) ≡ true)
+    unfolding place-rule?
+    ruled = both _ _ .0 (passing-rule (s .template) (s .quorum) (sequences letters lengths) (o .template) p (r .passing))
 
-    pub run-below : p .number < Letter-BASES ^ p .letters
-    unfolding walk-in
-    run-below = go (r .passing)
-      where
-        go : Passing (walk-of letters lengths s) p → p .number < Letter-BASES ^ p .letters
-        go (inl e) = rw e (omega arith)
-        go (inr c) = rw (exact-base (s .template) (exact-search (s .template))) at (c .below)
+    pub run-depth : p .letters ≤ size (s .template)
+    run-depth = leb-true (p .letters) (size (s .template)) (ruled .0)
+
+    pub run-valid : valid (s .template) (p .letters) (p .number) ≡ true
+    run-valid = ruled .1
+
+    pub run-below : p .number < base-of (s .template) ^ p .letters
+    run-below = ltb-true (p .number) _ (both (ltb (p .number) (base-of (s .template) ^ p .letters)) _ .0 run-valid .0)
 
     module _ (h : 1 ≤ p .letters) (l : steps < budget) {q : Place} (e : next (walk-of letters lengths s) p ≡ q) where
       then-passing : Passing (walk-of letters lengths s) q
@@ -122,23 +119,15 @@ pub motif-is : (letters lengths : List ℕ) (s : Search) (p : Place) (depth : �
 unfolding motif walk-in
 motif-is letters lengths s p depth good hit d g e = rw (← d, ← g) (sym e)
 
--- the walk is one over four letters
-pub walk-four : (letters lengths : List ℕ) (s : Search) (depth : ℕ) → depth ≡ size (s .template) → four (frequent (s .template) (s .quorum) (sequences letters lengths)) depth ≡ walk-of letters lengths s
+-- the walk is that of its kind of search
+pub walk-kind : (letters lengths : List ℕ) (s : Search) (depth : ℕ) → depth ≡ size (s .template) → walk-by (s .template) (frequent (s .template) (s .quorum) (sequences letters lengths)) depth ≡ walk-of letters lengths s
 unfolding walk-in
-walk-four letters lengths s depth d =
-    let t = s .template in
-    rw d
-    (λ i. record {
-      base = sym (exact-base t (exact-search t)) i;
-      may = fun-ext (λ j. fun-ext (λ m. sym (exact-allowed t (exact-search t) j m))) i;
-      good = frequent (s .template) (s .quorum) (sequences letters lengths);
-      depth = size (s .template);
-    })
+walk-kind letters lengths s depth d = rw d
 
 -- where the loop goes on to
 pub next-is : (letters lengths : List ℕ) (s : Search) (depth : ℕ) (p : Place) {q : Place} → depth ≡ size (s .template)
-    → next (four (frequent (s .template) (s .quorum) (sequences letters lengths)) depth) p ≡ q → next (walk-of letters lengths s) p ≡ q
-next-is letters lengths s depth p d e = rw (walk-four letters lengths s depth d) at e
+    → next (walk-by (s .template) (frequent (s .template) (s .quorum) (sequences letters lengths)) depth) p ≡ q → next (walk-of letters lengths s) p ≡ q
+next-is letters lengths s depth p d e = rw (walk-kind letters lengths s depth d) at e
 
 -- a candidate is frequent if its support reaches the quorum: what was found is at least that, and is that where it reaches the quorum
 reach-same : (quorum : ℕ) {found n : ℕ} → n ≤ found → (quorum ≤ found → found ≡ n) → leb quorum found ≡ leb quorum n
@@ -153,7 +142,7 @@ pub frequent-is : (letters lengths : List ℕ) (s : Search) (p : Place) {found :
     → (s .quorum ≤ found → found ≡ support (parts (s .template) (p .letters) (p .number)) (sequences letters lengths))
     → good ≡ leb (s .quorum) found → good ≡ frequent (s .template) (s .quorum) (sequences letters lengths) (p .letters) (p .number)
 frequent-is letters lengths s p h l f g =
-    g ∙ reach-same (s .quorum) l f ∙ sym (exact-frequent (s .template) (exact-search (s .template)) (s .quorum) (sequences letters lengths) (p .letters) (p .number) h)
+    g ∙ reach-same (s .quorum) l f ∙ sym (frequent-support (s .template) (s .quorum) (sequences letters lengths) (p .letters) (p .number) h)
 
 -- a listed candidate reaches it, and so does each that is frequent
 pub hit-reaches : (a : Bool) {hit good : Bool} (quorum found : ℕ) → hit ≡ (a && good) → good ≡ leb quorum found → hit ≡ true → quorum ≤ found

@@ -1,4 +1,4 @@
--- What a row of the tables leans on: the bits of the last component's letters in a motif's number, the ways counted for a prefix, and the
+-- What a row of the tables leans on: the last component's letters in a motif's number, the ways counted for a prefix, and the
 -- path to the first candidate under a prefix.
 use mathlib.Core.List.{List}
 use mathlib.Core.Path.{_≡_, ap, _∙_}
@@ -6,8 +6,7 @@ use Prim.Native.Nat.{ℕ, _+_, _-_, _*_, _/_, _^_, _<_}
 use native.Mathlib.Omega.{arith}
 use lib.ListN.{getD, set}
 use Rattle.rules.proofs.Components.{components-at}
-use Rattle.rules.proofs.Exact.{exact-search, exact-base}
-use Rattle.rules.specs.Limits.{Letter-BASES}
+use Rattle.rules.proofs.EachKind.{kind-proper}
 use Rattle.rules.specs.Profile.{base-of}
 use Rattle.rules.specs.Sound.{SoundComponent, SoundTemplate}
 use Rattle.rules.specs.Support.{weight, parts}
@@ -15,7 +14,6 @@ use Rattle.rules.specs.Template.{none, slots, size}
 use Rattle.rules.specs.declared.Component.{Component}
 use Rattle.rules.specs.declared.Template.{Template}
 use Rattle.matching.proofs.Led.{letters-next, letters-last}
-use Rattle.matching.proofs.Onward.{shifted}
 use Rattle.matching.specs.Path.{Path}
 use Rattle.matching.specs.Weights.{before-last, prefix-of, Leads, Counted}
 
@@ -32,9 +30,9 @@ module _ (t : Template) (sound : SoundTemplate t) where
   last-letters =
       omega (arith, letters-last t sound, letters-next t sound (t .count - 1) last-there, ap (λ (c : Component). c .length) (components-at t (t .count - 1) last-there))
 
-  -- a shift by two bits for each of them is the prefix
-  pub last-shift : (m : ℕ) → m / 2 ^ (2 * (getD (slots t) (t .count - 1) none) .length) ≡ prefix-of t m
-  last-shift m = shifted t m ((getD (slots t) (t .count - 1) none) .length) ∙ ap (λ (n : ℕ). m / base-of t ^ n) last-letters
+  -- and without them a motif's number is that of the prefix
+  pub last-prefix : (m : ℕ) → m / base-of t ^ (getD (slots t) (t .count - 1) none) .length ≡ prefix-of t m
+  last-prefix m = ap (λ (n : ℕ). m / base-of t ^ n) last-letters
 
 -- THE WAYS for a prefix, and the number one more than it
 pub counted-led : (t : Template) (ns l : List ℕ) (prefix : ℕ) {ways : List ℕ} → Leads t ns l prefix ways → Counted t ns l (prefix + 1) ways
@@ -47,8 +45,7 @@ weight-whole t m ss table i whole e = ap (λ (n : ℕ). set table i n) (e ∙ ap
 
 -- THE PATH to each candidate of one letter more is one to the first of them
 pub path-first : {t : Template} {ns l evens odds : List ℕ} {j : ℕ} (m : ℕ) → ((x : ℕ) → x < base-of t → Path t ns l evens odds j (m * base-of t + x))
-    → Path t ns l evens odds j (m * Letter-BASES)
+    → Path t ns l evens odds j (m * base-of t)
 path-first {t} m f =
-    let b : base-of t ≡ 4 = exact-base t (exact-search t) in
-    let z : m * base-of t + 0 ≡ m * 4 = omega (arith, ap (λ (n : ℕ). m * n) b) in
-    rw z at (f 0 (omega arith))
+    let z : m * base-of t + 0 ≡ m * base-of t = omega arith in
+    rw z at (f 0 (kind-proper (t .profile) .pos))

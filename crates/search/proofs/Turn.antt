@@ -2,25 +2,28 @@
 -- that is examined the slots hold the path to the next place.
 use mathlib.Core.Bool.{Bool, true, _&&_}
 use mathlib.Core.List.{List}
-use mathlib.Core.Path.{_≡_, refl, sym, _∙_}
-use Prim.Native.Nat.{ℕ, _+_, _-_, _*_, _^_, _≤_, _<_}
-use native.Mathlib.Nat.{pow-le-pow-right}
+use mathlib.Core.Path.{_≡_, sym, _∙_}
+use Prim.Native.Nat.{ℕ, _+_, _-_, _*_, _/_, _^_, _≤_, _<_}
+use native.Mathlib.Nat.{pow-le-pow-left, pow-le-pow-right, div-lt-iff-lt-mul, mul-le-mul-left}
 use native.Mathlib.Omega.{arith}
 use lib.Dec.{eqb}
 use lib.ListN.{length}
 use borrow.Author.Tests.{eqb-true}
 use Rattle.rules.proofs.Tests.{both}
+use Rattle.rules.proofs.EachKind.{base-least}
+use Rattle.rules.proofs.Rises.{valid-fits}
+use Rattle.rules.specs.Profile.{base-of}
 use Rattle.rules.specs.Sound.{SoundTemplate}
+use Rattle.rules.specs.Support.{valid}
 use Rattle.rules.specs.Template.{size}
 use Rattle.rules.specs.Walk.{place, next}
 use Rattle.rules.specs.declared.Place.{Place}
 use Rattle.rules.specs.declared.Template.{Template}
 use Rattle.rows.specs.Set.{Row}
-use Rattle.matching.proofs.Weighed.{prefix-small}
 use Rattle.matching.specs.Path.{prefix-starts, Path, Tables, Made}
-use Rattle.matching.specs.Weights.{prefix-of, Counted}
+use Rattle.matching.specs.Weights.{Counted}
 use Rattle.search.proofs.Onward.{path-next}
-use Rattle.search.specs.Four.{four}
+use Rattle.search.specs.Kind.{walk-by}
 
 -- tables that keep their lengths stay tables
 pub tables-still : {inside firsts offsets standing evens odds work spare evens′ odds′ work′ spare′ : List ℕ} → Tables inside firsts offsets standing evens odds work spare
@@ -45,16 +48,18 @@ pub hit-whole : (j depth : ℕ) (good : Bool) {hit : Bool} → hit ≡ (eqb j de
 hit-whole j depth good e h = eqb-true j depth (both (eqb j depth) good .0 (sym e ∙ h) .0)
 
 -- 1 more than the number of the prefix before the last component fits a word
-pub prefix-fits : (t : Template) → SoundTemplate t → (j m prefix : ℕ) → j ≤ size t → m < 4 ^ j → prefix ≡ prefix-of t m → prefix < 2 ^ 64 - 1
-prefix-fits t sound j m prefix h b e = omega (arith, e, prefix-small t sound m (size t) refl (omega (arith, b, pow-le-pow-right {n = 4} (omega arith) {i = j} {j = size t} h)))
+pub prefix-fits : (t : Template) → SoundTemplate t → (j m n : ℕ) {prefix : ℕ} → j ≤ size t → valid t j m ≡ true → 1 ≤ n → prefix ≡ m / base-of t ^ n → prefix < 2 ^ 64 - 1
+prefix-fits t sound j m n h v some e =
+    let p : 2 ≤ base-of t ^ n = omega (arith, pow-le-pow-right {n = 2} (omega arith) {i = 1} {j = n} some, pow-le-pow-left {n = 2} {m = base-of t} (omega (arith, base-least t)) n) in
+    omega (arith, e, div-lt-iff-lt-mul {k = base-of t ^ n} {x = m} {y = 2 ^ 63} (omega arith) .1 (omega (arith, valid-fits t sound j m h v, mul-le-mul-left (2 ^ 63) p)))
 
 -- the ways are counted for what `counted_for` answers
 pub counted-as : {t : Template} {ns l ways : List ℕ} {counted counted′ : ℕ} → counted ≡ counted′ → Counted t ns l counted′ ways → Counted t ns l counted ways
 counted-as e h = rw e h
 
 -- where a candidate has all letters of a motif, its number, the path to it and its row are those of the motif
-pub below-whole : (j m : ℕ) {depth : ℕ} → j ≡ depth → m < 4 ^ j → m < 4 ^ depth
-below-whole j m e h = rw (← e) h
+pub below-whole : (base j m : ℕ) {depth : ℕ} → j ≡ depth → m < base ^ j → m < base ^ depth
+below-whole base j m e h = rw (← e) h
 
 pub made-whole : {t : Template} {ns l inside firsts offsets standing evens odds : List ℕ} (j m : ℕ) {depth : ℕ} → j ≡ depth → Made t ns l inside firsts offsets standing evens odds j m → Made t ns l inside firsts offsets standing evens odds depth m
 made-whole j m e h = rw (← e) h
@@ -69,7 +74,7 @@ made-still made p = record { ready = made .ready; laid = made .laid; path = p }
 
 -- and the path goes on to the next place
 pub made-next : (t : Template) (ns l : List ℕ) (j m : ℕ) {inside firsts offsets standing evens odds : List ℕ} (depth : ℕ) (good : ℕ → ℕ → Bool) {q : Place}
-    → Made t ns l inside firsts offsets standing evens odds j m → (good j m ≡ true → j < depth → Path t ns l evens odds (j + 1) (m * 4))
-    → next (four good depth) (place j m) ≡ q → Made t ns l inside firsts offsets standing evens odds (q .letters) (q .number)
-made-next t ns l j m {evens = evens} {odds} depth good made p e =
-    record { ready = made .ready; laid = made .laid; path = path-next t ns l evens odds good depth j m (made .path) p e }
+    → depth ≡ size t → valid t j m ≡ true → Made t ns l inside firsts offsets standing evens odds j m → (good j m ≡ true → j < depth → Path t ns l evens odds (j + 1) (m * base-of t))
+    → next (walk-by t good depth) (place j m) ≡ q → Made t ns l inside firsts offsets standing evens odds (q .letters) (q .number)
+made-next t ns l j m {evens = evens} {odds} depth good d v made p e =
+    record { ready = made .ready; laid = made .laid; path = path-next t ns l evens odds good depth j m (made .path) d v p e }

@@ -15,7 +15,7 @@ use rules::SequenceSet;
 use rules::Template;
 
 // A new search for the motifs of a template that at least `quorum` of the sequences hold. The sequences are lent as one buffer
-// of letters and a table of their lengths. What breaks a rule is refused by the first number, of 1 to 9, that applies;
+// of letters and a table of their lengths. What breaks a rule is refused by the first number, of 1 to 8, 24 and 9, that applies;
 // otherwise the search stands at its first candidate.
 pub fn begin(letters: &[u8], lengths: &[u32], template: Template, quorum: u64) -> Begun
     ensures { λ r. ⌜ toldBegun r ≡ begin-rule (now (letters .entry)) (now (lengths .entry)) template quorum ⌝ }
@@ -44,7 +44,7 @@ pub fn begin(letters: &[u8], lengths: &[u32], template: Template, quorum: u64) -
 // A leg of a search: from its place on, as far as a budget of steps and the room in three tables allow. A row for each motif
 // whose support reaches the quorum, in letter order: its number, its support, its weighted support, from row 0 on; the rest of
 // each table stays. It answers why it stopped, its steps, its rows, and the search at its new place. A search that breaks a rule
-// is refused by the first number, of 1 to 4, 5, 23, 6, 7, 8, 12, 9 and 13, that applies, handed back, and nothing is written.
+// is refused by the first number, of 1 to 4, 5, 23, 6, 7, 8, 24, 12, 9 and 13, that applies, handed back, and nothing is written.
 pub fn leg(
     letters: &[u8],
     lengths: &[u32],

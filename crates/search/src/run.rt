@@ -14,8 +14,9 @@ ghost use Prim.Native.Nat.{ℕ, _+_, _-_, _/_, _^_, _≤_, _<_};
 ghost use lib.Dec.{leb};
 ghost use lib.ListN.{length, set};
 ghost use Rattle.rules.specs.Calls.{moved, stretch, supports-of, weights-of};
-ghost use Rattle.rules.specs.Limits.{SequenceSet-LETTERS, Letter-BASES};
+ghost use Rattle.rules.specs.Limits.{SequenceSet-LETTERS};
 ghost use Rattle.rules.specs.Lists.{if, put};
+ghost use Rattle.rules.specs.Profile.{base-of};
 ghost use Rattle.rules.specs.Refusals.{first, search-checks};
 ghost use Rattle.rules.specs.Sequences.{sequences};
 ghost use Rattle.rules.specs.Sound.{SoundSet, SoundTemplate};
@@ -58,16 +59,15 @@ fn stopped(answer: LegAnswer, steps: u64, rows: usize, s: Search, letters: u8, n
     }
 }
 
-// How many bits the letters of the last component take in a motif's number.
-fn last_bits(template: Template) -> u8
+// How many letters a motif's last component has.
+fn last_letters(template: Template) -> u32
     requires { ⌜ SoundTemplate template ⌝ }
-    ensures { λ r. ⌜ ((m : ℕ) → m / 2 ^ r ≡ prefix-of template m) × (r < 64) ⌝ }
+    ensures { λ r. ⌜ ((m : ℕ) → m / base-of template ^ r ≡ prefix-of template m) × (1 ≤ r) ⌝ }
 {
     let components = template.components();
     let last = template.count as usize - 1;
     let component = components[last];
-    let n = component.length as u8;
-    2 * n
+    component.length as u32
 }
 
 // Writes the row of a candidate that is a listed motif, whose path and row these are: its number, its support and its weighted support.
@@ -101,7 +101,7 @@ fn list(
     requires { ⌜ Tables (now inside) (now firsts) (now offsets) (now standing) (now evens) (now odds) (now work) (now spare) ⌝ }
     requires { ⌜ length (now letters) ≤ length (now ways) ⌝ }
     requires { ⌜ (hit ≡ true → (rows < length (now motifs)) × (rows < length (now supports)) × (rows < length (now weights))) ⌝ }
-    requires { ⌜ (hit ≡ true → (depth ≡ templates.size template) × (motif < Letter-BASES ^ depth) × (prefix ≡ prefix-of template motif)) ⌝ }
+    requires { ⌜ (hit ≡ true → (depth ≡ templates.size template) × (motif < base-of template ^ depth) × (prefix ≡ prefix-of template motif)) ⌝ }
     requires { ⌜ (hit ≡ true → Made template (now lengths) (now letters) (now inside) (now firsts) (now offsets) (now standing) (now evens) (now odds) depth motif) ⌝ }
     requires { ⌜ (hit ≡ true → Row (prefix-starts template depth motif) (now lengths) (now letters) (now work)) ⌝ }
     requires { ⌜ Counted template (now lengths) (now letters) counted (now ways) ⌝ }
@@ -183,7 +183,8 @@ pub fn run(
     let reach = quorum as u32;
     let depth = template.letters() as u8;
     let room = least(motifs.len(), least(supports.len(), weights.len()));
-    let bits = last_bits(template);
+    let profile = template.profile;
+    let last = last_letters(template);
     let place = s.place;
     let mut j = place.letters;
     let mut m = place.number;
@@ -215,7 +216,7 @@ pub fn run(
         if hit & (rows == room) {
             return stopped(LegAnswer::Full, steps, rows, s, j, m);
         }
-        let prefix = m >> bits;
+        let prefix = profile.prefix(m, last);
         rows = list(
             hit,
             letters,
@@ -241,7 +242,7 @@ pub fn run(
             ways,
         );
         counted = counted_for(hit, prefix, counted);
-        let next = step::next_place(depth, j, m, frequent);
+        let next = step::next_place(template, inside, depth, j, m, frequent);
         steps += 1;
         j = next.letters;
         m = next.number;

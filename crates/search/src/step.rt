@@ -1,45 +1,142 @@
 // The step from one candidate to the next.
+use matching::PLACES;
 use rules::Letter;
 use rules::Place;
+use rules::Profile;
+use rules::Template;
 ghost use mathlib.Core.Path.{_≡_};
-ghost use mathlib.Core.Bool.{Bool, _&&_};
-ghost use lib.Dec.{eqb};
-ghost use Prim.Native.Nat.{ℕ, _≤_, _<_, _^_};
-ghost use Rattle.rules.specs.Limits.{Letter-BASES, Template-LETTERS};
+ghost use mathlib.Core.Bool.{Bool, true, _&&_};
+ghost use lib.Dec.{ltb, eqb};
+ghost use lib.ListN.{getD};
+ghost use Prim.Native.Nat.{ℕ, _-_, _/_, _≤_};
+ghost use Rattle.matching.specs.Path.{Inside};
+ghost use Rattle.rows.specs.Prefix.{At};
+ghost use Rattle.rules.specs.Limits.{Letter-DIGITS};
+ghost use Rattle.rules.specs.Lists.{if};
+ghost use Rattle.rules.specs.Motif.{spell};
+ghost use Rattle.rules.specs.Profile.{several};
+ghost use Rattle.rules.specs.Sound.{SoundTemplate};
+ghost use Rattle.rules.specs.Support.{valid};
+ghost use Rattle.rules.specs.Template.{components, none, size};
 ghost use Rattle.rules.specs.Walk.{place, up, next};
-ghost use Rattle.search.specs.Four.{four};
+ghost use Rattle.rules.specs.declared.Profile.the-variants.{Mixed};
+ghost use Rattle.search.specs.Kind.{walk-by, Rises};
 
-// The value of the last letter, T.
-const LAST: u64 = Letter::BASES - 1;
+// The last of the letters that stand for one base, T, and the last of all, V.
+const LAST_BASE: u64 = Letter::BASES - 1;
 
-// The way up from a candidate: trailing Ts are dropped and the last letter goes up by one; when nothing is left the search
-// has ended.
-fn way_up(letters: u8, number: u64) -> Place
-    ensures { λ r. ⌜ ((good : ℕ → ℕ → Bool) (depth : ℕ) → up (four good depth) letters number ≡ r) ⌝ }
+const LAST_SYMBOL: u64 = Letter::SYMBOLS - 1;
+
+// How many of the last n letters of a mixed motif's number stand for several bases.
+fn several(number: u64, n: u8) -> u16
+    ensures { λ r. ⌜ r ≡ several (spell Letter-DIGITS n number) ⌝ }
 {
+    let mut rest = number;
+    let mut found: u16 = 0;
+    let mut i: u8 = 0;
+    while i < n {
+        found += one_if(Letter::BASES <= rest % Letter::DIGITS);
+        rest = rest / Letter::DIGITS;
+        i += 1;
+    }
+    found
+}
+
+// 1 where a test holds, and else 0.
+fn one_if(holds: bool) -> u16
+    ensures { λ r. ⌜ r ≡ if holds 1 0 ⌝ }
+{
+    if holds { 1 } else { 0 }
+}
+
+// Whether another letter that stands for several bases may follow those of its component that come before the last of a mixed candidate.
+fn room_left(template: Template, inside: &[u8], letters: u8, number: u64) -> bool
+    requires { ⌜ SoundTemplate template ⌝ }
+    requires { ⌜ Inside template (now inside) ⌝ }
+    requires { ⌜ (1 ≤ letters) × (letters ≤ size template) ⌝ }
+    ensures { λ r. ⌜ ((k i : ℕ) → At (components template) (letters - 1) k i → r ≡ ltb (several (spell Letter-DIGITS i (number / Letter-DIGITS))) ((getD (components template) k none) .allowance)) ⌝ }
+{
+    let at = letters as usize - 1;
+    let code = inside[at];
+    let k = (code / PLACES) as usize;
+    let i = code % PLACES;
+    let components = template.components();
+    let component = components[k];
+    several(number / Letter::DIGITS, i) < component.allowance
+}
+
+// Whether the last letter of a mixed candidate goes up by one: past T only if one more letter that stands for several bases may stand
+// there, and not past V.
+fn mixed_rises(template: Template, inside: &[u8], letters: u8, number: u64) -> bool
+    requires { ⌜ SoundTemplate template ⌝ }
+    requires { ⌜ Inside template (now inside) ⌝ }
+    requires { ⌜ (template .profile ≡ Mixed) × (1 ≤ letters) × (letters ≤ size template) × (valid template letters number ≡ true) ⌝ }
+    ensures { λ r. ⌜ ((good : ℕ → ℕ → Bool) (depth : ℕ) → Rises (walk-by template good depth) letters number r) ⌝ }
+{
+    let x = number % Letter::DIGITS;
+    if x == LAST_BASE {
+        return room_left(template, inside, letters, number);
+    }
+    x < LAST_SYMBOL
+}
+
+// Whether the last letter of a candidate goes up by one, and not to be dropped.
+fn rises(template: Template, inside: &[u8], letters: u8, number: u64) -> bool
+    requires { ⌜ SoundTemplate template ⌝ }
+    requires { ⌜ Inside template (now inside) ⌝ }
+    requires { ⌜ (1 ≤ letters) × (letters ≤ size template) × (valid template letters number ≡ true) ⌝ }
+    ensures { λ r. ⌜ ((good : ℕ → ℕ → Bool) (depth : ℕ) → Rises (walk-by template good depth) letters number r) ⌝ }
+{
+    let profile = template.profile;
+    match profile {
+        Profile::Exact => number % Letter::BASES < LAST_BASE,
+        Profile::Mixed => mixed_rises(template, inside, letters, number),
+    }
+}
+
+// The way up from a candidate: the last letter goes up to the next one that may stand there; where there is none it is dropped, and so
+// on; when nothing is left the search has ended.
+fn way_up(template: Template, inside: &[u8], letters: u8, number: u64) -> Place
+    requires { ⌜ SoundTemplate template ⌝ }
+    requires { ⌜ Inside template (now inside) ⌝ }
+    requires { ⌜ (letters ≤ size template) × (valid template letters number ≡ true) ⌝ }
+    ensures { λ r. ⌜ ((good : ℕ → ℕ → Bool) (depth : ℕ) → up (walk-by template good depth) letters number ≡ r) ⌝ }
+{
+    let profile = template.profile;
     let mut j = letters;
     let mut m = number;
     while j > 0 {
-        if m % Letter::BASES < LAST {
+        if rises(template, inside, j, m) {
             return Place::new(j, m + 1);
         }
-        m = m / Letter::BASES;
+        m = profile.shorter(m);
         j -= 1;
     }
     Place::ended()
 }
 
-// The place after a candidate that is frequent or not: under a frequent one shorter than a motif its first letter more.
-pub fn next_place(depth: u8, letters: u8, number: u64, frequent: bool) -> Place
-    requires { ⌜ (depth ≤ Template-LETTERS) × (letters ≤ depth) × (number < Letter-BASES ^ letters) ⌝ }
-    ensures { λ r. ⌜ ((good : ℕ → ℕ → Bool) → good letters number ≡ frequent → next (four good depth) (place letters number) ≡ r) ⌝ }
+// The place after a candidate that is frequent or not: under a frequent one shorter than a motif its first letter more, A.
+pub fn next_place(
+    template: Template,
+    inside: &[u8],
+    depth: u8,
+    letters: u8,
+    number: u64,
+    frequent: bool,
+) -> Place
+    requires { ⌜ SoundTemplate template ⌝ }
+    requires { ⌜ Inside template (now inside) ⌝ }
+    requires { ⌜ (depth ≡ size template) × (letters ≤ depth) × (valid template letters number ≡ true) ⌝ }
+    ensures { λ r. ⌜ ((good : ℕ → ℕ → Bool) → good letters number ≡ frequent → next (walk-by template good depth) (place letters number) ≡ r) ⌝ }
 {
     if letters < depth {
         if frequent {
-            return Place::new(letters + 1, number * Letter::BASES);
+            let profile = template.profile;
+            let base = profile.base();
+            return Place::new(letters + 1, number * base);
         }
     }
-    way_up(letters, number)
+    way_up(template, inside, letters, number)
 }
 
 // Whether a candidate is a listed motif.

@@ -14,7 +14,6 @@ use Rattle.rules.specs.Text.{decimal, shape, shape-rest, print-motif}
 use Rattle.rules.specs.declared.Component.{Component}
 use Rattle.rules.specs.declared.Template.{Template}
 use Rattle.rules.proofs.Components.{components-more, components-none}
-use Rattle.rules.proofs.Exact.{exact-search, exact-base}
 use Rattle.rules.proofs.Spelling.{spell-drop}
 use Rattle.rules.proofs.Tables.{map-take, map-drop}
 use Rattle.text.specs.Printed.{Wrote, pair, letters, ranged-word, size-from, shape-from}
@@ -77,7 +76,7 @@ module _ (t : Template) (S : SoundTemplate t) where
   -- a motif's shape is the first component's letters and the shape of the others
   pub shape-is : (m : ℕ) → print-motif t m ≡ letters (t .c1 .length) (size t) m ++ shape-from t 1 m
   unfolding print-motif shape-from
-  shape-is m = rw (exact-base t (exact-search t), size-is) (shape-first (t .c1) (size-from t 1) m (from-more 0 (S .some) refl))
+  shape-is m = rw size-is (shape-first (t .c1) (size-from t 1) m (from-more 0 (S .some) refl))
 
   -- no more than nine bytes for each gap range
   ranged-short : (i j m : ℕ) {c : Component} → i < t .count → c ≡ getD (slots t) i none → c .length ≤ j → length (ranged-word c j m) ≤ 9 + c .length

@@ -10,6 +10,7 @@ use lib.Seq.{getD-drop}
 use Rattle.rules.specs.Template.{none}
 use Rattle.rules.specs.Text.{Parsed, parsed, malformed, well-formed?, or-else, pieces, cons, parse-component, parse-first, parse-rest, parse-pieces, parse-components, template-of}
 use Rattle.rules.specs.declared.Component.{Component}
+use Rattle.rules.specs.declared.Profile.the-variants.{Exact}
 use Rattle.rules.specs.declared.Template.{Template}
 use Rattle.text.specs.Pieces.{find, others, after}
 use Rattle.text.proofs.Scan.{pieces-cut, pieces-after, scan-cut}
@@ -92,6 +93,6 @@ module _ (l : List ℕ) (w : well-formed? (parse-components l) ≡ true) where
 -- a template from its slots
 pub template-is : (cs : List Component) {n : ℕ} {c1 c2 c3 c4 c5 c6 : Component} → n ≡ length cs → c1 ≡ getD cs 0 none → c2 ≡ getD cs 1 none → c3 ≡ getD cs 2 none
     → c4 ≡ getD cs 3 none → c5 ≡ getD cs 4 none → c6 ≡ getD cs 5 none
-    → _≡_ {A = Template} (record { count = n; c1 = c1; c2 = c2; c3 = c3; c4 = c4; c5 = c5; c6 = c6 }) (template-of cs)
+    → _≡_ {A = Template} (record { profile = Exact; count = n; c1 = c1; c2 = c2; c3 = c3; c4 = c4; c5 = c5; c6 = c6 }) (template-of cs)
 unfolding template-of
-template-is cs e e1 e2 e3 e4 e5 e6 i = record { count = e i; c1 = e1 i; c2 = e2 i; c3 = e3 i; c4 = e4 i; c5 = e5 i; c6 = e6 i }
+template-is cs e e1 e2 e3 e4 e5 e6 i = record { profile = Exact; count = e i; c1 = e1 i; c2 = e2 i; c3 = e3 i; c4 = e4 i; c5 = e5 i; c6 = e6 i }

@@ -4,6 +4,7 @@ use super::pieces::in_two;
 use super::pieces::skip;
 use super::pieces::tail;
 use rules::Component;
+use rules::Profile;
 use rules::Template;
 use rules::Text;
 ghost use mathlib.Core.Bool.{true};
@@ -250,6 +251,7 @@ pub(crate) fn parse_template(text: &[u8]) -> Template
     let c6 = component_at(5, count, text);
     let components = count as u16;
     Template {
+        profile: Profile::Exact,
         count: components,
         c1,
         c2,

@@ -10,14 +10,20 @@ use lib.Seq.{drop-cons, drop-drop, getD-take}
 use Rattle.rules.specs.Limits.{Template-COMPONENTS, Template-LENGTH, Template-GAP}
 use Rattle.rules.specs.Lists.{run, sum}
 use Rattle.rules.specs.Sound.{SoundComponent, SoundTemplate}
-use Rattle.rules.specs.Template.{deal, Part, part, none, slots, components, size, cut-after, cut}
+use Rattle.rules.specs.Template.{Part, Reading, none, slots, components, size, part-of, deal}
 use Rattle.rules.specs.declared.Component.{Component}
 use Rattle.rules.specs.declared.Template.{Template}
-use Rattle.rules.proofs.Components.{cut-some}
-use Rattle.ways.specs.Counts.{counts, most-ways, entry, ending, leading, letters-of, aligned}
+use Rattle.ways.specs.Counts.{counts, most-ways, entry, ending, leading, letters-of, by-bases, aligned}
 use Rattle.ways.proofs.Counting.{counts-after, ending-counts, ending-most, leading-counts, leading-most}
 
 -- ---- dealing out the letters
+
+-- the first component takes the first letters, if there are any
+pub deal-some : (R : Reading) (n : ℕ) (c : Component) (cs : List Component) (w : List ℕ) → 0 < length w
+    → deal R n (c ∷ cs) w ≡ part-of R n c (take (c .length) w) ∷ deal R (c .length) cs (drop (c .length) w)
+unfolding deal
+deal-some R n c cs [] h = absurd (omega arith)
+deal-some R n c cs (x ∷ w) h = refl
 
 -- the later components take no more letters than all
 pub letters-within : (cs : List Component) (c : ℕ) → letters-of (drop c cs) ≤ letters-of cs
@@ -86,25 +92,25 @@ module _ {t : Template} {cs : List Component} {w : List ℕ} (held : Held t cs w
 
     -- its part after a component of n letters, and the parts from it on
     own-part : ℕ → Part
-    own-part n = part (n + (getD cs c none) .low) (n + (getD cs c none) .high) own
+    own-part n = part-of by-bases n (getD cs c none) own
 
-    own-cut : (n : ℕ) → cut-after n (onward cs (t .count) c) (drop b w) ≡ own-part n ∷ cut-after ((getD cs c none) .length) (onward cs (t .count) (suc c)) (drop (b + (getD cs c none) .length) w)
+    own-dealt : (n : ℕ) → deal by-bases n (onward cs (t .count) c) (drop b w) ≡ own-part n ∷ deal by-bases ((getD cs c none) .length) (onward cs (t .count) (suc c)) (drop (b + (getD cs c none) .length) w)
     unfolding own-part
-    own-cut n =
+    own-dealt n =
         let x = getD cs c none in
         let left : 0 < length (drop b w) = simp length-drop (omega (arith, letters-step c within, component-sound c within .some)) in
         let whole : b + x .length - b ≡ x .length = omega arith in
-        rw (onward-step c within, cut-some n x (onward cs (t .count) (suc c)) (drop b w) left, drop-drop (x .length) b w, whole)
+        rw (onward-step c within, deal-some by-bases n x (onward cs (t .count) (suc c)) (drop b w) left, drop-drop (x .length) b w, whole)
 
     -- with none before them
-    aligned-cut : aligned (onward cs (t .count) c) w ≡ cut (onward cs (t .count) c) (drop b w)
+    aligned-dealt : aligned (onward cs (t .count) c) w ≡ deal by-bases 0 (onward cs (t .count) c) (drop b w)
     unfolding aligned
-    aligned-cut = let here : length w - letters-of (onward cs (t .count) c) ≡ b = omega arith in rw here
+    aligned-dealt = let here : length w - letters-of (onward cs (t .count) c) ≡ b = omega arith in rw here
 
     -- the pass of the last component
     pub last-made : (s : List ℕ) → suc c ≡ t .count → {y : List ℕ} → y ≡ map (ending own s) (run 1 (length s)) → y ≡ counts (aligned (onward cs (t .count) c) w) s
     unfolding deal own-part
-    last-made s h e = e ∙ rw (aligned-cut, own-cut 0, onward-end (suc c) (omega arith)) (ending-counts (own-part 0) (λ s p. refl) s)
+    last-made s h e = e ∙ rw (aligned-dealt, own-dealt 0, onward-end (suc c) (omega arith)) (ending-counts 0 (getD cs c none) own s)
 
   -- the pass of a component c before others, d the next
   pub next-made : (s : List ℕ) (c d b : ℕ) (after : d ≡ suc c) (h : d < t .count) (k : c < t .count) (e : b + letters-of (onward cs (t .count) c) ≡ length w) → {x y : List ℕ}
@@ -117,10 +123,10 @@ module _ {t : Template} {cs : List Component} {w : List ℕ} (held : Held t cs w
       let l : onward cs (t .count) (suc c) ≡ onward cs (t .count) d = rw after in
       let e′ : b + n + letters-of (onward cs (t .count) d) ≡ length w = rw after (omega (arith, letters-step c k)) in
       let some : 0 < length (own d (b + n) h e′) = rw (own-length d (b + n) h e′) (component-sound d h .some) in
-      let later : x ≡ counts (cut-after n (onward cs (t .count) d) (drop (b + n) w)) s = ex ∙ rw (aligned-cut d (b + n) h e′) (counts-after 0 n (onward cs (t .count) d) (drop (b + n) w) s) in
+      let later : x ≡ counts (deal by-bases n (onward cs (t .count) d) (drop (b + n) w)) s = ex ∙ rw (aligned-dealt d (b + n) h e′) (counts-after by-bases 0 n (onward cs (t .count) d) (drop (b + n) w) s) in
       let near = ap (λ n. n + (getD cs d none) .low) (sym (own-length c b k e)) in
       let far = ap (λ n. n + (getD cs d none) .high) (sym (own-length c b k e)) in
-      ey ∙ rw (later, aligned-cut c b k e, own-cut c b k e 0, l, own-cut d (b + n) h e′ n) (leading-counts (own-part c b k e 0) (own-part d (b + n) h e′ n) _ _ _ (λ s p. refl) near far s some)
+      ey ∙ rw (later, aligned-dealt c b k e, own-dealt c b k e 0, l, own-dealt d (b + n) h e′ n) (leading-counts 0 (getD cs c none) (own c b k e) s (own-part d (b + n) h e′ n) _ _ _ near far some)
 
   -- no count is too large: k components follow, each at one of so many distances
   counts-most : (s : List ℕ) (k c : ℕ) → suc (c + k) ≡ t .count → (p : ℕ) → entry (counts (aligned (onward cs (t .count) c) w) s) p ≤ (Template-GAP + 1) ^ k

@@ -11,12 +11,11 @@ use native.Mathlib.Omega.{arith}
 use lib.ListN.{length, getD, List·getD-eq-default}
 use Rattle.rules.specs.Limits.{Template-GAP}
 use Rattle.rules.specs.Lists.{run, if, sum}
-use Rattle.rules.specs.Occurrence.{stands-by, stands, reach, ways}
-use Rattle.rules.specs.Template.{Part, part, deal, cut-after}
+use Rattle.rules.specs.Occurrence.{stands-by, reach, ways}
+use Rattle.rules.specs.Template.{Part, Reading, part-of, deal}
 use Rattle.rules.specs.declared.Component.{Component}
-use Rattle.ways.specs.Counts.{counts, entry, cell, ending, leading}
+use Rattle.ways.specs.Counts.{stands, counts, entry, cell, ending, leading, by-bases}
 use Rattle.ways.proofs.Standing.{stands-by-short}
-use Rattle.rules.proofs.Occurs.{Literal}
 use Rattle.rules.proofs.Over.{length-map-run, getD-map-run}
 use Rattle.rules.proofs.Tables.{map-same}
 use Rattle.ways.proofs.Tables.{over-most, window-most}
@@ -55,32 +54,33 @@ counts-at c cs s some (suc o) =
     ]
 
 -- how far the first part lies from one before it makes no difference
-ways-after : (near far near′ far′ : ℕ) (w : List ℕ) (cs : List Part) (s : List ℕ) (p : ℕ) → ways (part near far w ∷ cs) s p ≡ ways (part near′ far′ w ∷ cs) s p
+ways-after : (R : Reading) (k n : ℕ) (c : Component) (w : List ℕ) (cs : List Part) (s : List ℕ) (p : ℕ) → ways (part-of R k c w ∷ cs) s p ≡ ways (part-of R n c w ∷ cs) s p
 unfolding ways
-ways-after near far near′ far′ w [] s p = refl
-ways-after near far near′ far′ w (d ∷ ds) s p = refl
+ways-after R k n c w [] s p = refl
+ways-after R k n c w (d ∷ ds) s p = refl
 
 -- so the counts are the same however many letters the component before has
-pub counts-after : (k n : ℕ) (cs : List Component) (w s : List ℕ) → counts (cut-after k cs w) s ≡ counts (cut-after n cs w) s
+pub counts-after : (R : Reading) (k n : ℕ) (cs : List Component) (w s : List ℕ) → counts (deal R k cs w) s ≡ counts (deal R n cs w) s
 unfolding counts deal
-counts-after k n [] w s = refl
-counts-after k n (c ∷ cs) [] s = refl
-counts-after k n (c ∷ cs) (x ∷ w) s = map-same _ _ (ways-after (k + c .low) (k + c .high) (n + c .low) (n + c .high) _ _ s) (run 1 (length s))
+counts-after R k n [] w s = refl
+counts-after R k n (c ∷ cs) [] s = refl
+counts-after R k n (c ∷ cs) (x ∷ w) s = map-same _ _ (ways-after R k n c _ _ s) (run 1 (length s))
 
--- the pass of the last part
-pub ending-counts : (c : Part) → Literal c → (s : List ℕ) → map (ending (c .word) s) (run 1 (length s)) ≡ counts (c ∷ []) s
-unfolding counts ending cell ways
-ending-counts c x s = map-same (ending (c .word) s) (ways (c ∷ []) s) (λ p. rw (x s p)) (run 1 (length s))
+-- a part of the letters w, each given by the bases that it stands for
+module _ (n : ℕ) (c : Component) (w s : List ℕ) where
+  -- the pass of the last part
+  pub ending-counts : map (ending w s) (run 1 (length s)) ≡ counts (part-of by-bases n c w ∷ []) s
+  unfolding counts ending cell ways
+  ending-counts = refl
 
--- the pass of a part before others, the next of them after a gap of low to high
-pub leading-counts : (c d : Part) (ds : List Part) (low high : ℕ) → Literal c → d .near ≡ length (c .word) + low → d .far ≡ length (c .word) + high
-    → (s : List ℕ) → 0 < length (d .word)
-    → map (leading (c .word) low high s (counts (d ∷ ds) s)) (run 1 (length s)) ≡ counts (c ∷ d ∷ ds) s
-unfolding counts leading cell ways
-leading-counts c d ds low high x near far s some =
-    map-same (leading (c .word) low high s (counts (d ∷ ds) s)) (ways (c ∷ d ∷ ds) s)
-    (λ p. rw (x s p, ← near, ← far, map-same (entry (counts (d ∷ ds) s)) (ways (d ∷ ds) s) (counts-at d ds s some) (reach (d .near) (d .far) p)))
-    (run 1 (length s))
+  -- the pass of a part before others, the next of them after a gap of low to high
+  pub leading-counts : (d : Part) (ds : List Part) (low high : ℕ) → d .near ≡ length w + low → d .far ≡ length w + high → 0 < length (d .word)
+      → map (leading w low high s (counts (d ∷ ds) s)) (run 1 (length s)) ≡ counts (part-of by-bases n c w ∷ d ∷ ds) s
+  unfolding counts leading cell ways
+  leading-counts d ds low high near far some =
+      map-same (leading w low high s (counts (d ∷ ds) s)) (ways (part-of by-bases n c w ∷ d ∷ ds) s)
+      (λ p. rw (← near, ← far, map-same (entry (counts (d ∷ ds) s)) (ways (d ∷ ds) s) (counts-at d ds s some) (reach (d .near) (d .far) p)))
+      (run 1 (length s))
 
 -- what a sliding sum has at an offset goes into the cell there
 pub leading-at : (w : List ℕ) (low high : ℕ) (s later : List ℕ) (o : ℕ) {t v : ℕ}

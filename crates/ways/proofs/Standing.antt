@@ -6,13 +6,14 @@ use Prim.Native.Nat.{ℕ, zero, suc, _+_, _-_, _≤_, _<_}
 use native.Mathlib.Nat.{add-zero}
 use native.Mathlib.Numerals.{add-one}
 use native.Mathlib.Omega.{arith}
-use lib.Dec.{eqb}
 use lib.ListN.{length, drop, getD, length-drop, drop-of-length-le}
 use lib.Seq.{drop-cons}
-use borrow.Author.Tests.{eq-eqb, ne-eqb}
+use Rattle.rules.specs.Letters.{value}
 use Rattle.rules.specs.Lists.{if}
-use Rattle.rules.specs.Occurrence.{spare, stands-by, front-by, front, stands}
-use Rattle.ways.specs.Counts.{cell}
+use Rattle.rules.specs.Occurrence.{spare, stands-by, front-by}
+use Rattle.rules.specs.Profile.{has-base}
+use Rattle.rules.proofs.BaseSets.{value-most}
+use Rattle.ways.specs.Counts.{fits-byte, stands, cell}
 
 front-short : (f : ℕ → ℕ → Bool) (k : ℕ) (w s : List ℕ) → length s < length w → front-by f k w s ≡ false
 unfolding front-by
@@ -31,12 +32,16 @@ unfolding stands-by
 stands-by-short f k w s o h = sym (front-short f k w (drop o s) (simp length-drop h))
 
 pub stands-short : (w s : List ℕ) (o : ℕ) → length s - o < length w → false ≡ stands w s (suc o)
-stands-short w s o h = stands-by-short eqb 0 w s o h
+stands-short w s o h = stands-by-short fits-byte 0 w s o h
+
+-- a value is one that can be looked up in a base set
+pub value-small : (b : ℕ) {v : ℕ} → v ≡ value b → v < 8
+value-small b e = rw e (omega (arith, value-most b))
 
 -- the letters of w from the j-th on stand as they do if w stands at the offset o
 unfoldable pub rest : List ℕ → List ℕ → ℕ → ℕ → Bool
 unfolding front-by
-rest w s o j = front (drop j w) (drop (o + j) s)
+rest w s o j = front-by fits-byte 0 (drop j w) (drop (o + j) s)
 
 -- all letters stand if those from the first on do
 pub rest-all : (w s : List ℕ) (o : ℕ) → stands w s (suc o) ≡ rest w s o 0
@@ -44,20 +49,21 @@ unfolding stands-by rest
 rest-all w s o = rw (add-zero o)
 
 module _ (w s : List ℕ) (o j : ℕ) (hs : o + length w ≤ length s) where
-  rest-open : j < length w → rest w s o j ≡ if (eqb (getD w j 0) (getD s (o + j) 0)) (rest w s o (j + 1)) false
+  rest-open : j < length w → rest w s o j ≡ if (fits-byte (getD w j 0) (getD s (o + j) 0)) (rest w s o (j + 1)) false
   unfolding rest front-by
   rest-open hw =
       let e : o + (j + 1) ≡ suc (o + j) = omega arith in
       let hs' : o + j < length s = omega arith in
       rw (e, add-one j, drop-cons w j 0 hw, drop-cons s (o + j) 0 hs')
 
-  -- a letter that is the same leaves it to those after it
-  pub rest-next : j < length w → getD w j 0 ≡ getD s (o + j) 0 → rest w s o j ≡ rest w s o (j + 1)
-  rest-next hw e = rest-open hw ∙ simp (eq-eqb _ _ e)
+  module _ (hw : j < length w) {v : ℕ} {fits : Bool} (ev : v ≡ value (getD s (o + j) 0)) (ef : fits ≡ has-base (getD w j 0) v) where
+    -- a letter that fits leaves it to those after it
+    pub rest-next : fits ≡ true → rest w s o j ≡ rest w s o (j + 1)
+    rest-next e = rest-open hw ∙ rw (← ev, ← ef, e)
 
-  -- one that is another settles it
-  pub rest-stop : j < length w → (getD w j 0 ≡ getD s (o + j) 0 → ⊥) → rest w s o j ≡ false
-  rest-stop hw n = rest-open hw ∙ simp (ne-eqb _ _ n)
+    -- one that does not settles it
+    pub rest-stop : fits ≡ false → rest w s o j ≡ false
+    rest-stop e = rest-open hw ∙ rw (← ev, ← ef, e)
 
   -- past the last all have stood
   pub rest-done : length w ≤ j → rest w s o j ≡ true

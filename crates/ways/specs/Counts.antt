@@ -1,11 +1,14 @@
 -- What the passes over one sequence compute: for each position, in how many ways the parts from one on can stand from there.
+use mathlib.Core.Bool.{Bool}
 use mathlib.Core.List.{List, map}
 use Prim.Native.Nat.{ℕ, zero, suc, _+_, _-_, _^_}
 use lib.ListN.{length, drop, getD}
 use Rattle.rules.specs.Limits.{Template-COMPONENTS, Template-GAP}
 use Rattle.rules.specs.Lists.{run, if, sum}
-use Rattle.rules.specs.Occurrence.{stands, reach, ways}
-use Rattle.rules.specs.Template.{Part, cut, distance}
+use Rattle.rules.specs.Letters.{value}
+use Rattle.rules.specs.Occurrence.{stands-by, reach, ways}
+use Rattle.rules.specs.Profile.{has-base}
+use Rattle.rules.specs.Template.{Part, Reading, deal, distance}
 use Rattle.rules.specs.declared.Component.{Component}
 
 -- THE COUNTS. For each position of s, the number of occurrences of the parts that start there: those of
@@ -22,7 +25,14 @@ unfoldable pub entry : List ℕ → ℕ → ℕ
 entry l zero = 0
 entry l (suc o) = getD l o 0
 
--- v where the letters w stand in s, and else 0
+-- the letters w, each given by the bases that it stands for, stand in the bytes s at a position
+abbrev pub fits-byte : ℕ → ℕ → Bool
+fits-byte set b = has-base set (value b)
+
+abbrev pub stands : List ℕ → List ℕ → ℕ → Bool
+stands w s p = stands-by fits-byte 0 w s p
+
+-- v where they do, and else 0
 unfoldable pub cell : List ℕ → List ℕ → ℕ → ℕ → ℕ
 cell w s p v = if (stands w s p) v 0
 
@@ -38,6 +48,10 @@ leading w low high s later p = cell w s p (sum (map (entry later) (reach (distan
 unfoldable pub letters-of : List Component → ℕ
 letters-of cs = sum (map (λ c. c .length) cs)
 
+-- a letter is read as the bases that it stands for
+abbrev pub by-bases : Reading
+by-bases = record { fits = fits-byte; slack = λ c. 0 }
+
 -- the parts that they are if their letters are the last of w, with none before them
 unfoldable pub aligned : List Component → List ℕ → List Part
-aligned cs w = cut cs (drop (length w - letters-of cs) w)
+aligned cs w = deal by-bases 0 cs (drop (length w - letters-of cs) w)

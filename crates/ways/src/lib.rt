@@ -1,6 +1,7 @@
 // How many occurrences a motif has in one sequence, from each position: what recovery goes by. An inner crate: its functions require
 // what the checks show of the sequences and the template.
 use rules::Component;
+use rules::Letter;
 use rules::Template;
 ghost use mathlib.Core.Path.{_≡_};
 ghost use mathlib.Core.List.{map};
@@ -8,12 +9,11 @@ ghost use Prim.Native.Nat.{ℕ, suc, _+_, _^_, _≤_, _<_};
 ghost use lib.ListN.{length, drop};
 ghost use Rattle.rules.specs.Limits.{Template-LENGTH, Template-GAP};
 ghost use Rattle.rules.specs.Lists.{run, sum};
-ghost use Rattle.rules.specs.Occurrence.{stands};
 ghost use Rattle.rules.specs.Sound.{SoundComponent, SoundTemplate};
 ghost use Rattle.rules.specs.Template.{size, components};
-ghost use Rattle.ways.specs.Counts.{counts, most-ways, entry, cell, ending, leading, letters-of, aligned};
+ghost use Rattle.ways.specs.Counts.{stands, counts, most-ways, entry, cell, ending, leading, letters-of, aligned};
 
-// Whether the letters of `word` stand in `s` at the offset `o`.
+// Whether the letters of `word`, each given by the bases that it stands for, stand in `s` at the offset `o`.
 fn stands(word: &[u8], s: &[u8], o: usize) -> bool
     requires { ⌜ o ≤ length (now s) ⌝ }
     ensures { λ r. ⌜ r ≡ stands (now (word .entry)) (now (s .entry)) (suc o) ⌝ }
@@ -23,7 +23,8 @@ fn stands(word: &[u8], s: &[u8], o: usize) -> bool
     }
     let mut j = 0;
     while j < word.len() {
-        if word[j] != s[o + j] {
+        let letter = Letter::value(s[o + j]);
+        if !Letter::has_base(word[j], letter) {
             return false;
         }
         j += 1;
@@ -96,7 +97,7 @@ fn pass(word: &[u8], next: Component, s: &[u8], ways: &mut [u64])
     }
 }
 
-// Where the letters of a component begin. The motif's letters are the last of `word`.
+// Where the letters of a component begin. The motif's letters are the last of `word`, each by the bases that it stands for.
 fn begins(template: Template, word: &[u8], component: usize) -> usize
     requires { ⌜ SoundTemplate template ⌝ }
     requires { ⌜ (component ≤ template .count) × (size template ≤ length (now word)) ⌝ }

@@ -1,18 +1,37 @@
 //! What a caller passes to the library and what is told back, put together.
 
-/// A template as the library takes it: how many components, and the length,
-/// l and u of each in turn.
+/// A template as the library takes it: its profile, how many components, the
+/// length, l and u of each in turn, and the allowance of each.
 #[derive(Clone, Copy, Debug, PartialEq, Eq)]
 pub struct Template<'a> {
+    /// The profile: 0 exact, 1 mixed.
+    pub profile: u16,
     /// The number of components.
     pub components: u16,
     /// Their shape. What it does not reach is 0.
     pub shape: &'a [u16],
+    /// Their allowances. What they do not reach is 0.
+    pub allowances: &'a [u16],
 }
 
-/// What the library tells of a search, beside its template's shape.
+impl<'a> Template<'a> {
+    /// A template of the exact profile, without allowances.
+    pub const fn exact(components: u16, shape: &'a [u16]) -> Template<'a> {
+        Template {
+            profile: 0,
+            components,
+            shape,
+            allowances: &[],
+        }
+    }
+}
+
+/// What the library tells of a search, beside its template's shape and
+/// allowances.
 #[derive(Clone, Copy, Debug, Default, PartialEq, Eq)]
 pub struct Search {
+    /// The profile: 0 exact, 1 mixed.
+    pub profile: u16,
     /// The number of components.
     pub components: u16,
     /// The quorum.

@@ -1,8 +1,11 @@
 //! What a call answers: the numbers told and every lent table afterwards, and
 //! what the second program answers.
 
+use super::convert::{byte, template};
 use super::request::{Kind, Request, Slot, Value};
-use crate::{Answer as Stop, Component, Handed, Place, Refusal, Search, Template};
+use crate::{Answer as Stop, Handed, Profile, Refusal, Search};
+
+pub use super::convert::{search, value_of};
 
 /// How a call came out, as the program's file told.rt lays it out.
 pub const REFUSED: u64 = 0;
@@ -11,7 +14,8 @@ pub const SPENT: u64 = 2;
 pub const FULL: u64 = 3;
 pub const FILE_ENDED: u64 = 2;
 
-/// The numbers told before the search's 24.
+/// The numbers told before the search's 31, which are the 24 of old, the
+/// profile and six allowances.
 const NAMES: [&str; 7] = [
     "outcome",
     "refusal",
@@ -21,7 +25,7 @@ const NAMES: [&str; 7] = [
     "start of the name",
     "end of the name",
 ];
-pub const TOLD: usize = NAMES.len() + 24;
+pub const TOLD: usize = NAMES.len() + 31;
 
 #[derive(Clone, Debug, PartialEq, Eq)]
 pub struct Answer {
@@ -158,11 +162,18 @@ impl Answer {
     /// The search that is told.
     pub fn search(&self) -> Value {
         let words = &self.told[NAMES.len()..];
-        let slot =
-            |at: usize| Slot::new(words[at] as u16, words[at + 1] as u16, words[at + 2] as u16);
+        let slot = |slot: usize| {
+            let at = 1 + 3 * slot;
+            Slot::new(words[at] as u16, words[at + 1] as u16, words[at + 2] as u16)
+                .allowing(words[25 + slot] as u16)
+        };
         Value {
+            profile: match words[24] {
+                0 => Profile::Exact,
+                _ => Profile::Mixed,
+            },
             count: words[0] as u16,
-            slots: [1, 4, 7, 10, 13, 16].map(slot),
+            slots: [0, 1, 2, 3, 4, 5].map(slot),
             quorum: words[19],
             sequences: words[20] as u32,
             letters: words[21] as u32,
@@ -208,12 +219,14 @@ fn in_table<T: PartialEq + std::fmt::Display>(
 pub fn told(outcome: u64, count: u64, total: u64, value: &Value) -> Vec<u64> {
     let mut told = vec![outcome, 0, 0, count, total, 0, 0];
     told.extend(value.words());
+    told.extend(value.profile_words());
     told
 }
 
 pub fn told_refusal(refusal: Refusal, value: &Value) -> Vec<u64> {
     let mut told = vec![REFUSED, refusal.number.into(), refusal.place, 0, 0, 0, 0];
     told.extend(value.words());
+    told.extend(value.profile_words());
     told
 }
 
@@ -231,6 +244,7 @@ pub fn told_handed(at: u64, handed: Result<Option<Handed>, Refusal>) -> Vec<u64>
         Err(refusal) => vec![REFUSED, refusal.number.into(), refusal.place, 0, at, 0, 0],
     };
     told.extend(Value::default().words());
+    told.extend(Value::default().profile_words());
     told
 }
 
@@ -246,57 +260,5 @@ fn told_begun(begun: Result<Search, Refusal>) -> Vec<u64> {
     match begun {
         Ok(search) => told(DONE, 0, 0, &value_of(&search)),
         Err(refusal) => told_refusal(refusal, &Value::default()),
-    }
-}
-
-/// The second program's search as a value of the library's.
-pub fn value_of(search: &Search) -> Value {
-    let slots: Vec<Slot> = search
-        .template
-        .components
-        .iter()
-        .map(|c| Slot::new(u16::from(c.length), c.low, c.high))
-        .collect();
-    Value {
-        quorum: search.quorum,
-        sequences: search.sequences,
-        letters: search.letters,
-        place: search.place.letters,
-        number: search.place.number,
-        ..Value::of(&slots)
-    }
-}
-
-/// A length as the second program holds it, in a byte. A longer one is told
-/// as 255. Both are refused by 6; and the place rule (23), which a leg and a
-/// save check before, finds K at least 255 either way, which no place, itself
-/// a byte, exceeds. So the two programs have to say the same.
-fn byte(length: u16) -> u8 {
-    u8::try_from(length).unwrap_or(u8::MAX)
-}
-
-/// The template's components. Where it counts more than there are slots for,
-/// what stands in them is not looked at: that is refused by 5 first.
-fn template(value: &Value) -> Template {
-    let component = |slot: &Slot| Component {
-        length: byte(slot.length),
-        low: slot.low,
-        high: slot.high,
-    };
-    let mut components: Vec<Component> = value.slots.iter().map(component).collect();
-    components.resize(value.count as usize, component(&Slot::default()));
-    Template { components }
-}
-
-pub fn search(value: &Value) -> Search {
-    Search {
-        template: template(value),
-        quorum: value.quorum,
-        sequences: value.sequences,
-        letters: value.letters,
-        place: Place {
-            letters: value.place,
-            number: value.number,
-        },
     }
 }

@@ -166,12 +166,12 @@ fn faults(components: usize) -> Vec<Fault> {
 }
 
 /// Another value for a byte.
-fn change(byte: &mut u8, random: &mut Random) {
+pub fn change(byte: &mut u8, random: &mut Random) {
     let any = random.within(1, 255) as u8;
     *byte ^= random.pick(&[1, 2, 3, 128, any]);
 }
 
-/// The unnamed bytes of a record.
+/// The unnamed bytes of a record, and the size record's profile.
 fn unnamed(record: usize, records: usize) -> Vec<usize> {
     match record {
         0 => (12..16).collect(),
@@ -220,7 +220,7 @@ impl Fault {
 }
 
 /// Makes K the sum of the lengths.
-fn put_sum(bytes: &mut [u8]) {
+pub fn put_sum(bytes: &mut [u8]) {
     let components = bytes.len() / 16 - 2;
     let sum: u16 = (1..=components)
         .map(|record| u16::from(bytes[16 * record + 2]))
@@ -229,7 +229,7 @@ fn put_sum(bytes: &mut [u8]) {
 }
 
 /// Changes of two or three records in one byte each.
-fn several_bytes(bytes: &[u8], random: &mut Random) -> Vec<u8> {
+pub fn several_bytes(bytes: &[u8], random: &mut Random) -> Vec<u8> {
     let mut changed = bytes.to_vec();
     let records = bytes.len() as u64 / 16;
     let first = random.below(records);

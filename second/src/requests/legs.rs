@@ -70,12 +70,25 @@ impl Grants {
 }
 
 /// A new search and its legs until one ends, or at most so many; each leg
-/// starts from what the restore of the one before gave.
+/// starts from what the restore of the one before gave. The last leg may use as
+/// much as there is.
 pub fn relay(
     set: Set,
     value: Value,
     most: usize,
     grants: Grants,
+    random: &mut Random,
+) -> Vec<Request> {
+    relay_until(set, value, most, grants, (u64::MAX, ROOM), random)
+}
+
+/// The same with a budget and a room for the last leg.
+pub fn relay_until(
+    set: Set,
+    value: Value,
+    most: usize,
+    grants: Grants,
+    last: (u64, u64),
     random: &mut Random,
 ) -> Vec<Request> {
     let set = Rc::new(set);
@@ -87,10 +100,9 @@ pub fn relay(
     }
     let mut value = begun.search();
     for turn in 0..most {
-        // The last leg may use as much as there is.
         let (budget, rooms) = match turn + 1 < most {
             true => grants.next(random),
-            false => (u64::MAX, [ROOM; 3]),
+            false => (last.0, [last.1; 3]),
         };
         let leg = leg(&set, value, budget, rooms, random);
         let answer = Answer::expected(&leg);

@@ -4,28 +4,38 @@
 
 pub mod answer;
 mod begins;
+mod convert;
 mod damaged;
 mod fasta;
 pub mod files;
 mod forgeries;
 mod joins;
 mod legs;
+mod mixed;
+mod mixed_begins;
+mod mixed_damaged;
+mod mixed_forgeries;
+mod mixed_legs;
+mod mixed_recoveries;
+mod mixed_saves;
+mod mixed_words;
 pub mod random;
 mod recoveries;
 pub mod request;
 mod saves;
+mod seen;
+mod shown;
 mod words;
 
-use answer::{Answer, REFUSED};
 use random::Random;
-use request::{Kind, Request};
-use std::collections::BTreeMap;
-use std::ops::RangeInclusive;
+use request::Request;
+
+pub use seen::Seen;
 
 /// A group of requests: its name, its seed, and what makes it.
 pub type Group = (&'static str, u64, fn(&mut Random) -> Vec<Request>);
 
-pub const GROUPS: [Group; 21] = [
+pub const GROUPS: [Group; 31] = [
     ("new searches", 101, begins::requests),
     (
         "legs laid end to end, saved and restored between",
@@ -91,106 +101,38 @@ pub const GROUPS: [Group; 21] = [
         128,
         fasta::every_byte,
     ),
-];
-
-/// How each call can come out, and the refusals that it can give. All of them
-/// have to come up.
-const ANSWERS: [(Kind, &[u64], &[u64]); 7] = [
-    (Kind::Begin, &[1], &[1, 2, 3, 4, 5, 6, 7, 8, 9]),
+    ("mixed: new searches", 131, mixed_begins::requests),
     (
-        Kind::Leg,
-        &[1, 2, 3],
-        &[1, 2, 3, 4, 5, 6, 7, 8, 9, 12, 13, 23],
+        "mixed: legs laid end to end, saved and restored between",
+        132,
+        mixed_legs::relays,
     ),
     (
-        Kind::Save,
-        &[1],
-        &[1, 2, 3, 4, 5, 6, 7, 8, 9, 12, 13, 17, 23],
+        "mixed: legs where words of 64 letters or sequences end",
+        133,
+        mixed_words::requests,
     ),
     (
-        Kind::Restore,
-        &[1],
-        &[1, 2, 3, 4, 5, 6, 7, 8, 9, 10, 11, 12, 13, 21, 22, 23],
+        "mixed: legs and saves of forged searches",
+        134,
+        mixed_forgeries::any,
     ),
-    (Kind::Recover, &[1], &[1, 2, 3, 4, 5, 6, 7, 8, 14, 15]),
-    (Kind::Join, &[1], &[6, 8, 16, 17]),
-    (Kind::Fasta, &[1, 2], &[4, 19, 20]),
+    (
+        "mixed: legs and saves of searches whose place breaks its rule",
+        135,
+        mixed_forgeries::place_rules,
+    ),
+    ("mixed: saves", 136, mixed_saves::saves),
+    ("mixed: restores of other bytes", 137, mixed_saves::restores),
+    (
+        "mixed: restores of damaged saves of 1 to 6 components",
+        138,
+        mixed_damaged::one_byte,
+    ),
+    (
+        "mixed: restores of saves with several faults",
+        139,
+        mixed_damaged::several_faults,
+    ),
+    ("mixed: recoveries", 140, mixed_recoveries::requests),
 ];
-
-/// The refusals that tell a record, and the records from 0 that each kind of
-/// call can tell: of saves of one to six components, whose place record is
-/// the third to the eighth. All of them have to come up.
-const RECORDS: [(Kind, u64, RangeInclusive<u64>); 6] = [
-    (Kind::Leg, 23, 2..=7),
-    (Kind::Save, 23, 2..=7),
-    (Kind::Restore, 11, 0..=7),
-    (Kind::Restore, 21, 0..=7),
-    (Kind::Restore, 22, 0..=0),
-    (Kind::Restore, 23, 2..=7),
-];
-
-/// How often each kind of call came out in each way, how often it gave each
-/// refusal, by its number, and how often with each place, where that is a
-/// record.
-#[derive(Default)]
-pub struct Seen {
-    outcomes: BTreeMap<(u64, u64), u64>,
-    refusals: BTreeMap<(u64, u64), u64>,
-    records: BTreeMap<(u64, u64, u64), u64>,
-}
-
-impl Seen {
-    pub fn count(&mut self, kind: Kind, answer: &Answer) {
-        let kind = kind as u64;
-        if answer.outcome() != REFUSED {
-            *self.outcomes.entry((kind, answer.outcome())).or_default() += 1;
-            return;
-        }
-        let refusal = answer.refusal();
-        *self.refusals.entry((kind, refusal)).or_default() += 1;
-        if let 11 | 21..=23 = refusal {
-            let record = (kind, refusal, answer.place_told());
-            *self.records.entry(record).or_default() += 1;
-        }
-    }
-
-    /// A line for each kind of call, and one for each of its refusals that
-    /// tells a record; or what never came up.
-    pub fn told(&self) -> Result<Vec<String>, String> {
-        let mut lines = Vec::new();
-        for (kind, outcomes, refusals) in ANSWERS {
-            let came_to = |name: &str, seen: &BTreeMap<(u64, u64), u64>, expected: &[u64]| {
-                let count = |what: u64| seen.get(&(kind as u64, what)).copied();
-                counts(&format!("{kind:?}"), name, expected.iter().copied(), count)
-            };
-            let outcomes = came_to("outcome", &self.outcomes, outcomes)?;
-            let refusals = came_to("refusal", &self.refusals, refusals)?;
-            lines.push(format!("{kind:?}, {outcomes}; {refusals}"));
-        }
-        for (kind, refusal, records) in RECORDS {
-            let count = |record| self.records.get(&(kind as u64, refusal, record)).copied();
-            let which = format!("{kind:?}, refusal {refusal},");
-            lines.push(format!(
-                "{which} {}",
-                counts(&which, "record", records, count)?
-            ));
-        }
-        Ok(lines)
-    }
-}
-
-/// The counts of what has to come up; or what did not.
-fn counts(
-    which: &str,
-    name: &str,
-    expected: impl Iterator<Item = u64>,
-    count: impl Fn(u64) -> Option<u64>,
-) -> Result<String, String> {
-    let counts: Result<Vec<String>, String> = expected
-        .map(|what| match count(what) {
-            Some(count) => Ok(format!("{what}: {count}")),
-            None => Err(format!("{which} never came to {name} {what}")),
-        })
-        .collect();
-    Ok(format!("by {name} {}", counts?.join(", ")))
-}

@@ -7,13 +7,13 @@ use super::random::Random;
 use super::request::{Kind, Request, Set, Slot, Value};
 use std::rc::Rc;
 
-struct Recovery {
-    motif: u64,
-    first_row: u64,
-    room: u64,
+pub struct Recovery {
+    pub motif: u64,
+    pub first_row: u64,
+    pub room: u64,
 }
 
-fn request(set: &Rc<Set>, value: Value, asked: Recovery, random: &mut Random) -> Request {
+pub fn request(set: &Rc<Set>, value: Value, asked: Recovery, random: &mut Random) -> Request {
     Request {
         motif: asked.motif,
         first_row: asked.first_row,
@@ -32,7 +32,7 @@ fn list_length(set: &Set, value: &Value, motif: u64) -> u64 {
 /// A motif's list from its start, its middle and its end on, from just past
 /// it and from far past it, into buffers about as long as a row, two rows and
 /// the whole list.
-fn around(set: &Rc<Set>, value: Value, motif: u64, random: &mut Random) -> Vec<Request> {
+pub fn around(set: &Rc<Set>, value: Value, motif: u64, random: &mut Random) -> Vec<Request> {
     let length = list_length(set, &value, motif);
     let row = u64::from(value.count) + 1;
     let mut first_rows = vec![0, 1, length.saturating_sub(1), length, length + 1, u64::MAX];

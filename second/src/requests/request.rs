@@ -1,6 +1,6 @@
 //! A request: one call with all that is lent to it.
 
-use std::fmt;
+use crate::Profile;
 use std::rc::Rc;
 
 /// Lent sequences: the letters of all, and the lengths.
@@ -40,18 +40,30 @@ pub struct Slot {
     pub length: u16,
     pub low: u16,
     pub high: u16,
+    pub allowance: u16,
 }
 
 impl Slot {
+    /// A slot without an allowance.
     pub fn new(length: u16, low: u16, high: u16) -> Slot {
-        Slot { length, low, high }
+        Slot {
+            length,
+            low,
+            high,
+            allowance: 0,
+        }
+    }
+
+    pub fn allowing(self, allowance: u16) -> Slot {
+        Slot { allowance, ..self }
     }
 }
 
-/// A search value as the library has it, with any numbers: a template with
-/// six slots, of which it counts some; quorum, counts and place.
+/// A search value as the library has it, with any numbers: a template with its
+/// profile and six slots, of which it counts some; quorum, counts and place.
 #[derive(Clone, Copy, Debug, Default, PartialEq, Eq)]
 pub struct Value {
+    pub profile: Profile,
     pub count: u16,
     pub slots: [Slot; 6],
     pub quorum: u64,
@@ -62,7 +74,8 @@ pub struct Value {
 }
 
 impl Value {
-    /// A template of these components; nothing else is set.
+    /// A template of these components in the exact profile; nothing else is
+    /// set.
     pub fn of(slots: &[Slot]) -> Value {
         let mut value = Value {
             count: slots.len() as u16,
@@ -90,7 +103,23 @@ impl Value {
         Value { quorum, ..self }
     }
 
-    /// The 24 numbers in the order of a head and of an answer.
+    /// The same in the mixed profile, with these allowances.
+    pub fn mixed(mut self, allowances: &[u16]) -> Value {
+        self.profile = Profile::Mixed;
+        for (slot, allowance) in self.slots.iter_mut().zip(allowances) {
+            slot.allowance = *allowance;
+        }
+        self
+    }
+
+    /// K, the letters of the components that it counts.
+    pub fn letters_in_all(&self) -> u64 {
+        let counted = self.slots.iter().take(self.count.into());
+        counted.map(|slot| u64::from(slot.length)).sum()
+    }
+
+    /// The 24 numbers in the order of a head and of an answer: all but the
+    /// profile and the allowances.
     pub fn words(&self) -> Vec<u64> {
         let mut words = vec![u64::from(self.count)];
         for slot in &self.slots {
@@ -102,13 +131,26 @@ impl Value {
         words
     }
 
-    /// A trailing T's number is odd at both bits, so the digits of a place
-    /// are told as letters, the first letter the highest.
+    /// The profile and the allowances, the last 7 numbers of a head and of an
+    /// answer.
+    pub fn profile_words(&self) -> Vec<u64> {
+        let mut words = vec![u64::from(self.profile.number())];
+        words.extend(self.slots.iter().map(|slot| u64::from(slot.allowance)));
+        words
+    }
+
+    /// The digits of a place as letters, the first letter the highest; a digit
+    /// that is no letter's as `?`.
     pub fn place_letters(&self) -> String {
-        (0..self.place.min(32))
-            .rev()
-            .map(|digit| b"ACGT"[(self.number >> (2 * digit)) as usize & 3] as char)
-            .collect()
+        let place = crate::Place {
+            letters: self.place.min(32),
+            number: self.number,
+        };
+        let name = |digit: &u8| match self.profile.letters().get(usize::from(*digit)) {
+            Some(letter) => char::from(*letter),
+            None => '?',
+        };
+        place.values(self.profile).iter().map(name).collect()
     }
 }
 
@@ -177,94 +219,6 @@ impl Request {
             at: 0,
             used: 0,
             count: 0,
-        }
-    }
-}
-
-/// A list, cut where it grows long.
-fn listed<T: fmt::Debug>(list: &[T]) -> String {
-    const SHOWN: usize = 40;
-    if list.len() <= SHOWN {
-        format!("{list:?}")
-    } else {
-        format!("{:?} and so on, {} in all", &list[..SHOWN], list.len())
-    }
-}
-
-impl fmt::Display for Set {
-    fn fmt(&self, out: &mut fmt::Formatter) -> fmt::Result {
-        const SHOWN: usize = 2_000;
-        let shown = &self.letters[..self.letters.len().min(SHOWN)];
-        writeln!(out, "  lengths {}", listed(&self.lengths))?;
-        writeln!(
-            out,
-            "  {} letters: {}",
-            self.letters.len(),
-            String::from_utf8_lossy(shown)
-        )
-    }
-}
-
-impl fmt::Display for Value {
-    fn fmt(&self, out: &mut fmt::Formatter) -> fmt::Result {
-        write!(out, "  template of {} components:", self.count)?;
-        for slot in &self.slots {
-            write!(out, " {}[{},{}]", slot.length, slot.low, slot.high)?;
-        }
-        writeln!(
-            out,
-            "\n  quorum {}, of {} sequences and {} letters, place {} number {} ({})",
-            self.quorum,
-            self.sequences,
-            self.letters,
-            self.place,
-            self.number,
-            self.place_letters()
-        )
-    }
-}
-
-impl fmt::Display for Request {
-    fn fmt(&self, out: &mut fmt::Formatter) -> fmt::Result {
-        writeln!(out, "  {:?}", self.kind)?;
-        if self.kind == Kind::Fasta {
-            let (file, letters) = (&self.set.letters, &self.saved);
-            writeln!(out, "  {} bytes: {}", file.len(), file.escape_ascii())?;
-            writeln!(out, "  cursor {}", self.at)?;
-            writeln!(out, "  {} used of letters {}", self.used, listed(letters))?;
-            return writeln!(out, "  {} used of rows {}", self.count, listed(&self.rows));
-        }
-        if self.kind == Kind::Join {
-            writeln!(out, "  first list {}", listed(&self.set.lengths))?;
-            writeln!(out, "  second list {}", listed(&self.partners))?;
-            writeln!(
-                out,
-                "  head {}, range {}, {}",
-                self.head, self.low, self.high
-            )?;
-            return writeln!(out, "  table {}", listed(&self.rows));
-        }
-        write!(out, "{}{}", self.set, self.value)?;
-        match self.kind {
-            Kind::Leg => writeln!(
-                out,
-                "  budget {}, tables of {}, {} and {}",
-                self.budget,
-                self.motifs.len(),
-                self.supports.len(),
-                self.weights.len()
-            ),
-            Kind::Save | Kind::Restore => {
-                writeln!(out, "  {} bytes {:02x?}", self.saved.len(), self.saved)
-            }
-            Kind::Recover => writeln!(
-                out,
-                "  motif {}, first row {}, buffer of {}",
-                self.motif,
-                self.first_row,
-                self.rows.len()
-            ),
-            Kind::Begin | Kind::Join | Kind::Fasta => Ok(()),
         }
     }
 }

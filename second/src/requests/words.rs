@@ -9,12 +9,12 @@ use super::request::{Kind, Request, Set, Slot, Value};
 use std::rc::Rc;
 
 /// Lengths of sequences about the ends of one to four words.
-const LENGTHS: [u64; 16] = [
+pub const LENGTHS: [u64; 16] = [
     63, 64, 65, 66, 127, 128, 129, 130, 191, 192, 193, 194, 255, 256, 257, 258,
 ];
 
 /// Gap ranges that lead, or reach, about as far as a word or two.
-const GAPS: [(u16, u16); 12] = [
+pub const GAPS: [(u16, u16); 12] = [
     (0, 1),
     (0, 62),
     (0, 63),
@@ -31,7 +31,7 @@ const GAPS: [(u16, u16); 12] = [
 
 /// A template of these lengths, with one of these ranges before each component
 /// but the first.
-fn template(lengths: &[u16], gaps: &[(u16, u16)], random: &mut Random) -> Value {
+pub fn template(lengths: &[u16], gaps: &[(u16, u16)], random: &mut Random) -> Value {
     let mut slots = vec![Slot::new(lengths[0], 0, 0)];
     for length in &lengths[1..] {
         let (low, high) = random.pick(gaps);
@@ -42,7 +42,13 @@ fn template(lengths: &[u16], gaps: &[(u16, u16)], random: &mut Random) -> Value 
 
 /// Adds a motif to a sequence. Each gap is the least, the most, or one that
 /// brings the component behind it to the end of a word, if one does.
-fn plant(sequence: &mut Vec<u8>, motif: &[u8], value: &Value, alphabet: u64, random: &mut Random) {
+pub fn plant(
+    sequence: &mut Vec<u8>,
+    motif: &[u8],
+    value: &Value,
+    alphabet: u64,
+    random: &mut Random,
+) {
     let mut letters = motif.iter();
     for slot in &value.slots[..value.count.into()] {
         let (low, high) = (u64::from(slot.low), u64::from(slot.high));

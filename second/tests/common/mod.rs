@@ -3,7 +3,7 @@
 
 #![allow(dead_code)]
 
-use second::{begin, leg, Answer, Component, Leg, Place, Refusal, Search, Template};
+use second::{begin, leg, Answer, Component, Leg, Place, Profile, Refusal, Search, Template};
 
 /// Lent sequences: the letters of all and the lengths.
 #[derive(Clone, Debug)]
@@ -49,14 +49,34 @@ pub fn e_template() -> Template {
     template(&[(1, 0, 0), (1, 0, 1)])
 }
 
+/// A template of the exact profile.
 pub fn template(components: &[(u8, u16, u16)]) -> Template {
     Template {
+        profile: Profile::Exact,
         components: components
             .iter()
             .map(|(length, low, high)| Component {
                 length: *length,
                 low: *low,
                 high: *high,
+                allowance: 0,
+            })
+            .collect(),
+    }
+}
+
+/// A template of the mixed profile: length, allowance, l and u of each
+/// component.
+pub fn mixed(components: &[(u8, u16, u16, u16)]) -> Template {
+    Template {
+        profile: Profile::Mixed,
+        components: components
+            .iter()
+            .map(|(length, allowance, low, high)| Component {
+                length: *length,
+                low: *low,
+                high: *high,
+                allowance: *allowance,
             })
             .collect(),
     }
@@ -78,6 +98,24 @@ pub fn letters_of(letters: usize, number: u64) -> String {
     (0..letters)
         .rev()
         .map(|power| b"ACGT"[(number >> (2 * power)) as usize % 4] as char)
+        .collect()
+}
+
+/// The letters of a mixed motif, in the request's order.
+pub const MIXED: &str = "ACGTRYKMSWBDHV";
+
+/// "Numbers are base 16 by place in that order."
+pub fn mixed_number(letters: &str) -> u64 {
+    letters.chars().fold(0, |number, letter| {
+        number * 16 + MIXED.find(letter).expect("a letter") as u64
+    })
+}
+
+/// The mixed letters of a number.
+pub fn mixed_letters_of(letters: usize, number: u64) -> String {
+    (0..letters)
+        .rev()
+        .map(|power| MIXED.as_bytes()[(number >> (4 * power)) as usize % 16] as char)
         .collect()
 }
 
@@ -133,6 +171,24 @@ pub fn refusal(number: u8, place: u64) -> Refusal {
     Refusal { number, place }
 }
 
+/// Whether a sequence's letter is one that a motif's letter stands for.
+fn fits((there, letter): (char, char)) -> bool {
+    let bases = match letter {
+        'R' => "AG",
+        'Y' => "CT",
+        'K' => "GT",
+        'M' => "AC",
+        'S' => "CG",
+        'W' => "AT",
+        'B' => "CGT",
+        'D' => "AGT",
+        'H' => "ACT",
+        'V' => "ACG",
+        single => return there == single,
+    };
+    bases.contains(there)
+}
+
 /// All occurrences of a prefix, by trying every tuple of positions in every
 /// sequence, in the paper's order.
 pub fn naive_occurrences(lent: &Lent, template: &Template, prefix: &str) -> Vec<Vec<u32>> {
@@ -158,7 +214,8 @@ pub fn naive_occurrences(lent: &Lent, template: &Template, prefix: &str) -> Vec<
                 left /= positions;
             }
             let stand = parts.iter().zip(&starts).all(|((part, _, _), start)| {
-                sequence.get(start - 1..start - 1 + part.len()) == Some(*part)
+                let there = sequence.get(start - 1..start - 1 + part.len());
+                there.is_some_and(|there| there.chars().zip(part.chars()).all(fits))
             });
             let gaps = (1..parts.len()).all(|next| {
                 let gap =

@@ -23,7 +23,7 @@ cast-n : tie.Need-cast-n Inv-loop μ-loop
 cast-n c = search needs
 
 loop-holds : tie.Need-loop-holds Inv-loop μ-loop
-loop-holds c = none-passed 8 bad-gap _ (c .before .components .ensures) (c .held .ensures)
+loop-holds c = none-passed 8 bad-gap (c .before .before .args .t) (c .before .components .ensures) (c .held .ensures)
 
 add-at : tie.Need-add-at Inv-loop μ-loop
 add-at c = search needs

@@ -1,4 +1,4 @@
--- `check_new`: the parts are those of the order 1 to 9, and the first of two, grouped either way, is the first of the list.
+-- `check_new`: the parts are those of the order 1 to 8, 24 and 9, and the first of two, grouped either way, is the first of the list.
 use Rattle.rules.specs.Refusals.{first, new-checks}
 use Rattle.rules.proofs.Verdicts.{else-assoc, else-fine}
 use borrow.Author.Needs.{needs}

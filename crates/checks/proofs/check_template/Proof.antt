@@ -26,20 +26,29 @@ check-gaps-requires c κs = search needs
 then-requires-3 : tie.Need-then-requires-3
 then-requires-3 c κs = search needs
 
+check-allowances-requires : tie.Need-check-allowances-requires
+check-allowances-requires c κs = search needs
+
+then-requires-4 : tie.Need-then-requires-4
+then-requires-4 c κs = search needs
+
 returns : tie.Need-returns
 unfolding first
 returns c =
     let b = c .before .before in
     let d = b .before .before in
     let e = d .before .before in
+    let f = e .before .before in
     simp (
-      c .then3 .ensures,
-      c .before .check-gaps .ensures,
-      b .then2 .ensures,
-      b .before .check-size .ensures,
-      d .then .ensures,
-      d .before .check-lengths .ensures,
-      e .check-count .ensures,
+      c .then4 .ensures,
+      c .before .check-allowances .ensures,
+      b .then3 .ensures,
+      b .before .check-gaps .ensures,
+      d .then2 .ensures,
+      d .before .check-size .ensures,
+      e .then .ensures,
+      e .before .check-lengths .ensures,
+      f .check-count .ensures,
       else-assoc,
       else-fine,
     )
@@ -55,4 +64,6 @@ check-template-spec =
     then-requires-2
     check-gaps-requires
     then-requires-3
+    check-allowances-requires
+    then-requires-4
     returns)

@@ -32,17 +32,23 @@ check-gaps-requires c κs = search needs
 then-requires-4 : tie.Need-then-requires-4
 then-requires-4 c κs = search needs
 
-check-same-set-requires : tie.Need-check-same-set-requires
-check-same-set-requires c κs = search needs
+check-allowances-requires : tie.Need-check-allowances-requires
+check-allowances-requires c κs = search needs
 
 then-requires-5 : tie.Need-then-requires-5
 then-requires-5 c κs = search needs
 
-check-quorum-requires : tie.Need-check-quorum-requires
-check-quorum-requires c κs = search needs
+check-same-set-requires : tie.Need-check-same-set-requires
+check-same-set-requires c κs = search needs
 
 then-requires-6 : tie.Need-then-requires-6
 then-requires-6 c κs = search needs
+
+check-quorum-requires : tie.Need-check-quorum-requires
+check-quorum-requires c κs = search needs
+
+then-requires-7 : tie.Need-then-requires-7
+then-requires-7 c κs = search needs
 
 returns : tie.Need-returns
 unfolding first
@@ -53,20 +59,23 @@ returns c =
     let f = e .before .before in
     let g = f .before .before in
     let h = g .before .before in
+    let i = h .before .before in
     simp (
-      c .then6 .ensures,
+      c .then7 .ensures,
       c .before .check-quorum .ensures,
-      b .then5 .ensures,
+      b .then6 .ensures,
       b .before .check-same-set .ensures,
-      d .then4 .ensures,
-      d .before .check-gaps .ensures,
-      e .then3 .ensures,
-      e .before .check-size .ensures,
-      f .then2 .ensures,
-      f .before .check-lengths .ensures,
-      g .then .ensures,
-      g .before .check-place .ensures,
-      h .check-count .ensures,
+      d .then5 .ensures,
+      d .before .check-allowances .ensures,
+      e .then4 .ensures,
+      e .before .check-gaps .ensures,
+      f .then3 .ensures,
+      f .before .check-size .ensures,
+      g .then2 .ensures,
+      g .before .check-lengths .ensures,
+      h .then .ensures,
+      h .before .check-place .ensures,
+      i .check-count .ensures,
       else-assoc,
       else-fine,
     )
@@ -84,8 +93,10 @@ check-value-spec =
     then-requires-3
     check-gaps-requires
     then-requires-4
-    check-same-set-requires
+    check-allowances-requires
     then-requires-5
-    check-quorum-requires
+    check-same-set-requires
     then-requires-6
+    check-quorum-requires
+    then-requires-7
     returns)

@@ -1,5 +1,5 @@
 -- `place_rule`: its two tests are those of the rule.
-use Rattle.rules.proofs.Exact.{exact-search, exact-place}
+use Rattle.rules.specs.Saved.{place-rule?}
 use borrow.Author.Needs.{needs}
 use Rattle.checks.proofs.place_rule.Statement.{statement}
 use Rattle.checks.proofs.place_rule.Tie as tie
@@ -10,13 +10,12 @@ cast-j c = search needs
 letters-requires : tie.Need-letters-requires
 letters-requires c κs = search needs
 
-spelled-by-requires : tie.Need-spelled-by-requires
-spelled-by-requires c κs = search needs
+valid-requires : tie.Need-valid-requires
+valid-requires c κs = search needs
 
 returns : tie.Need-returns
-returns c =
-    let t = c .before .before .before .args .t in
-    rw (c .before .letters .ensures, c .spelled-by .ensures, exact-place t (exact-search t))
+unfolding place-rule?
+returns c = rw (c .before .letters .ensures, c .valid .ensures)
 
 pub place-rule-spec : {M : Type 1} → statement M
-place-rule-spec = tie.close (tie.spec cast-j letters-requires spelled-by-requires returns)
+place-rule-spec = tie.close (tie.spec cast-j letters-requires valid-requires returns)

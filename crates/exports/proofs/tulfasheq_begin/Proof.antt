@@ -8,6 +8,9 @@ use Rattle.exports.proofs.tulfasheq_begin.Tie as tie
 read-requires : tie.Need-read-requires
 read-requires c κs = search needs
 
+check-profile-requires : tie.Need-check-profile-requires
+check-profile-requires c κs = search needs
+
 begin-requires : tie.Need-begin-requires
 begin-requires c κs = search needs
 
@@ -24,9 +27,9 @@ returns : tie.Need-returns
 unfolding begin-outcome
 returns c =
     let b = c .before .before .before in
-    begun-outcome _ _ _ _ _ (b .before .before .before .read .ensures) (b .before .before .begin .ensures) (c .saved2 .ensures) (b .save-begun .ensures)
+    begun-outcome _ _ _ _ _ _ (b .before .before .before .check-profile .ensures) (b .before .before .before .before .read .ensures) (b .before .before .begin .ensures) (c .saved2 .ensures) (b .save-begun .ensures)
 
 pub tulfasheq-begin-spec : {M : Type 1} → statement M
 tulfasheq-begin-spec =
     tie.close
-    (tie.spec read-requires begin-requires save-begun-requires saved-requires same-length returns)
+    (tie.spec read-requires check-profile-requires begin-requires save-begun-requires saved-requires same-length returns)

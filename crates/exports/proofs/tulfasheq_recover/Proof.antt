@@ -9,6 +9,9 @@ use Rattle.exports.proofs.tulfasheq_recover.Tie as tie
 read-requires : tie.Need-read-requires
 read-requires c κs = search needs
 
+check-profile-requires : tie.Need-check-profile-requires
+check-profile-requires c κs = search needs
+
 recover-requires : tie.Need-recover-requires
 recover-requires c κs = search needs
 
@@ -20,8 +23,8 @@ same-length c = search needs
 
 returns : tie.Need-returns
 unfolding recover-outcome
-returns c = rw (← c .before .before .before .before .before .read .ensures) (written-outcome page-told _ (c .recovered .ensures) (c .before .before .before .recover .ensures .0) (c .before .before .before .recover .ensures .1))
+returns c = rw (← c .before .before .before .before .before .before .read .ensures, ← c .before .before .before .before .before .check-profile .ensures) (written-outcome page-told _ (c .recovered .ensures) (c .before .before .before .recover .ensures .0) (c .before .before .before .recover .ensures .1))
 
 pub tulfasheq-recover-spec : {M : Type 1} → statement M
 tulfasheq-recover-spec =
-    tie.close (tie.spec read-requires recover-requires recovered-requires same-length returns)
+    tie.close (tie.spec read-requires check-profile-requires recover-requires recovered-requires same-length returns)

@@ -14,13 +14,21 @@ begun-requires c κs = search needs
 write-shape-requires : tie.Need-write-shape-requires
 write-shape-requires c κs = search needs
 
+write-allowances-requires : tie.Need-write-allowances-requires
+write-allowances-requires c κs = search needs
+
 same-length : tie.Need-same-length
 same-length c = search needs
 
+same-length-2 : tie.Need-same-length-2
+same-length-2 c = search needs
+
 returns : tie.Need-returns
 unfolding restore-outcome
-returns c = restored-outcome _ _ (c .before .before .before .before .begun .ensures) (c .before .before .before .before .before .restore .ensures) (c .before .before .write-shape .ensures)
+returns c =
+    let s = c .before .before .before .before .before .before in
+    restored-outcome _ _ _ (s .before .before .begun .ensures) (s .before .before .before .restore .ensures) (s .write-shape .ensures) (c .before .before .write-allowances .ensures)
 
 pub tulfasheq-restore-spec : {M : Type 1} → statement M
 tulfasheq-restore-spec =
-    tie.close (tie.spec restore-requires begun-requires write-shape-requires same-length returns)
+    tie.close (tie.spec restore-requires begun-requires write-shape-requires write-allowances-requires same-length same-length-2 returns)

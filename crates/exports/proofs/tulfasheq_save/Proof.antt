@@ -9,6 +9,9 @@ use Rattle.exports.proofs.tulfasheq_save.Tie as tie
 read-requires : tie.Need-read-requires
 read-requires c κs = search needs
 
+check-profile-requires : tie.Need-check-profile-requires
+check-profile-requires c κs = search needs
+
 save-requires : tie.Need-save-requires
 save-requires c κs = search needs
 
@@ -20,8 +23,8 @@ same-length c = search needs
 
 returns : tie.Need-returns
 unfolding save-outcome
-returns c = rw (← c .before .before .before .before .before .read .ensures) (written-outcome count-told _ (c .saved .ensures) (c .before .before .before .save .ensures .0) (c .before .before .before .save .ensures .1))
+returns c = rw (← c .before .before .before .before .before .before .read .ensures, ← c .before .before .before .before .before .check-profile .ensures) (written-outcome count-told _ (c .saved .ensures) (c .before .before .before .save .ensures .0) (c .before .before .before .save .ensures .1))
 
 pub tulfasheq-save-spec : {M : Type 1} → statement M
 tulfasheq-save-spec =
-    tie.close (tie.spec read-requires save-requires saved-requires same-length returns)
+    tie.close (tie.spec read-requires check-profile-requires save-requires saved-requires same-length returns)

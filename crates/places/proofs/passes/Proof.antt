@@ -2,9 +2,11 @@
 use mathlib.Core.Path.{sym, _∙_}
 use native.Mathlib.Omega.{arith}
 use borrow.Author.Needs.{needs}
+use Rattle.rules.proofs.EachKind.{base-most}
+use Rattle.rules.proofs.Spells.{place-rule-says}
 use Rattle.matching.proofs.First.{slot-long, table-long, slot-is}
 use Rattle.matching.proofs.Slots.{slot-same}
-use Rattle.places.proofs.Through.{passes-none, passes-by, rule-deep, rule-below}
+use Rattle.places.proofs.Through.{passes-none, passes-by}
 use Rattle.places.proofs.passes.Statement.{statement}
 use Rattle.places.proofs.passes.Tie as tie
 
@@ -22,7 +24,7 @@ make-requires c κs =
     let b = c .before .before .before .before .before .before .before .before .before .before .before .before .before .before .before .before .before .before .before in
     let p = b .pre in
     let t = p .1 .1 .1 in
-    (p .1 .0, (p .0, (omega (arith, t .inside-long, p .1 .0 .deep), omega (arith, t .firsts-long, p .0 .few), omega (arith, t .offsets-long, p .0 .few), omega (arith, t .standing-long), omega (arith, t .standing-long), slot-long (b .args .evens .now) (omega (arith, t .evens-long)), t .work-long)))
+    (p .1 .0, (p .0, (omega (arith, t .inside-long, p .1 .0 .deep), omega (arith, t .firsts-long, p .0 .few), omega (arith, t .offsets-long, p .0 .few), omega (arith, t .standing-long, base-most (b .args .s .template)), omega (arith, t .standing-long), slot-long (b .args .evens .now) (omega (arith, t .evens-long)), t .work-long)))
 
 replay-requires : tie.Need-replay-requires
 replay-requires c κs =
@@ -33,8 +35,8 @@ replay-requires c κs =
     let m = c .before .before .before .before .before .before .before .before .before .before .before .before .before .before .before .before .before .before .make .ensures in
     let ys = c .before .before .before .before .before .before .before .before .before .before .before .before .before .before .before .before .before .before .make .last .1 .1 .1 .1 .1 .1 .1 .0 in
     let n = m .1 .1 .1 in
-    let deep = rule-deep (a .template) (a .place) (p .1 .1 .0) in
-    (p .1 .0, (p .0, ((omega (arith, c .before .before .before .before .before .before .before .before .before .before .before .before .before .before .before .before .before .before .before .before .before .before .before .before .before .before .if1 .left), deep, rule-below (a .template) (a .place) (p .1 .1 .0)), (m .0, (slot-same (a .template) _ _ 0 0 (sym (slot-is (b .args .evens .now) (omega (arith, t .evens-long)) ys (n .4))) (m .1 .1 .0), (table-long (b .args .evens .now) (omega (arith, t .evens-long)) ys (n .4) ∙ t .evens-long, t .odds-long, t .spare-long))))))
+    let rule = place-rule-says (a .template) (a .place) .0 (p .1 .1 .0) in
+    (p .1 .0, (p .0, ((omega (arith, c .before .before .before .before .before .before .before .before .before .before .before .before .before .before .before .before .before .before .before .before .before .before .before .before .before .before .if1 .left), rule .most, rule .spells .below), (m .0, (slot-same (a .template) _ _ 0 0 (sym (slot-is (b .args .evens .now) (omega (arith, t .evens-long)) ys (n .4))) (m .1 .1 .0), (table-long (b .args .evens .now) (omega (arith, t .evens-long)) ys (n .4) ∙ t .evens-long, t .odds-long, t .spare-long))))))
 
 frequent-requires : tie.Need-frequent-requires
 frequent-requires c κs = search needs
@@ -72,7 +74,7 @@ returns-2 c =
     let ys = c .before .before .before .before .before .before .before .before .before .before .before .before .before .before .before .before .before .before .before .before .before .before .before .before .before .before .make .last .1 .1 .1 .1 .1 .1 .1 .0 in
     let r = c .before .before .before .before .before .before .before .replay .ensures in
     let n = m .1 .1 .1 in (
-      passes-by (b .args .letters .now) (b .args .lengths .now) (b .args .s) (omega (arith, c .before .before .before .before .before .before .before .before .before .before .before .before .before .before .before .before .before .before .before .before .before .before .before .before .before .before .before .before .before .before .before .before .before .before .if1 .left)) (r .0) (c .frequent .ensures),
+      passes-by (b .args .letters .now) (b .args .lengths .now) (b .args .s) (p .1 .1 .0) (omega (arith, c .before .before .before .before .before .before .before .before .before .before .before .before .before .before .before .before .before .before .before .before .before .before .before .before .before .before .before .before .before .before .before .before .before .before .if1 .left)) (r .0) (c .frequent .ensures),
       (
         record {
           inside-long = n .0 ∙ t .inside-long;

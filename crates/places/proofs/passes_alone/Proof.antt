@@ -9,7 +9,7 @@ returns : tie.Need-returns
 returns c = passes-none _ _ _ (c .if1 .taken)
 
 returns-2 : tie.Need-returns-2
-returns-2 c = passes-one _ _ _ (c .if2 .taken)
+returns-2 c = passes-one _ _ _ (c .before .before .before .before .before .before .pre .1 .1) (c .if2 .taken)
 
 candidate-alone-requires : tie.Need-candidate-alone-requires
 candidate-alone-requires c κs =

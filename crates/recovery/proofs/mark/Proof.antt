@@ -52,7 +52,7 @@ mark-component-requires c κs =
     let b = c .before .before .before .before .before .before .before .before .before .before .before .before in
     let l = c .before .before .before .before .loop in
     let k : l .c - 1 + 1 ≡ l .c = omega arith in
-    (b .pre .0, (omega (arith, b .pre .0 .deep, c .before .before .before .before .before .before .before .spell .kept .1 .0), λ h. rw k (l .inv .4 (omega arith))))
+    (b .pre .0, (omega (arith, b .pre .0 .deep, c .before .before .before .before .before .before .before .spell .kept .1 .1 .0), λ h. rw k (l .inv .4 (omega arith))))
 
 loop-less : tie.Need-loop-less Inv-loop μ-loop
 loop-less c = search needs

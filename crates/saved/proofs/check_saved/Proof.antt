@@ -61,17 +61,23 @@ check-gaps-requires c κs = search needs
 then-requires-9 : tie.Need-then-requires-9
 then-requires-9 c κs = search needs
 
-check-same-set-requires : tie.Need-check-same-set-requires
-check-same-set-requires c κs = search needs
+check-allowances-requires : tie.Need-check-allowances-requires
+check-allowances-requires c κs = search needs
 
 then-requires-10 : tie.Need-then-requires-10
 then-requires-10 c κs = search needs
 
-check-quorum-requires : tie.Need-check-quorum-requires
-check-quorum-requires c κs = search needs
+check-same-set-requires : tie.Need-check-same-set-requires
+check-same-set-requires c κs = search needs
 
 then-requires-11 : tie.Need-then-requires-11
 then-requires-11 c κs = search needs
+
+check-quorum-requires : tie.Need-check-quorum-requires
+check-quorum-requires c κs = search needs
+
+then-requires-12 : tie.Need-then-requires-12
+then-requires-12 c κs = search needs
 
 returns : tie.Need-returns
 returns c =
@@ -85,27 +91,30 @@ returns c =
     let j = i .before .before in
     let k = j .before .before in
     let l = k .before .before in
-    let s = l .before .before .before .before .before .before .before in
+    let m = l .before .before in
+    let s = m .before .before .before .before .before .before .before in
     rw (← s .pre)
-    (then-next _ (c .then11 .ensures)
-    (then-next _ (b .then10 .ensures)
-    (then-next _ (d .then9 .ensures)
-    (then-next _ (e .then8 .ensures)
-    (then-next _ (f .then7 .ensures)
-    (then-next _ (g .then6 .ensures)
-    (then-next _ (h .then5 .ensures)
-    (then-next _ (i .then4 .ensures)
-    (then-next _ (j .then3 .ensures)
-    (then-next _ (k .then2 .ensures)
-    (then-next _ (l .then .ensures) (l .before .before .check-set .ensures) (l .before .check-sized .ensures))
-    (k .before .check-count .ensures))
-    (j .before .check-kinds .ensures))
-    (i .before .check-blanks .ensures))
-    (h .before .check-adds-up .ensures))
-    (g .before .check-place .ensures))
-    (f .before .check-lengths .ensures))
-    (e .before .check-size .ensures))
-    (d .before .check-gaps .ensures))
+    (then-next _ (c .then12 .ensures)
+    (then-next _ (b .then11 .ensures)
+    (then-next _ (d .then10 .ensures)
+    (then-next _ (e .then9 .ensures)
+    (then-next _ (f .then8 .ensures)
+    (then-next _ (g .then7 .ensures)
+    (then-next _ (h .then6 .ensures)
+    (then-next _ (i .then5 .ensures)
+    (then-next _ (j .then4 .ensures)
+    (then-next _ (k .then3 .ensures)
+    (then-next _ (l .then2 .ensures)
+    (then-next _ (m .then .ensures) (m .before .before .check-set .ensures) (m .before .check-sized .ensures))
+    (l .before .check-count .ensures))
+    (k .before .check-kinds .ensures))
+    (j .before .check-blanks .ensures))
+    (i .before .check-adds-up .ensures))
+    (h .before .check-place .ensures))
+    (g .before .check-lengths .ensures))
+    (f .before .check-size .ensures))
+    (e .before .check-gaps .ensures))
+    (d .before .check-allowances .ensures))
     (b .before .check-same-set .ensures))
     (c .before .check-quorum .ensures))
 
@@ -132,8 +141,10 @@ check-saved-spec =
     then-requires-8
     check-gaps-requires
     then-requires-9
-    check-same-set-requires
+    check-allowances-requires
     then-requires-10
-    check-quorum-requires
+    check-same-set-requires
     then-requires-11
+    check-quorum-requires
+    then-requires-12
     returns)

@@ -3,8 +3,9 @@ use borrow.Author.Needs.{needs}
 use mathlib.Core.Path.{_≡_, sym, _∙_}
 use Prim.Native.Nat.{suc, _+_, _-_, _≤_}
 use lib.ListN.{length}
-use Rattle.rules.specs.Occurrence.{stands}
-use Rattle.ways.proofs.Standing.{rest, stands-short, rest-all, rest-next, rest-stop, rest-done}
+use Rattle.rules.proofs.Tests.{not-false, not-passes}
+use Rattle.ways.specs.Counts.{stands}
+use Rattle.ways.proofs.Standing.{rest, value-small, stands-short, rest-all, rest-next, rest-stop, rest-done}
 use Rattle.ways.proofs.stands.Statement.{statement}
 use Rattle.ways.proofs.stands.Tie as tie
 
@@ -23,17 +24,25 @@ returns c = stands-short _ _ _ (c .if1 .taken)
 loop-holds : tie.Need-loop-holds Inv-loop μ-loop
 loop-holds c = (search needs, search needs, rest-all _ _ _)
 
-shared-slice-read-if2 : tie.Need-shared-slice-read-if2 Inv-loop μ-loop
-shared-slice-read-if2 c = search needs
+add-value : tie.Need-add-value Inv-loop μ-loop
+add-value c = search needs
 
-add-if2 : tie.Need-add-if2 Inv-loop μ-loop
-add-if2 c = search needs
+shared-slice-read-value : tie.Need-shared-slice-read-value Inv-loop μ-loop
+shared-slice-read-value c = search needs
 
-shared-slice-read-if2-2 : tie.Need-shared-slice-read-if2-2 Inv-loop μ-loop
-shared-slice-read-if2-2 c = search needs
+value-requires : tie.Need-value-requires Inv-loop μ-loop
+value-requires c κs = search needs
+
+shared-slice-read-has-base : tie.Need-shared-slice-read-has-base Inv-loop μ-loop
+shared-slice-read-has-base c = search needs
+
+has-base-requires : tie.Need-has-base-requires Inv-loop μ-loop
+has-base-requires c κs = value-small _ (c .before .value .ensures)
 
 returns-2 : tie.Need-returns-2 Inv-loop μ-loop
-returns-2 c = sym (c .before .before .before .before .loop .inv .2 ∙ rest-stop _ _ _ _ (search needs) (search needs) (c .if2 .taken))
+returns-2 c =
+    let l = c .before .before .before .before .before .before .loop in
+    sym (l .inv .2 ∙ rest-stop _ _ _ _ (search needs) (search needs) (c .before .before .before .value .ensures) (c .before .has-base .ensures) (not-passes _ .0 (c .if2 .taken)))
 
 add-j : tie.Need-add-j Inv-loop μ-loop
 add-j c = search needs
@@ -42,7 +51,9 @@ loop-less : tie.Need-loop-less Inv-loop μ-loop
 loop-less c = search needs
 
 loop-again : tie.Need-loop-again Inv-loop μ-loop
-loop-again c = (search needs, search needs, c .before .before .before .before .loop .inv .2 ∙ rest-next _ _ _ _ (search needs) (search needs) (c .if2 .left))
+loop-again c =
+    let l = c .before .before .before .before .before .before .loop in
+    (search needs, search needs, l .inv .2 ∙ rest-next _ _ _ _ (search needs) (search needs) (c .before .before .before .value .ensures) (c .before .has-base .ensures) (not-false _ .0 (c .if2 .left)))
 
 returns-3 : tie.Need-returns-3 Inv-loop μ-loop
 returns-3 c = sym (c .before .loop .inv .2 ∙ rest-done _ _ _ _ (search needs) (search needs))
@@ -56,9 +67,11 @@ stands-spec =
     sub-if1
     returns
     loop-holds
-    shared-slice-read-if2
-    add-if2
-    shared-slice-read-if2-2
+    add-value
+    shared-slice-read-value
+    value-requires
+    shared-slice-read-has-base
+    has-base-requires
     returns-2
     add-j
     loop-less

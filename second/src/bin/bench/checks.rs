@@ -41,10 +41,8 @@ fn refused(search: &Search) -> Option<(u64, u64)> {
 
 /// The same, by the library.
 fn refused_by_library(search: &Search) -> Option<(u64, u64)> {
-    let template = library::Template {
-        components: search.components.len() as u16,
-        shape: &linked::shape(search),
-    };
+    let shape = linked::shape(search);
+    let template = library::Template::exact(search.components.len() as u16, &shape);
     let mut saved = [0; 128];
     let (letters, lengths) = (&search.set.letters, &search.set.lengths);
     let begun = library::begin(letters, lengths, template, search.quorum, &mut saved);

@@ -2,10 +2,15 @@
 
 use crate::walk::{Search, Set};
 use second::requests::random::Random;
-use second::Component;
+use second::{Component, Profile};
 
 pub fn component(length: u8, low: u16, high: u16) -> Component {
-    Component { length, low, high }
+    Component {
+        length,
+        low,
+        high,
+        allowance: 0,
+    }
 }
 
 /// A shortest sequence in which every word of four letters stands: each letter
@@ -33,6 +38,7 @@ pub fn walk(letters: usize, low: u16, high: u16) -> Search {
     long.extend(Random::new(letters as u64).letters(more as u64, 4));
     Search {
         set: Set::of(&[long, short]),
+        profile: Profile::Exact,
         components: vec![
             component(2, 0, 0),
             component(2, low, high),
@@ -46,6 +52,7 @@ pub fn walk(letters: usize, low: u16, high: u16) -> Search {
 pub fn one_sequence(low: u16, high: u16) -> Search {
     Search {
         set: Set::of(&[Random::new(1).letters(65_536, 4)]),
+        profile: Profile::Exact,
         components: vec![component(6, 0, 0), component(6, low, high)],
         quorum: 1,
     }
@@ -66,6 +73,7 @@ pub fn twelve_percent() -> Search {
     let sequences: Vec<Vec<u8>> = (0..1_024).map(|_| random.letters(64, 4)).collect();
     Search {
         set: Set::of(&sequences),
+        profile: Profile::Exact,
         components: vec![
             component(4, 0, 0),
             component(4, 0, 100),
@@ -82,6 +90,7 @@ pub fn many_rows() -> Search {
     let sequences: Vec<Vec<u8>> = (0..64).map(|_| random.letters(128, 4)).collect();
     Search {
         set: Set::of(&sequences),
+        profile: Profile::Exact,
         components: vec![component(3, 0, 0), component(3, 0, 30)],
         quorum: 2,
     }
@@ -92,6 +101,7 @@ pub fn many_rows() -> Search {
 pub fn many_occurrences() -> Search {
     Search {
         set: Set::of(&[Random::new(2).letters(65_536, 4)]),
+        profile: Profile::Exact,
         components: vec![component(1, 0, 0), component(1, 0, 30), component(1, 0, 30)],
         quorum: 1,
     }
@@ -107,12 +117,13 @@ pub fn few_occurrences() -> Search {
 }
 
 /// Random letters, so many sequences of so many.
-fn random(count: usize, letters: u64, shape: &[(u8, u16, u16)], quorum: u64) -> Search {
+pub fn random(count: usize, letters: u64, shape: &[(u8, u16, u16)], quorum: u64) -> Search {
     let mut random = Random::new(letters + count as u64);
     let sequences: Vec<Vec<u8>> = (0..count).map(|_| random.letters(letters, 4)).collect();
     let parts = shape.iter();
     Search {
         set: Set::of(&sequences),
+        profile: Profile::Exact,
         components: parts
             .map(|(n, low, high)| component(*n, *low, *high))
             .collect(),

@@ -9,9 +9,15 @@ pub fn shape(search: &Search) -> Vec<u16> {
     search.components.iter().flat_map(numbers).collect()
 }
 
+/// Its allowances, as the library takes them.
+pub fn allowances(search: &Search) -> Vec<u16> {
+    search.components.iter().map(|c| c.allowance).collect()
+}
+
 /// The saved bytes of a search at a place.
 pub fn saved_at(search: &Search, place: Place) -> Vec<u8> {
     let told = library::Search {
+        profile: search.profile.number(),
         components: search.components.len() as u16,
         quorum: search.quorum,
         sequences: search.set.lengths.len() as u32,
@@ -21,7 +27,9 @@ pub fn saved_at(search: &Search, place: Place) -> Vec<u8> {
     };
     let mut saved = vec![0; 16 * (search.components.len() + 2)];
     let (letters, lengths) = (&search.set.letters, &search.set.lengths);
-    library::save(letters, lengths, &told, &shape(search), &mut saved).expect("a candidate");
+    let (shape, allowances) = (shape(search), allowances(search));
+    let size = library::save(letters, lengths, &told, &shape, &allowances, &mut saved);
+    size.expect("a candidate");
     saved
 }
 
@@ -56,8 +64,10 @@ pub fn leg(search: &Search, saved: &[u8], budget: u64, tables: &mut Rows) -> Wen
 /// A recovery from row 0 on.
 pub fn recover(search: &Search, motif: u64, out: &mut [u32]) -> (usize, u64) {
     let template = library::Template {
+        profile: search.profile.number(),
         components: search.components.len() as u16,
         shape: &shape(search),
+        allowances: &allowances(search),
     };
     let (letters, lengths) = (&search.set.letters, &search.set.lengths);
     let recovered =

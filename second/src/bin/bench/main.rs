@@ -2,7 +2,8 @@
 //! `bits`, which keeps rows of bits along the path as the library does, and
 //! `positions`, which keeps position lists; `passes`, which recovers by the
 //! library's own passes; and `reader`, which reads FASTA. Each is held to the
-//! library's answers before it is timed. `second/bench.sh` runs it;
+//! library's answers before it is timed. And the library's mixed searches
+//! beside its exact ones. `second/bench.sh` runs it;
 //! docs/BENCHMARKS.md says what is measured and how it is meant.
 
 mod bits;
@@ -12,6 +13,7 @@ mod inputs;
 mod legs;
 mod linked;
 mod measures;
+mod mixed;
 mod passes;
 mod positions;
 mod reader;
@@ -22,11 +24,12 @@ mod walk;
 mod words;
 
 /// The measures, by the names that they can be asked for by.
-const MEASURES: [(&str, fn()); 6] = [
+const MEASURES: [(&str, fn()); 7] = [
     ("checks", checks::of_a_new_search),
     ("legs", measures::no_step),
     ("walk", measures::candidates),
     ("searches", measures::searches),
+    ("mixed", mixed::beside_exact),
     ("recovery", measures::occurrences),
     ("reading", files::readers),
 ];

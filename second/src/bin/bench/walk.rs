@@ -2,7 +2,7 @@
 //! what a leg answers.
 
 use second::library::Stop;
-use second::Component;
+use second::{Component, Profile};
 
 /// Lent sequences.
 #[derive(Clone, Debug)]
@@ -30,10 +30,12 @@ impl Set {
     }
 }
 
-/// A template and a quorum, over a set.
+/// A template and a quorum, over a set. The Rust programs have the exact
+/// profile alone.
 #[derive(Clone, Debug)]
 pub struct Search {
     pub set: Set,
+    pub profile: Profile,
     pub components: Vec<Component>,
     pub quorum: u64,
 }
@@ -42,6 +44,17 @@ impl Search {
     /// K, the letters in all.
     pub fn depth(&self) -> usize {
         self.components.iter().map(|c| usize::from(c.length)).sum()
+    }
+
+    /// The same in the mixed profile, with an allowance for each component, at
+    /// most its length.
+    pub fn mixed(&self, allowance: u16) -> Search {
+        let mut search = self.clone();
+        search.profile = Profile::Mixed;
+        for component in &mut search.components {
+            component.allowance = allowance.min(component.length.into());
+        }
+        search
     }
 }
 

@@ -110,7 +110,7 @@ impl Program {
                         "the program differs from the second one in {difference}\n{request}"
                     ));
                 }
-                self.seen.count(request.kind, &answer);
+                self.seen.count(request, &answer);
             }
             if !rest.is_empty() {
                 return Err(format!("{} bytes after the last answer", rest.len()));

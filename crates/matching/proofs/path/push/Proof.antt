@@ -2,11 +2,11 @@
 use mathlib.Core.Path.{refl}
 use Prim.Native.Nat.{_-_, _/_}
 use native.Mathlib.Omega.{arith}
+use borrow.Author.Needs.{needs}
 use Rattle.matching.specs.Path.{row-slot}
 use Rattle.rows.specs.Set.{between}
 use Rattle.matching.proofs.Push.{pushed-even, pushed-odd}
-use Rattle.matching.proofs.Slots.{parent-even, parent-odd, row-long}
-use borrow.Author.Needs.{needs}
+use Rattle.matching.proofs.Slots.{parent-even, parent-odd, row-cut, row-long}
 use Rattle.matching.proofs.path.push.Statement.{statement}
 use Rattle.matching.proofs.path.push.Tie as tie
 
@@ -25,8 +25,20 @@ mul-b c = search needs
 add-f : tie.Need-add-f
 add-f c = search needs
 
+test-for-requires : tie.Need-test-for-requires
+test-for-requires c κs =
+    let p = c .before .before .before .before .before .before .before .before .pre in
+    let deep = p .1 .1 .0 in
+    let ready = p .1 .1 .1 .0 in
+    (p .0, ((deep .0, omega (arith, deep .1), ready .placed), ready .letters .long))
+
+add-g : tie.Need-add-g
+add-g c =
+    omega (arith, c .test-for .ensures .0, c .before .before .before .before .before .before .before .before .before .good .1 .1 .1 .1 .1 .1 .1 .0)
+
 mul-fill-slot : tie.Need-mul-fill-slot
-mul-fill-slot c = search needs
+mul-fill-slot c =
+    omega (arith, c .before .test-for .ensures .0, c .before .before .before .before .before .before .before .before .before .before .good .1 .1 .1 .1 .1 .1 .1 .0)
 
 sub-fill-slot : tie.Need-sub-fill-slot
 sub-fill-slot c = search needs
@@ -49,37 +61,6 @@ part-fill-slot-start-2 c = search needs
 part-fill-slot-end-2 : tie.Need-part-fill-slot-end-2
 part-fill-slot-end-2 c = search needs
 
-fill-slot-requires : tie.Need-fill-slot-requires
-unfolding row-slot between
-fill-slot-requires c κs =
-    let b = c .before .before .before .before .before .before .before .before .before .before .before .before .before in
-    let a = b .args in
-    let p = b .pre in
-    let deep = p .1 .1 .0 in
-    let z = p .1 .1 .1 .1 .1 in
-    let slot = parent-odd (a .template) (a .lengths .now) (a .letters .now) (a .evens .now) (a .odds .now) (a .size) (a .number) (p .1 .1 .1 .1 .0) (deep .0) (omega (arith, c .before .before .before .before .if1 .taken, p .1 .1 .0)) in
-    let long = row-long ((a .size - 1) / 2) (a .odds .now) (omega (arith, z .1, deep, p .0 .deep)) in
-    (p .0, (p .1 .0, (deep, (p .1 .1 .1 .0, (slot, (long, z .2, row-long (a .size / 2) (a .evens .now) (omega (arith, z .0, deep, p .0 .deep))))))))
-
-same-length : tie.Need-same-length
-same-length c = search needs
-
-same-length-2 : tie.Need-same-length-2
-same-length-2 c = search needs
-
-same-length-3 : tie.Need-same-length-3
-same-length-3 c = search needs
-
-returns : tie.Need-returns
-returns c =
-    let b = c .before .before .before .before .before .before .before .before .before .before .before .before .before .before .before .before .before .before in
-    let a = b .args in
-    let p = b .pre in
-    let o = c .before .before .before .before .fill-slot .ensures in
-    let z = p .1 .1 .1 .1 .1 in
-    let r = pushed-even (a .template) (a .lengths .now) (a .letters .now) (a .evens .now) (a .odds .now) (a .size) (a .number) (p .1 .1 .1 .1 .0) _ _ (o .1 .1 .0) (c .before .before .before .before .before .before .before .before .before .if1 .taken) (omega (arith, z .0, p .1 .1 .0, p .0 .deep)) (o .1 .1 .1 .1) in
-    (o .0, (o .1 .0, (r .0 .0, (r .0 .1, (r .1, refl, o .1 .1 .1 .0)))))
-
 mul-fill-slot-3 : tie.Need-mul-fill-slot-3
 mul-fill-slot-3 c = search needs
 
@@ -92,8 +73,43 @@ part-fill-slot-start-3 c = search needs
 part-fill-slot-end-3 : tie.Need-part-fill-slot-end-3
 part-fill-slot-end-3 c = search needs
 
+fill-slot-requires : tie.Need-fill-slot-requires
+unfolding row-slot between
+fill-slot-requires c κs =
+    let b = c .before .before .before .before .before .before .before .before .before .before .before .before .before .before .before in
+    let a = b .args in
+    let p = b .pre in
+    let deep = p .1 .1 .0 in
+    let z = p .1 .1 .1 .1 .1 in
+    let ready = p .1 .1 .1 .0 in
+    let test = c .before .before .before .before .before .before .test-for in
+    let slot = parent-odd (a .template) (a .lengths .now) (a .letters .now) (a .evens .now) (a .odds .now) (a .size) (a .number) (p .1 .1 .1 .1 .0) (deep .0) (omega (arith, c .before .before .before .before .before .if1 .taken, deep)) in
+    let long = row-long ((a .size - 1) / 2) (a .odds .now) (omega (arith, z .1, deep, p .0 .deep)) in
+    let letter = row-cut (test .result .at) (a .standing .now) (test .ensures .0 .0) in
+    (p .0, (p .1 .0, ((deep .0, deep .1, test .ensures .0 .1), (ready .placed, (ready .laid, (test .ensures .1 (a .lengths .now) (a .letters .now) (ready .letters), (slot, (letter, long, z .2, row-long (a .size / 2) (a .evens .now) (omega (arith, z .0, deep, p .0 .deep))))))))))
+
+same-length : tie.Need-same-length
+same-length c = search needs
+
+same-length-2 : tie.Need-same-length-2
+same-length-2 c = search needs
+
+same-length-3 : tie.Need-same-length-3
+same-length-3 c = search needs
+
+returns : tie.Need-returns
+returns c =
+    let b = c .before .before .before .before .before .before .before .before .before .before .before .before .before .before .before .before .before .before .before .before in
+    let a = b .args in
+    let p = b .pre in
+    let o = c .before .before .before .before .fill-slot .ensures in
+    let z = p .1 .1 .1 .1 .1 in
+    let r = pushed-even (a .template) (a .lengths .now) (a .letters .now) (a .evens .now) (a .odds .now) (a .size) (a .number) (p .1 .1 .1 .1 .0) _ _ (o .1 .1 .0) (c .before .before .before .before .before .before .before .before .before .before .if1 .taken) (omega (arith, z .0, p .1 .1 .0, p .0 .deep)) (o .1 .1 .1 .1) in
+    (o .0, (o .1 .0, (r .0 .0, (r .0 .1, (r .1, refl, o .1 .1 .1 .0)))))
+
 mul-fill-slot-4 : tie.Need-mul-fill-slot-4
-mul-fill-slot-4 c = search needs
+mul-fill-slot-4 c =
+    omega (arith, c .before .test-for .ensures .0, c .before .before .before .before .before .before .before .before .before .before .good .1 .1 .1 .1 .1 .1 .1 .0)
 
 sub-fill-slot-4 : tie.Need-sub-fill-slot-4
 sub-fill-slot-4 c = search needs
@@ -104,17 +120,44 @@ part-fill-slot-start-4 c = search needs
 part-fill-slot-end-4 : tie.Need-part-fill-slot-end-4
 part-fill-slot-end-4 c = search needs
 
+mul-fill-slot-5 : tie.Need-mul-fill-slot-5
+mul-fill-slot-5 c = search needs
+
+sub-fill-slot-5 : tie.Need-sub-fill-slot-5
+sub-fill-slot-5 c = search needs
+
+part-fill-slot-start-5 : tie.Need-part-fill-slot-start-5
+part-fill-slot-start-5 c = search needs
+
+part-fill-slot-end-5 : tie.Need-part-fill-slot-end-5
+part-fill-slot-end-5 c = search needs
+
+mul-fill-slot-6 : tie.Need-mul-fill-slot-6
+mul-fill-slot-6 c = search needs
+
+sub-fill-slot-6 : tie.Need-sub-fill-slot-6
+sub-fill-slot-6 c = search needs
+
+part-fill-slot-start-6 : tie.Need-part-fill-slot-start-6
+part-fill-slot-start-6 c = search needs
+
+part-fill-slot-end-6 : tie.Need-part-fill-slot-end-6
+part-fill-slot-end-6 c = search needs
+
 fill-slot-requires-2 : tie.Need-fill-slot-requires-2
 unfolding row-slot between
 fill-slot-requires-2 c κs =
-    let b = c .before .before .before .before .before .before .before .before .before .before .before .before .before in
+    let b = c .before .before .before .before .before .before .before .before .before .before .before .before .before .before .before in
     let a = b .args in
     let p = b .pre in
     let deep = p .1 .1 .0 in
     let z = p .1 .1 .1 .1 .1 in
-    let slot = parent-even (a .template) (a .lengths .now) (a .letters .now) (a .evens .now) (a .odds .now) (a .size) (a .number) (p .1 .1 .1 .1 .0) (deep .0) (omega (arith, c .before .before .before .before .if1 .left, p .1 .1 .0)) in
+    let ready = p .1 .1 .1 .0 in
+    let test = c .before .before .before .before .before .before .test-for in
+    let slot = parent-even (a .template) (a .lengths .now) (a .letters .now) (a .evens .now) (a .odds .now) (a .size) (a .number) (p .1 .1 .1 .1 .0) (deep .0) (omega (arith, c .before .before .before .before .before .if1 .left, deep)) in
     let long = row-long ((a .size - 1) / 2) (a .evens .now) (omega (arith, z .0, deep, p .0 .deep)) in
-    (p .0, (p .1 .0, (deep, (p .1 .1 .1 .0, (slot, (long, z .2, row-long (a .size / 2) (a .odds .now) (omega (arith, z .1, deep, p .0 .deep))))))))
+    let letter = row-cut (test .result .at) (a .standing .now) (test .ensures .0 .0) in
+    (p .0, (p .1 .0, ((deep .0, deep .1, test .ensures .0 .1), (ready .placed, (ready .laid, (test .ensures .1 (a .lengths .now) (a .letters .now) (ready .letters), (slot, (letter, long, z .2, row-long (a .size / 2) (a .odds .now) (omega (arith, z .1, deep, p .0 .deep))))))))))
 
 same-length-4 : tie.Need-same-length-4
 same-length-4 c = search needs
@@ -127,12 +170,12 @@ same-length-6 c = search needs
 
 returns-2 : tie.Need-returns-2
 returns-2 c =
-    let b = c .before .before .before .before .before .before .before .before .before .before .before .before .before .before .before .before .before .before in
+    let b = c .before .before .before .before .before .before .before .before .before .before .before .before .before .before .before .before .before .before .before .before in
     let a = b .args in
     let p = b .pre in
     let o = c .before .before .before .before .fill-slot2 .ensures in
     let z = p .1 .1 .1 .1 .1 in
-    let r = pushed-odd (a .template) (a .lengths .now) (a .letters .now) (a .evens .now) (a .odds .now) (a .size) (a .number) (p .1 .1 .1 .1 .0) _ _ (o .1 .1 .0) (omega (arith, c .before .before .before .before .before .before .before .before .before .if1 .left)) (omega (arith, z .1, p .1 .1 .0, p .0 .deep)) (o .1 .1 .1 .1) in
+    let r = pushed-odd (a .template) (a .lengths .now) (a .letters .now) (a .evens .now) (a .odds .now) (a .size) (a .number) (p .1 .1 .1 .1 .0) _ _ (o .1 .1 .0) (omega (arith, c .before .before .before .before .before .before .before .before .before .before .if1 .left)) (omega (arith, z .1, p .1 .1 .0, p .0 .deep)) (o .1 .1 .1 .1) in
     (o .0, (o .1 .0, (r .0 .0, (r .0 .1, (refl, r .1, o .1 .1 .1 .0)))))
 
 pub push-spec : {M : Type 1} → statement M
@@ -144,6 +187,8 @@ push-spec =
     add-e
     mul-b
     add-f
+    test-for-requires
+    add-g
     mul-fill-slot
     sub-fill-slot
     part-fill-slot-start
@@ -152,19 +197,27 @@ push-spec =
     sub-fill-slot-2
     part-fill-slot-start-2
     part-fill-slot-end-2
+    mul-fill-slot-3
+    sub-fill-slot-3
+    part-fill-slot-start-3
+    part-fill-slot-end-3
     fill-slot-requires
     same-length
     same-length-2
     same-length-3
     returns
-    mul-fill-slot-3
-    sub-fill-slot-3
-    part-fill-slot-start-3
-    part-fill-slot-end-3
     mul-fill-slot-4
     sub-fill-slot-4
     part-fill-slot-start-4
     part-fill-slot-end-4
+    mul-fill-slot-5
+    sub-fill-slot-5
+    part-fill-slot-start-5
+    part-fill-slot-end-5
+    mul-fill-slot-6
+    sub-fill-slot-6
+    part-fill-slot-start-6
+    part-fill-slot-end-6
     fill-slot-requires-2
     same-length-4
     same-length-5

@@ -3,23 +3,24 @@ use mathlib.Core.Path.{_≡_, refl, _∙_}
 use Prim.Native.Nat.{_+_, _-_, _/_, _^_, _≤_}
 use native.Mathlib.Omega.{arith}
 use lib.ListN.{length}
+use borrow.Author.Needs.{needs}
+use Rattle.rules.specs.Profile.{base-of}
 use Rattle.rules.specs.Sequences.{sequences}
 use Rattle.rules.specs.Support.{support, parts}
 use Rattle.matching.specs.Path.{Path}
-use Rattle.matching.proofs.Replay.{prefix-is, replay-begin, replay-more, replay-end}
-use borrow.Author.Needs.{needs}
+use Rattle.matching.proofs.Replay.{replay-begin, replay-more, replay-end, last-prefix}
 use Rattle.matching.proofs.path.replay.Statement.{statement}
 use Rattle.matching.proofs.path.replay.Tie as tie
 
 abbrev Inv-loop : tie.InvT-loop
-Inv-loop template size number inside letters lengths firsts standing evens₀ odds₀ spare₀ found₀ d₀ evens odds spare found d =
+Inv-loop template size number inside letters lengths firsts standing evens₀ odds₀ spare₀ profile found₀ d₀ evens odds spare found d =
     (1 ≤ d) × (d ≤ size)
-    × Path template lengths letters evens odds d (number / 4 ^ (size - d))
-    × (2 ≤ d → found ≡ support (parts template (d - 1) (number / 4 ^ (size - (d - 1)))) (sequences letters lengths))
+    × Path template lengths letters evens odds d (number / base-of template ^ (size - d))
+    × (2 ≤ d → found ≡ support (parts template (d - 1) (number / base-of template ^ (size - (d - 1)))) (sequences letters lengths))
     × (length evens ≡ length evens₀) × (length odds ≡ length odds₀) × (length spare ≡ length spare₀)
 
 abbrev μ-loop : tie.MeasureT-loop
-μ-loop template size number inside letters lengths firsts standing evens₀ odds₀ spare₀ found₀ d₀ evens odds spare found d =
+μ-loop template size number inside letters lengths firsts standing evens₀ odds₀ spare₀ profile found₀ d₀ evens odds spare found d =
     size - d
 
 loop-holds : tie.Need-loop-holds Inv-loop μ-loop
@@ -27,30 +28,26 @@ loop-holds c =
     let b = c .before .before .before .before .before .before .before .before in
     let a = b .args in
     let p = b .pre in
-    (omega arith, p .1 .1 .0 .0, replay-begin (a .template) (a .size) (a .number) (a .lengths .now) (a .letters .now) (a .evens .now) (a .odds .now) (p .1 .1 .0 .0) (p .1 .1 .0 .2) (p .1 .1 .1 .1 .0), (λ h. absurd (omega arith)), refl, refl, refl)
+    let deep = p .1 .1 .0 in
+    (omega arith, deep .0, replay-begin (a .template) (a .size) (a .number) (a .lengths .now) (a .letters .now) (a .evens .now) (a .odds .now) (deep .0) (deep .2) (p .1 .1 .1 .1 .0), (λ h. absurd (omega arith)), refl, refl, refl)
 
 sub-left : tie.Need-sub-left Inv-loop μ-loop
 sub-left c = search needs
 
-mul-left : tie.Need-mul-left Inv-loop μ-loop
-mul-left c = search needs
+cast-left : tie.Need-cast-left Inv-loop μ-loop
+cast-left c = search needs
 
-cast-prefix : tie.Need-cast-prefix Inv-loop μ-loop
-cast-prefix c = search needs
-
-shr-prefix : tie.Need-shr-prefix Inv-loop μ-loop
-shr-prefix c = search needs
+prefix-requires : tie.Need-prefix-requires Inv-loop μ-loop
+prefix-requires c κs = search needs
 
 push-requires : tie.Need-push-requires Inv-loop μ-loop
 push-requires c κs =
-    let b = c .before .before .before .before .before .before .before .before .before .before .before .before .before in
-    let a = b .args in
+    let b = c .before .before .before .before .before .before .before .before .before .before .before .before .before .before in
     let p = b .pre in
-    let l = c .before .before .before .before .loop in
-    let i = l .inv in
-    let e = prefix-is (a .size) (l .d) (a .number) in
+    let i = c .before .before .before .before .before .loop .inv in
+    let e = c .before .before .before .prefix .ensures in
     let z = p .1 .1 .1 .1 .1 in
-    (p .0, (p .1 .0, ((i .0, omega (arith, c .before .before .before .loop-test .taken, p .1 .1 .0 .1)), (p .1 .1 .1 .0, (rw e (i .2), (i .4 ∙ z .0, i .5 ∙ z .1, i .6 ∙ z .2))))))
+    (p .0, (p .1 .0, ((i .0, omega (arith, c .before .before .before .before .loop-test .taken, p .1 .1 .0 .1)), (p .1 .1 .1 .0, (rw e (i .2), (i .4 ∙ z .0, i .5 ∙ z .1, i .6 ∙ z .2))))))
 
 add-d : tie.Need-add-d Inv-loop μ-loop
 add-d c = search needs
@@ -60,13 +57,13 @@ loop-less c = search needs
 
 loop-again : tie.Need-loop-again Inv-loop μ-loop
 loop-again c =
-    let a = c .before .before .before .before .before .before .before .before .before .before .before .before .before .before .before .before .before .before .before .before .args in
-    let l = c .before .before .before .before .before .before .before .before .before .before .before .loop in
+    let a = c .before .before .before .before .before .before .before .before .before .before .before .before .before .before .before .before .before .before .before .before .before .args in
+    let l = c .before .before .before .before .before .before .before .before .before .before .before .before .loop in
     let i = l .inv in
-    let t = c .before .before .before .before .before .before .before .before .before .before .loop-test .taken in
+    let t = c .before .before .before .before .before .before .before .before .before .before .before .loop-test .taken in
     let q = c .before .before .before .before .before .before .push .ensures in
     let n = q .1 .1 .1 .1 in
-    let e = prefix-is (a .size) (l .d) (a .number) in
+    let e = c .before .before .before .before .before .before .before .before .before .before .prefix .ensures in
     let z : l .d + 1 - 1 ≡ l .d = omega arith in
     let path = replay-more (a .template) (a .size) (a .number) (a .lengths .now) (a .letters .now) _ _ (l .d) t (rw e at (q .1 .1 .0 (omega arith))) in
     (omega (arith, i .0), omega arith, path, (λ h. rw z (rw e at (q .1 .0 (omega arith)))), n .0 ∙ i .4, n .1 ∙ i .5, n .2 ∙ i .6)
@@ -86,8 +83,7 @@ returns c =
     let l = c .before .loop in
     let i = l .inv in
     let e : l .d ≡ a .size = omega (arith, i .1, c .loop-test .left) in
-    let y : a .size - (l .d - 1) ≡ 1 = omega (arith, i .0) in
-    ((λ h. rw (← e) (rw y at (i .3 (omega arith)))), (replay-end (a .template) (a .size) (a .number) (a .lengths .now) (a .letters .now) _ _ (l .d) e (i .2), (i .4, i .5, i .6)))
+    ((λ h. rw (← e, ← (last-prefix (a .template) (a .size) (a .number) (l .d) e (i .0))) (i .3 (omega arith))), (replay-end (a .template) (a .size) (a .number) (a .lengths .now) (a .letters .now) _ _ (l .d) e (i .2), (i .4, i .5, i .6)))
 
 pub replay-spec : {M : Type 1} → statement M
 replay-spec =
@@ -97,9 +93,8 @@ replay-spec =
     μ-loop
     loop-holds
     sub-left
-    mul-left
-    cast-prefix
-    shr-prefix
+    cast-left
+    prefix-requires
     push-requires
     add-d
     loop-less

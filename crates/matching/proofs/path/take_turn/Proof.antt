@@ -1,20 +1,54 @@
--- The slot before is the one of the other parity.
-use mathlib.Core.Path.{refl, sym}
+-- The letter's row is made first, and the slot before is the one of the other parity.
+use mathlib.Core.Path.{refl, sym, _∙_}
 use Prim.Native.Nat.{_-_}
 use native.Mathlib.Omega.{arith}
-use Rattle.matching.proofs.Slots.{even-table, odd-table, slot-same}
 use borrow.Author.Needs.{needs}
+use Rattle.rows.proofs.ByFlags.{row-bounded}
+use Rattle.matching.proofs.Slots.{enough, even-table, odd-table, slot-same}
+use Rattle.matching.proofs.Standing.{from-letter}
+use Rattle.matching.proofs.Steps.{prefix-long}
+use Rattle.matching.proofs.Tests.{made-last}
 use Rattle.matching.proofs.path.take_turn.Statement.{statement}
 use Rattle.matching.proofs.path.take_turn.Tie as tie
 
-fill-slot-requires : tie.Need-fill-slot-requires
-fill-slot-requires c κs =
-    let b = c .before .before .before .before .before .before .before .before .before .before .before .before in
+sub-below : tie.Need-sub-below
+sub-below c = search needs
+
+shared-slice-read-by : tie.Need-shared-slice-read-by
+shared-slice-read-by c = search needs
+
+cast-by : tie.Need-cast-by
+cast-by c = search needs
+
+last-requires : tie.Need-last-requires
+last-requires c κs = search needs
+
+letter-row-requires : tie.Need-letter-row-requires
+letter-row-requires c κs = search needs
+
+extend-requires : tie.Need-extend-requires
+extend-requires c κs =
+    let b = c .before .before .before .before .before .before .before .before .before .before .before .before .before .before .before .before .before .before in
     let a = b .args in
     let p = b .pre in
-    let z = p .1 .1 .1 .1 .1 in
-    let slot = slot-same (a .template) (a .lengths .now) (a .letters .now) _ _ (odd-table (a .even .now) (a .odd .now) (a .size - 1) (omega (arith, c .before .before .before .if1 .taken, p .1 .1 .0))) (p .1 .1 .1 .1 .0) in
-    (p .0, (p .1 .0, (p .1 .1 .0, (p .1 .1 .1 .0, (slot, (z .1, z .2, z .0))))))
+    let deep = p .1 .1 .0 in
+    let z = p .1 .1 .1 .1 .1 .1 .1 in
+    let made = c .before .before .before .before .before .before .letter-row .ensures in
+    let tests = made-last (a .template) (p .0) (a .inside .now) (p .1 .1 .1 .0) (a .size) (a .number) (a .lengths .now) (a .letters .now) (a .bases .now) _ (p .1 .0) (p .1 .1 .1 .1 .1 .0) (from-letter (a .bases .now) (c .before .before .before .before .before .before .before .before .last .ensures) (made .0)) in
+    let slot = slot-same (a .template) (a .lengths .now) (a .letters .now) _ _ (odd-table (a .even .now) (a .odd .now) (a .size - 1) (omega (arith, c .before .before .before .if1 .taken, deep))) (p .1 .1 .1 .1 .1 .1 .0) in
+    (p .0, (p .1 .0, ((deep .0, omega (arith, deep .1), omega arith), (p .1 .1 .1 .1 .0, (tests, (slot, (made .1 ∙ z .0, z .2, z .1)))))))
+
+end-slot-requires : tie.Need-end-slot-requires
+end-slot-requires c κs =
+    let b = c .before .before .before .before .before .before .before .before .before .before .before .before .before .before .before .before .before .before .before .before .before .before .before in
+    let a = b .args in
+    let p = b .pre in
+    let set = p .1 .0 in
+    let deep = p .1 .1 .0 in
+    let z = p .1 .1 .1 .1 .1 .1 .1 in
+    let k = c .before .before .before .before .extend .ensures in
+    let bounded = row-bounded (a .lengths .now) (a .letters .now) (set .adds) (set .few) _ (prefix-long (a .template) (a .size) (a .number)) _ (k .1 .1 .0 (omega arith)) in
+    (p .0, ((deep .0, deep .1, set .few), (p .1 .1 .1 .0, (p .1 .1 .1 .1 .0, (bounded, (enough (a .letters .now) (a .lengths .now) set, c .before .before .before .before .before .before .before .before .before .before .before .letter-row .ensures .1 ∙ z .0, k .1 .1 .1 ∙ z .1))))))
 
 same-length : tie.Need-same-length
 same-length c = search needs
@@ -27,19 +61,37 @@ same-length-3 c = search needs
 
 returns : tie.Need-returns
 returns c =
-    let a = c .before .before .before .before .before .before .before .before .before .before .before .before .before .before .before .before .before .args in
-    let o = c .before .before .before .before .fill-slot .ensures in
-    let k = o .1 .1 .1 in
-    (o .1 .0 (omega arith), (slot-same (a .template) (a .lengths .now) (a .letters .now) _ _ (sym (even-table _ _ (a .size) (c .before .before .before .before .before .before .before .before .if1 .taken))) (o .1 .1 .0 (omega arith)), (k .1, refl, k .0)))
+    let b = c .before .before .before .before .before .before .before .before .before .before .before .before .before .before .before .before .before .before .before .before .before .before .before .before .before .before .before .before in
+    let a = b .args in
+    let k = c .before .before .before .before .before .before .before .before .before .extend .ensures in
+    let o = c .before .before .before .before .end-slot .ensures in
+    let slot = o .0 (a .letters .now) (a .number) (b .pre .1 .0) (k .1 .1 .0 (omega arith)) in
+    let long = o .1 .0 ∙ c .before .before .before .before .before .before .before .before .before .before .before .before .before .before .before .before .letter-row .ensures .1 in
+    (k .1 .0 (omega arith), (slot-same (a .template) (a .lengths .now) (a .letters .now) _ _ (sym (even-table _ _ (a .size) (c .before .before .before .before .before .before .before .before .before .before .before .before .before .if1 .taken))) slot, (long, o .1 .1 ∙ k .1 .1 .1, refl)))
 
-fill-slot-requires-2 : tie.Need-fill-slot-requires-2
-fill-slot-requires-2 c κs =
-    let b = c .before .before .before .before .before .before .before .before .before .before .before .before in
+extend-requires-2 : tie.Need-extend-requires-2
+extend-requires-2 c κs =
+    let b = c .before .before .before .before .before .before .before .before .before .before .before .before .before .before .before .before .before .before in
     let a = b .args in
     let p = b .pre in
-    let z = p .1 .1 .1 .1 .1 in
-    let slot = slot-same (a .template) (a .lengths .now) (a .letters .now) _ _ (even-table (a .even .now) (a .odd .now) (a .size - 1) (omega (arith, c .before .before .before .if1 .left, p .1 .1 .0))) (p .1 .1 .1 .1 .0) in
-    (p .0, (p .1 .0, (p .1 .1 .0, (p .1 .1 .1 .0, (slot, (z .0, z .2, z .1))))))
+    let deep = p .1 .1 .0 in
+    let z = p .1 .1 .1 .1 .1 .1 .1 in
+    let made = c .before .before .before .before .before .before .letter-row .ensures in
+    let tests = made-last (a .template) (p .0) (a .inside .now) (p .1 .1 .1 .0) (a .size) (a .number) (a .lengths .now) (a .letters .now) (a .bases .now) _ (p .1 .0) (p .1 .1 .1 .1 .1 .0) (from-letter (a .bases .now) (c .before .before .before .before .before .before .before .before .last .ensures) (made .0)) in
+    let slot = slot-same (a .template) (a .lengths .now) (a .letters .now) _ _ (even-table (a .even .now) (a .odd .now) (a .size - 1) (omega (arith, c .before .before .before .if1 .left, deep))) (p .1 .1 .1 .1 .1 .1 .0) in
+    (p .0, (p .1 .0, ((deep .0, omega (arith, deep .1), omega arith), (p .1 .1 .1 .1 .0, (tests, (slot, (made .1 ∙ z .0, z .1, z .2)))))))
+
+end-slot-requires-2 : tie.Need-end-slot-requires-2
+end-slot-requires-2 c κs =
+    let b = c .before .before .before .before .before .before .before .before .before .before .before .before .before .before .before .before .before .before .before .before .before .before .before in
+    let a = b .args in
+    let p = b .pre in
+    let set = p .1 .0 in
+    let deep = p .1 .1 .0 in
+    let z = p .1 .1 .1 .1 .1 .1 .1 in
+    let k = c .before .before .before .before .extend2 .ensures in
+    let bounded = row-bounded (a .lengths .now) (a .letters .now) (set .adds) (set .few) _ (prefix-long (a .template) (a .size) (a .number)) _ (k .1 .1 .0 (omega arith)) in
+    (p .0, ((deep .0, deep .1, set .few), (p .1 .1 .1 .0, (p .1 .1 .1 .1 .0, (bounded, (enough (a .letters .now) (a .lengths .now) set, c .before .before .before .before .before .before .before .before .before .before .before .letter-row .ensures .1 ∙ z .0, k .1 .1 .1 ∙ z .2))))))
 
 same-length-4 : tie.Need-same-length-4
 same-length-4 c = search needs
@@ -52,21 +104,31 @@ same-length-6 c = search needs
 
 returns-2 : tie.Need-returns-2
 returns-2 c =
-    let a = c .before .before .before .before .before .before .before .before .before .before .before .before .before .before .before .before .before .args in
-    let o = c .before .before .before .before .fill-slot2 .ensures in
-    let k = o .1 .1 .1 in
-    (o .1 .0 (omega arith), (slot-same (a .template) (a .lengths .now) (a .letters .now) _ _ (sym (odd-table _ _ (a .size) (omega (arith, c .before .before .before .before .before .before .before .before .if1 .left)))) (o .1 .1 .0 (omega arith)), (refl, k .1, k .0)))
+    let b = c .before .before .before .before .before .before .before .before .before .before .before .before .before .before .before .before .before .before .before .before .before .before .before .before .before .before .before .before in
+    let a = b .args in
+    let k = c .before .before .before .before .before .before .before .before .before .extend2 .ensures in
+    let o = c .before .before .before .before .end-slot2 .ensures in
+    let slot = o .0 (a .letters .now) (a .number) (b .pre .1 .0) (k .1 .1 .0 (omega arith)) in
+    let long = o .1 .0 ∙ c .before .before .before .before .before .before .before .before .before .before .before .before .before .before .before .before .letter-row .ensures .1 in
+    (k .1 .0 (omega arith), (slot-same (a .template) (a .lengths .now) (a .letters .now) _ _ (sym (odd-table _ _ (a .size) (omega (arith, c .before .before .before .before .before .before .before .before .before .before .before .before .before .if1 .left)))) slot, (long, refl, o .1 .1 ∙ k .1 .1 .1)))
 
 pub take-turn-spec : {M : Type 1} → statement M
 take-turn-spec =
     tie.close
     (tie.spec
-    fill-slot-requires
+    sub-below
+    shared-slice-read-by
+    cast-by
+    last-requires
+    letter-row-requires
+    extend-requires
+    end-slot-requires
     same-length
     same-length-2
     same-length-3
     returns
-    fill-slot-requires-2
+    extend-requires-2
+    end-slot-requires-2
     same-length-4
     same-length-5
     same-length-6

@@ -17,19 +17,19 @@ use Rattle.rules.specs.declared.Component.{Component}
 use Rattle.rows.specs.Prefix.{letters-before}
 use Rattle.rows.proofs.ByFlags.{row-bounded}
 use Rattle.matching.specs.Weights.{Leads-to}
-use Rattle.matching.proofs.Onward.{Turn, begin-letters, begin-part, begin-long, only-led, end-led, behind-sound, here-sound, next-letters, next-some, next-deep, next-less, next-shift, next-path, next-small, next-dark, next-led}
+use Rattle.matching.proofs.Onward.{Turn, begin-letters, begin-part, begin-long, only-led, end-led, behind-sound, here-sound, next-letters, next-some, next-deep, next-less, next-path, next-small, next-dark, next-led}
 use Rattle.matching.proofs.Slots.{enough}
 use Rattle.matching.proofs.Steps.{prefix-long}
 use Rattle.matching.proofs.weights.count_ways.Statement.{statement}
 use Rattle.matching.proofs.weights.count_ways.Tie as tie
 
 abbrev Inv-loop : tie.InvT-loop
-Inv-loop template depth motif inside letters lengths firsts offsets standing evens odds spare₀ ways₀ components count size₀ c₀ spare ways size c =
+Inv-loop template depth motif inside letters lengths firsts offsets standing evens odds spare₀ ways₀ profile components count size₀ c₀ spare ways size c =
     (1 ≤ c) × (c ≤ template .count) × (size ≡ letters-before (templates.components template) (c - 1)) × (length spare ≡ length spare₀) × (length ways ≡ length ways₀)
     × (2 ≤ c → Leads-to template lengths letters (c - 1) (motif / base-of template ^ (depth - size)) ways)
 
 abbrev μ-loop : tie.MeasureT-loop
-μ-loop template depth motif inside letters lengths firsts offsets standing evens odds spare₀ ways₀ components count size₀ c₀ spare ways size c = template .count - c
+μ-loop template depth motif inside letters lengths firsts offsets standing evens odds spare₀ ways₀ profile components count size₀ c₀ spare ways size c = template .count - c
 
 -- a turn that is not the first
 later : (c : ℕ) → 1 ≤ c → eqb c 1 ≡ false → 2 ≤ c
@@ -133,18 +133,15 @@ add-size c = omega (arith, next-deep (turn (c .before .before .before .before .b
 sub-left : tie.Need-sub-left Inv-loop μ-loop
 sub-left c = next-deep (turn (c .before .before .before .before .before .before))
 
-mul-left : tie.Need-mul-left Inv-loop μ-loop
-mul-left c = omega (arith, next-shift (turn (c .before .before .before .before .before .before)))
+cast-left : tie.Need-cast-left Inv-loop μ-loop
+cast-left c = let t = turn (c .before .before .before .before .before .before) in omega (arith, t .whole, t .sound .deep)
 
-cast-prefix : tie.Need-cast-prefix Inv-loop μ-loop
-cast-prefix c = omega (arith, next-shift (turn (c .before .before .before .before .before .before)))
-
-shr-prefix : tie.Need-shr-prefix Inv-loop μ-loop
-shr-prefix c = next-shift (turn (c .before .before .before .before .before .before))
+prefix-requires : tie.Need-prefix-requires Inv-loop μ-loop
+prefix-requires c κs = search needs
 
 support-requires : tie.Need-support-requires Inv-loop μ-loop
 support-requires c κs =
-    let q = c .before .before .before .before .before .before .before in
+    let q = c .before .before .before .before .before .before .before .before in
     let s = start q in
     let p = s .pre in
     let t = turn q in
@@ -157,7 +154,7 @@ support-requires c κs =
           (
             p .1 .1 .1 .0,
             (
-              next-path t (s .args .motif) _ _ _ _ (p .1 .1 .1 .1 .1 .0),
+              next-path t (s .args .motif) (c .before .prefix .ensures) _ _ _ _ (p .1 .1 .1 .1 .1 .0),
               (o .0, o .1, omega (arith, q .before .loop .inv .3, o .2)),
             ),
           ),
@@ -166,7 +163,7 @@ support-requires c κs =
     )
 
 cast-lead-slot : tie.Need-cast-lead-slot Inv-loop μ-loop
-cast-lead-slot c = let t = turn (c .before .before .before .before .before .before .before .before .before .before) in omega (arith, next-deep t, t .whole, t .sound .deep)
+cast-lead-slot c = let t = turn (c .before .before .before .before .before .before .before .before .before .before .before) in omega (arith, next-deep t, t .whole, t .sound .deep)
 
 add-lead-slot : tie.Need-add-lead-slot Inv-loop μ-loop
 add-lead-slot c = search needs
@@ -175,11 +172,11 @@ add-lead-slot-2 : tie.Need-add-lead-slot-2 Inv-loop μ-loop
 add-lead-slot-2 c = search needs
 
 sub-lead-slot : tie.Need-sub-lead-slot Inv-loop μ-loop
-sub-lead-slot c = omega (arith, here-sound (turn (c .before .before .before .before .before .before .before .before .before .before .before)) .ordered)
+sub-lead-slot c = omega (arith, here-sound (turn (c .before .before .before .before .before .before .before .before .before .before .before .before)) .ordered)
 
 lead-slot-requires : tie.Need-lead-slot-requires Inv-loop μ-loop
 lead-slot-requires c κs =
-    let q = c .before .before .before .before .before .before .before .before .before .before .before .before in
+    let q = c .before .before .before .before .before .before .before .before .before .before .before .before .before in
     let s = start q in
     let p = s .pre in
     let t = turn q in
@@ -200,8 +197,8 @@ lead-slot-requires c κs =
               (
                 (omega (arith, enough _ _ (p .1 .0)), room q),
                 (
-                  next-small t _ _ (p .1 .0) (s .args .motif) _ _ (eqb (at-c q) 1) (begins q) (goes q) (room q) is,
-                  next-dark t _ _ (p .1 .0) (s .args .motif) _ _ (eqb (at-c q) 1) (begins q) (goes q) (room q) is _ _ (p .1 .1 .1 .1 .1 .0),
+                  next-small t _ _ (p .1 .0) (s .args .motif) _ _ (eqb (at-c q) 1) (begins q) (goes q) (room q) _ (c .before .before .before .before .before .before .prefix .ensures) is,
+                  next-dark t _ _ (p .1 .0) (s .args .motif) _ _ (eqb (at-c q) 1) (begins q) (goes q) (room q) _ (c .before .before .before .before .before .before .prefix .ensures) is _ _ (p .1 .1 .1 .1 .1 .0),
                 ),
               ),
             ),
@@ -211,14 +208,14 @@ lead-slot-requires c κs =
     )
 
 add-c : tie.Need-add-c Inv-loop μ-loop
-add-c c = omega (arith, turn (c .before .before .before .before .before .before .before .before .before .before .before .before .before .before .before) .less, turn (c .before .before .before .before .before .before .before .before .before .before .before .before .before .before .before) .sound .few)
+add-c c = omega (arith, turn (c .before .before .before .before .before .before .before .before .before .before .before .before .before .before .before .before) .less, turn (c .before .before .before .before .before .before .before .before .before .before .before .before .before .before .before .before) .sound .few)
 
 loop-less : tie.Need-loop-less Inv-loop μ-loop
-loop-less c = omega (arith, turn (c .before .before .before .before .before .before .before .before .before .before .before .before .before .before .before) .less)
+loop-less c = omega (arith, turn (c .before .before .before .before .before .before .before .before .before .before .before .before .before .before .before .before) .less)
 
 loop-again : tie.Need-loop-again Inv-loop μ-loop
 loop-again c =
-    let q = c .before .before .before .before .before .before .before .before .before .before .before .before .before .before .before in
+    let q = c .before .before .before .before .before .before .before .before .before .before .before .before .before .before .before .before in
     let s = start q in
     let p = s .pre in
     let t = turn q in
@@ -230,7 +227,7 @@ loop-again c =
       rw z (next-letters t),
       n .1 .1 .1 ∙ q .before .loop .inv .3,
       r .1 ∙ q .before .loop .inv .4,
-      (λ _. rw z (next-led t _ _ (p .1 .0) (s .args .motif) _ _ (eqb (at-c q) 1) (begins q) (goes q) (room q) (n .1 .1 .0 (omega arith)) _ _ (r .0))),
+      (λ _. rw z (next-led t _ _ (p .1 .0) (s .args .motif) _ _ (eqb (at-c q) 1) (begins q) (goes q) (room q) _ (c .before .before .before .before .before .before .before .before .before .prefix .ensures) (n .1 .1 .0 (omega arith)) _ _ (r .0))),
     )
 
 same-length-2 : tie.Need-same-length-2 Inv-loop μ-loop
@@ -272,9 +269,8 @@ count-ways-spec =
     cast-more
     add-size
     sub-left
-    mul-left
-    cast-prefix
-    shr-prefix
+    cast-left
+    prefix-requires
     support-requires
     cast-lead-slot
     add-lead-slot

@@ -31,42 +31,53 @@ cast-low-first-3 c = search needs
 low-first-requires-4 : tie.Need-low-first-requires-4
 low-first-requires-4 c κs = search needs
 
-add-t13 : tie.Need-add-t13
-add-t13 c = search needs
+number-requires : tie.Need-number-requires
+number-requires c κs = search needs
 
-array-read-t16 : tie.Need-array-read-t16
-array-read-t16 c = search needs
+add-t15 : tie.Need-add-t15
+add-t15 c = search needs
 
-array-read-t19 : tie.Need-array-read-t19
-array-read-t19 c = search needs
+array-read-t18 : tie.Need-array-read-t18
+array-read-t18 c = search needs
 
-array-read-t22 : tie.Need-array-read-t22
-array-read-t22 c = search needs
+array-read-t21 : tie.Need-array-read-t21
+array-read-t21 c = search needs
 
-array-read-t25 : tie.Need-array-read-t25
-array-read-t25 c = search needs
+array-read-t24 : tie.Need-array-read-t24
+array-read-t24 c = search needs
 
-array-read-t28 : tie.Need-array-read-t28
-array-read-t28 c = search needs
+array-read-t27 : tie.Need-array-read-t27
+array-read-t27 c = search needs
 
-array-read-t31 : tie.Need-array-read-t31
-array-read-t31 c = search needs
+array-read-t30 : tie.Need-array-read-t30
+array-read-t30 c = search needs
 
-array-read-t34 : tie.Need-array-read-t34
-array-read-t34 c = search needs
+array-read-t33 : tie.Need-array-read-t33
+array-read-t33 c = search needs
 
-array-read-t37 : tie.Need-array-read-t37
-array-read-t37 c = search needs
+array-read-t36 : tie.Need-array-read-t36
+array-read-t36 c = search needs
 
-array-read-t40 : tie.Need-array-read-t40
-array-read-t40 c = search needs
+array-read-t39 : tie.Need-array-read-t39
+array-read-t39 c = search needs
 
-array-read-t43 : tie.Need-array-read-t43
-array-read-t43 c = search needs
+array-read-t42 : tie.Need-array-read-t42
+array-read-t42 c = search needs
+
+array-read-t45 : tie.Need-array-read-t45
+array-read-t45 c = search needs
 
 returns : tie.Need-returns
 unfolding low-first size-record
-returns c = rw (c .low-first4 .ensures, c .before .before .low-first3 .ensures, c .before .before .before .letters .ensures, c .before .before .before .before .low-first2 .ensures, c .before .before .before .before .before .before .low-first .ensures)
+returns c =
+    rw (
+      c .number .ensures,
+      c .before .low-first4 .ensures,
+      c .before .before .before .low-first3 .ensures,
+      c .before .before .before .before .letters .ensures,
+      c .before .before .before .before .before .low-first2 .ensures,
+      c .before .before .before .before .before .before .before .low-first .ensures,
+    )
 
 pub of-size-spec : {M : Type 1} → statement M
 of-size-spec =
@@ -81,15 +92,16 @@ of-size-spec =
     low-first-requires-3
     cast-low-first-3
     low-first-requires-4
-    add-t13
-    array-read-t16
-    array-read-t19
-    array-read-t22
-    array-read-t25
-    array-read-t28
-    array-read-t31
-    array-read-t34
-    array-read-t37
-    array-read-t40
-    array-read-t43
+    number-requires
+    add-t15
+    array-read-t18
+    array-read-t21
+    array-read-t24
+    array-read-t27
+    array-read-t30
+    array-read-t33
+    array-read-t36
+    array-read-t39
+    array-read-t42
+    array-read-t45
     returns)

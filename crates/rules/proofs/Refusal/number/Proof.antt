@@ -66,6 +66,9 @@ enum-told-20 c = search needs
 enum-told-21 : tie.Need-enum-told-21
 enum-told-21 c = search needs
 
+enum-told-22 : tie.Need-enum-told-22
+enum-told-22 c = search needs
+
 returns : tie.Need-returns
 returns c = rw (c .enum-told .given .1)
 
@@ -129,6 +132,9 @@ returns-20 c = rw (c .enum-told20 .given .1)
 returns-21 : tie.Need-returns-21
 returns-21 c = rw (c .enum-told21 .given .1)
 
+returns-22 : tie.Need-returns-22
+returns-22 c = rw (c .enum-told22 .given .1)
+
 pub number-spec : {M : Type 1} → statement M
 number-spec =
     tie.close
@@ -154,6 +160,7 @@ number-spec =
     enum-told-19
     enum-told-20
     enum-told-21
+    enum-told-22
     returns
     returns-2
     returns-3
@@ -174,4 +181,5 @@ number-spec =
     returns-18
     returns-19
     returns-20
-    returns-21)
+    returns-21
+    returns-22)

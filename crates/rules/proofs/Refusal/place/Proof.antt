@@ -81,6 +81,9 @@ enum-known-self-7 c = search needs
 cast-result-5 : tie.Need-cast-result-5
 cast-result-5 c = search needs
 
+enum-told-15 : tie.Need-enum-told-15
+enum-told-15 c = search needs
+
 returns : tie.Need-returns
 returns c = rw (c .enum-told .given .1)
 
@@ -144,6 +147,9 @@ returns-20 c = rw (c .enum-told14 .given .1)
 returns-21 : tie.Need-returns-21
 returns-21 c = rw (c .before .before .self7 .given .1)
 
+returns-22 : tie.Need-returns-22
+returns-22 c = rw (c .enum-told15 .given .1)
+
 pub place-spec : {M : Type 1} → statement M
 place-spec =
     tie.close
@@ -174,6 +180,7 @@ place-spec =
     enum-told-14
     enum-known-self-7
     cast-result-5
+    enum-told-15
     returns
     returns-2
     returns-3
@@ -194,4 +201,5 @@ place-spec =
     returns-18
     returns-19
     returns-20
-    returns-21)
+    returns-21
+    returns-22)

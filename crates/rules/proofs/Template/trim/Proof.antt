@@ -24,7 +24,15 @@ keep-requires-6 c κs = search needs
 
 returns : tie.Need-returns
 unfolding trimmed
-returns c = cc
+returns c =
+    rw (
+      c .before .before .before .before .before .keep .ensures,
+      c .before .before .before .before .keep2 .ensures,
+      c .before .before .before .keep3 .ensures,
+      c .before .before .keep4 .ensures,
+      c .before .keep5 .ensures,
+      c .keep6 .ensures,
+    )
 
 pub trim-spec : {M : Type 1} → statement M
 trim-spec =

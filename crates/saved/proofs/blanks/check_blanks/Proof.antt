@@ -9,10 +9,13 @@ use Rattle.saved.proofs.blanks.check_blanks.Statement.{statement}
 use Rattle.saved.proofs.blanks.check_blanks.Tie as tie
 
 abbrev Inv-loop : tie.InvT-loop
-Inv-loop bytes n last i₀ i = check21 bytes ≡ Left 21 unnamed-blank? bytes n i
+Inv-loop bytes p n last i₀ i = check21 bytes ≡ Left 21 (unnamed-blank? p) bytes n i
 
 abbrev μ-loop : tie.MeasureT-loop
-μ-loop bytes n last i₀ i = last + 1 - i
+μ-loop bytes p n last i₀ i = last + 1 - i
+
+read-profile-requires : tie.Need-read-profile-requires Inv-loop μ-loop
+read-profile-requires c κs = search needs
 
 component-count-requires : tie.Need-component-count-requires Inv-loop μ-loop
 component-count-requires c κs = search needs
@@ -25,13 +28,13 @@ add-last c = search needs
 
 loop-holds : tie.Need-loop-holds Inv-loop μ-loop
 unfolding check21
-loop-holds c = left-all 21 unnamed-blank? _ (c .component-count .ensures)
+loop-holds c = rw (c .before .read-profile .ensures) (left-all 21 (unnamed-blank? _) _ (c .component-count .ensures))
 
 unnamed-blank-requires : tie.Need-unnamed-blank-requires Inv-loop μ-loop
 unnamed-blank-requires c κs = search needs
 
 returns : tie.Need-returns Inv-loop μ-loop
-returns c = sym (c .before .before .before .loop .inv ∙ left-bad 21 unnamed-blank? _ (c .before .unnamed-blank .ensures) (c .if1 .taken) (c .before .before .loop-test .taken))
+returns c = sym (c .before .before .before .loop .inv ∙ left-bad 21 (unnamed-blank? _) _ (c .before .unnamed-blank .ensures) (c .if1 .taken) (c .before .before .loop-test .taken))
 
 add-i : tie.Need-add-i Inv-loop μ-loop
 add-i c = search needs
@@ -40,10 +43,10 @@ loop-less : tie.Need-loop-less Inv-loop μ-loop
 loop-less c = search needs
 
 loop-again : tie.Need-loop-again Inv-loop μ-loop
-loop-again c = c .before .before .before .loop .inv ∙ left-next 21 unnamed-blank? _ (c .before .unnamed-blank .ensures) (c .if1 .left) (c .before .before .loop-test .taken)
+loop-again c = c .before .before .before .loop .inv ∙ left-next 21 (unnamed-blank? _) _ (c .before .unnamed-blank .ensures) (c .if1 .left) (c .before .before .loop-test .taken)
 
 returns-2 : tie.Need-returns-2 Inv-loop μ-loop
-returns-2 c = sym (c .before .loop .inv ∙ left-none 21 unnamed-blank? _ _ _ (c .loop-test .left))
+returns-2 c = sym (c .before .loop .inv ∙ left-none 21 (unnamed-blank? _) _ _ _ (c .loop-test .left))
 
 pub check-blanks-spec : {M : Type 1} → statement M
 check-blanks-spec =
@@ -51,6 +54,7 @@ check-blanks-spec =
     (tie.spec
     Inv-loop
     μ-loop
+    read-profile-requires
     component-count-requires
     cast-n
     add-last

@@ -14,11 +14,17 @@ cast-length c = search needs
 field-requires-2 : tie.Need-field-requires-2
 field-requires-2 c κs = search needs
 
-cast-low : tie.Need-cast-low
-cast-low c = search needs
+cast-allowance : tie.Need-cast-allowance
+cast-allowance c = search needs
 
 field-requires-3 : tie.Need-field-requires-3
 field-requires-3 c κs = search needs
+
+cast-low : tie.Need-cast-low
+cast-low c = search needs
+
+field-requires-4 : tie.Need-field-requires-4
+field-requires-4 c κs = search needs
 
 cast-high : tie.Need-cast-high
 cast-high c = search needs
@@ -26,9 +32,20 @@ cast-high c = search needs
 new-requires : tie.Need-new-requires
 new-requires c κs = search needs
 
+allowing-requires : tie.Need-allowing-requires
+allowing-requires c κs = search needs
+
 returns : tie.Need-returns
 unfolding read-component
-returns c = c .new .ensures ∙ rw (c .before .field3 .ensures .0, c .before .before .field2 .ensures .0, c .before .before .before .field .ensures .0)
+returns c =
+    c .allowing .ensures
+    ∙ rw (
+      c .before .new .ensures,
+      c .before .before .field4 .ensures .0,
+      c .before .before .before .field3 .ensures .0,
+      c .before .before .before .before .field2 .ensures .0,
+      c .before .before .before .before .before .field .ensures .0,
+    )
 
 pub read-component-spec : {M : Type 1} → statement M
 read-component-spec =
@@ -37,8 +54,11 @@ read-component-spec =
     field-requires
     cast-length
     field-requires-2
-    cast-low
+    cast-allowance
     field-requires-3
+    cast-low
+    field-requires-4
     cast-high
     new-requires
+    allowing-requires
     returns)

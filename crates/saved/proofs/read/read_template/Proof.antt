@@ -6,6 +6,9 @@ use borrow.Author.Needs.{needs}
 use Rattle.saved.proofs.read.read_template.Statement.{statement}
 use Rattle.saved.proofs.read.read_template.Tie as tie
 
+read-profile-requires : tie.Need-read-profile-requires
+read-profile-requires c κs = search needs
+
 component-count-requires : tie.Need-component-count-requires
 component-count-requires c κs = search needs
 
@@ -45,12 +48,14 @@ returns c =
       c .before .before .before .before .before .read-component2 .ensures,
       c .before .before .before .before .before .before .read-component .ensures,
       c .before .before .before .before .before .before .before .component-count .ensures,
+      c .before .before .before .before .before .before .before .before .read-profile .ensures,
     )
 
 pub read-template-spec : {M : Type 1} → statement M
 read-template-spec =
     tie.close
     (tie.spec
+    read-profile-requires
     component-count-requires
     cast-count
     read-component-requires

@@ -1,6 +1,7 @@
 -- `record_at`: the first is the size record, then come the components' and last the place record.
 use mathlib.Core.Path.{_≡_, sym, _∙_}
 use Prim.Native.Nat.{suc, _-_}
+use native.Mathlib.Nat.{le-trans}
 use native.Mathlib.Omega.{arith}
 use Rattle.rules.proofs.Records.{size-at, component-at, place-at}
 use borrow.Author.Needs.{needs}
@@ -34,7 +35,9 @@ cast-of-component c = search needs
 of-component-requires : tie.Need-of-component-requires
 of-component-requires c κs =
     let s = c .before .before .before .before .before .before in
-    rw (c .before .components .ensures) (s .pre .0 .each (s .args .i - 1) (omega arith) .short)
+    let k = s .args .i - 1 in
+    rw (c .before .components .ensures)
+    (s .pre .0 .each k (omega arith) .short, le-trans (s .pre .0 .within k (omega arith)) (s .pre .0 .each k (omega arith) .short))
 
 returns-2 : tie.Need-returns-2
 returns-2 c =

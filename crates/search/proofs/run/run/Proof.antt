@@ -3,33 +3,33 @@
 use mathlib.Core.Bool.{true}
 use mathlib.Core.List.{List}
 use mathlib.Core.Path.{_≡_, refl, sym, _∙_}
-use Prim.Native.Nat.{ℕ, _-_, _/_, _^_, _≤_, _<_}
+use Prim.Native.Nat.{ℕ, _-_, _^_, _≤_, _<_}
 use native.Mathlib.Omega.{arith}
 use lib.Dec.{eqb}
 use lib.ListN.{length}
 use borrow.Author.Needs.{needs}
 use borrow.Author.Tests.{eqb-true}
 use Rattle.rules.specs.Legs.{ended, spent, full}
-use Rattle.rules.specs.Limits.{Letter-BASES}
+use Rattle.rules.specs.Profile.{base-of}
 use Rattle.rules.specs.Sequences.{sequences}
-use Rattle.rules.specs.Support.{frequent}
+use Rattle.rules.specs.Support.{frequent, valid}
 use Rattle.rules.specs.Template.{size}
 use Rattle.rules.specs.Walk.{place, motif, walk-of}
 use Rattle.rules.specs.declared.Search.{Search}
 use Rattle.rules.proofs.Sound.{SoundSearch, search-sound}
 use Rattle.rules.proofs.Tests.{both}
 use Rattle.matching.specs.Path.{Made}
-use Rattle.matching.specs.Weights.{prefix-of, Counted}
+use Rattle.matching.specs.Weights.{Counted}
 use Rattle.search.specs.Told.{room-of}
 use Rattle.search.proofs.Follow.{follow-ended, follow-spent, follow-full}
-use Rattle.search.proofs.Round.{Running, run-start, run-depth, run-below, run-step, run-done, motif-is, next-is, frequent-is, hit-reaches, good-reaches, row-left, run-lengths}
+use Rattle.search.proofs.Round.{Running, run-start, run-depth, run-valid, run-below, run-step, run-done, motif-is, next-is, frequent-is, hit-reaches, good-reaches, row-left, run-lengths}
 use Rattle.search.proofs.Rowed.{path-first}
 use Rattle.search.proofs.Turn.{tables-still, none-counted, hit-whole, prefix-fits, counted-as, below-whole, made-whole, row-whole, made-still, made-next}
 use Rattle.search.proofs.run.run.Statement.{statement}
 use Rattle.search.proofs.run.run.Tie as tie
 
 abbrev Inv-loop : tie.InvT-loop
-Inv-loop letters lengths s budget motifs₀ supports₀ weights₀ inside firsts offsets standing evens₀ odds₀ work₀ spare₀ ways₀ template quorum reach depth room bits j₀ m₀ steps₀ rows₀ counted₀ motifs supports weights evens odds work spare ways j m steps rows counted =
+Inv-loop letters lengths s budget motifs₀ supports₀ weights₀ inside firsts offsets standing evens₀ odds₀ work₀ spare₀ ways₀ template quorum reach depth room profile last j₀ m₀ steps₀ rows₀ counted₀ motifs supports weights evens odds work spare ways j m steps rows counted =
     (o : SoundSearch letters lengths s) × Running letters lengths s o budget room motifs₀ supports₀ weights₀ motifs supports weights steps rows (place j m)
     × (1 ≤ j → Made (s .template) lengths letters inside firsts offsets standing evens odds j m) × Counted (s .template) lengths letters counted ways
     × (depth ≡ size (s .template)) × (room ≡ room-of motifs₀ supports₀ weights₀)
@@ -37,7 +37,7 @@ Inv-loop letters lengths s budget motifs₀ supports₀ weights₀ inside firsts
     × (length evens ≡ length evens₀) × (length odds ≡ length odds₀) × (length work ≡ length work₀) × (length spare ≡ length spare₀) × (length ways ≡ length ways₀)
 
 abbrev μ-loop : tie.MeasureT-loop
-μ-loop letters lengths s budget motifs₀ supports₀ weights₀ inside firsts offsets standing evens₀ odds₀ work₀ spare₀ ways₀ template quorum reach depth room bits j₀ m₀ steps₀ rows₀ counted₀ motifs supports weights evens odds work spare ways j m steps rows counted =
+μ-loop letters lengths s budget motifs₀ supports₀ weights₀ inside firsts offsets standing evens₀ odds₀ work₀ spare₀ ways₀ template quorum reach depth room profile last j₀ m₀ steps₀ rows₀ counted₀ motifs supports weights evens odds work spare ways j m steps rows counted =
     budget - steps
 
 -- at the loop's test
@@ -48,12 +48,11 @@ module _ (l : tie.At-loop Inv-loop μ-loop) where
   deep : l .loop .j ≤ size (start .args .s .template)
   deep = run-depth _ _ _ (l .loop .inv .0) _ _ _ _ _ (l .loop .inv .1)
 
-  below : l .loop .m < Letter-BASES ^ l .loop .j
+  below : l .loop .m < base-of (start .args .s .template) ^ l .loop .j
   below = run-below _ _ _ (l .loop .inv .0) _ _ _ _ _ (l .loop .inv .1)
 
-  -- its number shifted by the bits of the last component is that of the prefix before it
-  prefixed : l .loop .m / 2 ^ l .before .before .last-bits .result ≡ prefix-of (start .args .s .template) (l .loop .m)
-  prefixed = l .before .before .last-bits .ensures .0 (l .loop .m)
+  allowed : valid (start .args .s .template) (l .loop .j) (l .loop .m) ≡ true
+  allowed = run-valid _ _ _ (l .loop .inv .0) _ _ _ _ _ (l .loop .inv .1)
 
 -- at a candidate within the budget, once it is known whether it is listed
 module _ (d : tie.After-listed Inv-loop μ-loop) where
@@ -103,7 +102,7 @@ module _ (e : tie.Else2 Inv-loop μ-loop) where
 
 -- where it was known, from where its row is written if it is listed
 abbrev judged : tie.After-list Inv-loop μ-loop → tie.After-listed Inv-loop μ-loop
-judged w = w .before .before .before .before .before .before .before .before .before .before
+judged w = w .before .before .before .before .before .before .before .before .before .before .before
 
 -- and where that is, from before the next place
 abbrev written : tie.After-counted-for Inv-loop μ-loop → tie.After-list Inv-loop μ-loop
@@ -129,8 +128,8 @@ least-requires c κs = search needs
 least-requires-2 : tie.Need-least-requires-2 Inv-loop μ-loop
 least-requires-2 c κs = search needs
 
-last-bits-requires : tie.Need-last-bits-requires Inv-loop μ-loop
-last-bits-requires c κs =
+last-letters-requires : tie.Need-last-letters-requires Inv-loop μ-loop
+last-letters-requires c κs =
     let a = c .before .before .before .before .before .before .before .before .before .before .before .before .before .before .before .before .before .before in
     search-sound (a .args .letters .now) (a .args .lengths .now) (a .args .s) (a .pre .0) .template
 
@@ -167,59 +166,6 @@ listed-requires c κs = search needs
 stopped-requires-2 : tie.Need-stopped-requires-2 Inv-loop μ-loop
 stopped-requires-2 c κs = search needs
 
--- where the tables are full, those for the work are as the candidate left them
-same-length-9 : tie.Need-same-length-9 Inv-loop μ-loop
-same-length-9 c =
-    let d = c .before .before in
-    let i = top d .loop .inv in
-    i .6
-
-same-length-10 : tie.Need-same-length-10 Inv-loop μ-loop
-same-length-10 c =
-    let d = c .before .before in
-    let i = top d .loop .inv in
-    i .7
-
-same-length-11 : tie.Need-same-length-11 Inv-loop μ-loop
-same-length-11 c =
-    let d = c .before .before in
-    let i = top d .loop .inv in
-    i .8
-
-same-length-12 : tie.Need-same-length-12 Inv-loop μ-loop
-same-length-12 c =
-    let d = c .before .before in
-    let i = top d .loop .inv in
-    let z = supported d .examine .ensures .1 .1 .1 .1 .1 in
-    z .0 ∙ i .9
-
-same-length-13 : tie.Need-same-length-13 Inv-loop μ-loop
-same-length-13 c =
-    let d = c .before .before in
-    let i = top d .loop .inv in
-    let z = supported d .examine .ensures .1 .1 .1 .1 .1 in
-    z .1 ∙ i .10
-
-same-length-14 : tie.Need-same-length-14 Inv-loop μ-loop
-same-length-14 c =
-    let d = c .before .before in
-    let i = top d .loop .inv in
-    let z = supported d .examine .ensures .1 .1 .1 .1 .1 in
-    z .2 ∙ i .11
-
-same-length-15 : tie.Need-same-length-15 Inv-loop μ-loop
-same-length-15 c =
-    let d = c .before .before in
-    let i = top d .loop .inv in
-    let z = supported d .examine .ensures .1 .1 .1 .1 .1 in
-    z .3 ∙ i .12
-
-same-length-16 : tie.Need-same-length-16 Inv-loop μ-loop
-same-length-16 c =
-    let d = c .before .before in
-    let i = top d .loop .inv in
-    i .13
-
 returns-2 : tie.Need-returns-2 Inv-loop μ-loop
 returns-2 c =
     let d = c .before .before in
@@ -227,15 +173,12 @@ returns-2 c =
     let t = both _ _ .0 (c .before .if2 .taken) in
     run-done _ _ _ (i .0) _ _ _ _ _ (i .1) full (follow-full _ _ _ _ _ _ _ _ _ (i .1 .follow) (some d) (less d) (listed d ∙ t .0) (eqb-true _ _ (t .1))) refl (c .stopped2 .ensures) (i .5)
 
-cast-prefix : tie.Need-cast-prefix Inv-loop μ-loop
-cast-prefix c = omega (arith, c .before .before .before .before .before .before .before .before .before .before .before .before .before .before .before .before .before .before .before .before .last-bits .ensures .1)
-
-shr-prefix : tie.Need-shr-prefix Inv-loop μ-loop
-shr-prefix c = c .before .before .before .before .before .before .before .before .before .before .before .before .before .before .before .before .before .before .before .before .last-bits .ensures .1
+prefix-requires : tie.Need-prefix-requires Inv-loop μ-loop
+prefix-requires c κs = search needs
 
 list-requires : tie.Need-list-requires Inv-loop μ-loop
 list-requires c κs =
-    let e = c .before .before .before .before .before .before .before .before in
+    let e = c .before .before .before .before .before .before .before .before .before in
     let d = e .before in
     let l = top d in
     let i = l .loop .inv in
@@ -252,7 +195,7 @@ list-requires c κs =
             (
               left e,
               (
-                λ h. (i .4, below-whole (l .loop .j) (l .loop .m) (whole d h) (below l), prefixed l),
+                λ h. (i .4, below-whole (base-of (s d .template)) (l .loop .j) (l .loop .m) (whole d h) (below l), c .before .before .before .before .before .before .before .before .prefix .ensures ∙ l .before .before .last-letters .ensures .0 (l .loop .m)),
                 (λ h. made-whole (l .loop .j) (l .loop .m) (whole d h) (made-still (i .2 (some d)) (r .1 .1 .0)), (λ h. row-whole (s d .template) (l .loop .j) (l .loop .m) (whole d h) (r .1 .0 (hits d h) (whole d h)), i .3)),
               ),
             ),
@@ -263,13 +206,16 @@ list-requires c κs =
 
 counted-for-requires : tie.Need-counted-for-requires Inv-loop μ-loop
 counted-for-requires c κs =
-    let l = top (judged (c .before .before .before .before .before .before .before .before .before .before)) in
-    prefix-fits _ (l .loop .inv .0 .template) _ (l .loop .m) _ (deep l) (below l) (prefixed l)
+    let w = c .before .before .before .before .before .before .before .before .before .before in
+    let l = top (judged w) in
+    prefix-fits _ (l .loop .inv .0 .template) _ (l .loop .m) _ (deep l) (allowed l) (l .before .before .last-letters .ensures .1) (w .before .before .before .before .before .before .before .before .before .prefix .ensures)
 
 next-place-requires : tie.Need-next-place-requires Inv-loop μ-loop
 next-place-requires c κs =
-    let l = top (judged (written c)) in
-    (omega (arith, l .loop .inv .4, l .loop .inv .0 .template .deep), omega (arith, l .loop .inv .4, deep l), below l)
+    let d = judged (written c) in
+    let l = top d in
+    let i = l .loop .inv in
+    (i .0 .template, (i .2 (some d) .ready .placed, (i .4, omega (arith, i .4, deep l), allowed l)))
 
 add-steps : tie.Need-add-steps Inv-loop μ-loop
 add-steps c = let d = judged (written (c .before)) in omega (arith, less d, start (top d) .fits .budget)
@@ -288,12 +234,12 @@ loop-again c =
     let z = x .1 .1 .1 in
     let r = w .list .ensures in
     let e = c .next-place .ensures _ (sym (good d)) in
-    let n = run-step _ _ _ (i .0) _ _ _ _ _ (i .1) (some d) (less d) (next-is (letters d) (lengths d) (s d) _ (place (l .loop .j) (l .loop .m)) (i .4) e) _ (listed d) (w .before .before .before .before .before .before .before .before .before .if2 .left)
+    let n = run-step _ _ _ (i .0) _ _ _ _ _ (i .1) (some d) (less d) (next-is (letters d) (lengths d) (s d) _ (place (l .loop .j) (l .loop .m)) (i .4) e) _ (listed d) (w .before .before .before .before .before .before .before .before .before .before .if2 .left)
     (omega (arith, i .5)) (omega (arith, i .5)) (omega (arith, i .5)) (λ h. v .1 .0 (hits d h)) (r .1 .0) (r .1 .1 .0) (r .1 .1 .1 .0) (r .0) in
     let t = run-lengths _ _ _ (i .0) _ _ _ _ _ n (i .5) in (
       i .0,
       n,
-      λ h. made-next (s d .template) (lengths d) (letters d) (l .loop .j) (l .loop .m) _ _ (made-still (i .2 (some d)) (x .1 .1 .0)) (λ g h. path-first (l .loop .m) (x .0 (good-reaches (s d .quorum) _ (d .before .reaches .ensures) (good d ∙ g)) h)) e,
+      λ h. made-next (s d .template) (lengths d) (letters d) (l .loop .j) (l .loop .m) _ _ (i .4) (allowed l) (made-still (i .2 (some d)) (x .1 .1 .0)) (λ g h. path-first (l .loop .m) (x .0 (good-reaches (s d .quorum) _ (d .before .reaches .ensures) (good d ∙ g)) h)) e,
       counted-as (c .before .counted-for .ensures) (r .1 .1 .1 .1 .0),
       i .4,
       i .5,
@@ -320,9 +266,10 @@ pub run-spec : {M : Type 1} → statement M
 run-spec =
     tie.close
     (tie.spec
-    Inv-loop μ-loop cast-reach letters-requires cast-depth least-requires least-requires-2 last-bits-requires loop-holds
+    Inv-loop μ-loop cast-reach letters-requires cast-depth least-requires least-requires-2 last-letters-requires loop-holds
     stopped-requires (λ c. search needs) (λ c. search needs) (λ c. search needs) (λ c. search needs) (λ c. search needs) (λ c. search needs) (λ c. search needs) (λ c. search needs) returns
     examine-requires reaches-requires listed-requires
-    stopped-requires-2 same-length-9 same-length-10 same-length-11 same-length-12 same-length-13 same-length-14 same-length-15 same-length-16 returns-2
-    cast-prefix shr-prefix list-requires counted-for-requires next-place-requires add-steps loop-less loop-again
+    stopped-requires-2 (λ c. top (c .before .before) .loop .inv .6) (λ c. top (c .before .before) .loop .inv .7) (λ c. top (c .before .before) .loop .inv .8)
+    (λ c. supported (c .before .before) .examine .ensures .1 .1 .1 .1 .1 .0 ∙ top (c .before .before) .loop .inv .9) (λ c. supported (c .before .before) .examine .ensures .1 .1 .1 .1 .1 .1 ∙ top (c .before .before) .loop .inv .10) (λ c. supported (c .before .before) .examine .ensures .1 .1 .1 .1 .1 .2 ∙ top (c .before .before) .loop .inv .11) (λ c. supported (c .before .before) .examine .ensures .1 .1 .1 .1 .1 .3 ∙ top (c .before .before) .loop .inv .12) (λ c. top (c .before .before) .loop .inv .13) returns-2
+    prefix-requires list-requires counted-for-requires next-place-requires add-steps loop-less loop-again
     stopped-requires-3 (λ c. search needs) (λ c. search needs) (λ c. search needs) (λ c. search needs) (λ c. search needs) (λ c. search needs) (λ c. search needs) (λ c. search needs) returns-3)

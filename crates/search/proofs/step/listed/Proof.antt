@@ -1,5 +1,5 @@
 -- `listed`: a candidate shorter than a motif is none, whether frequent or not.
-use Rattle.search.proofs.Four.{hit-yes, hit-no}
+use Rattle.search.proofs.Kind.{hit-yes, hit-no}
 use Rattle.search.proofs.step.listed.Statement.{statement}
 use Rattle.search.proofs.step.listed.Tie as tie
 

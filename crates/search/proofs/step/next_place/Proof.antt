@@ -3,27 +3,40 @@ use mathlib.Core.Path.{sym, _∙_}
 use mathlib.Core.Logic.{⊎-elim}
 use native.Mathlib.Omega.{arith}
 use borrow.Author.Needs.{needs}
-use Rattle.search.proofs.Four.{next-down, next-last, next-bad, fits4}
+use Rattle.search.proofs.Kind.{next-down, next-last, next-bad, child-fits}
 use Rattle.search.proofs.step.next_place.Statement.{statement}
 use Rattle.search.proofs.step.next_place.Tie as tie
 
+base-requires : tie.Need-base-requires
+base-requires c κs = search needs
+
 add-new : tie.Need-add-new
-add-new c = omega arith
+add-new c = search needs
 
 mul-new : tie.Need-mul-new
-mul-new c = let a = c .before .before .args in omega (arith, fits4 (a .number) (a .letters) (a .depth) (omega arith) (omega arith) (search needs))
+mul-new c =
+    let s = c .before .before .before .before in
+    let p = s .pre .1 .1 in
+    omega (arith, child-fits (s .args .template) (s .pre .0) (s .args .letters) (s .args .number) (omega (arith, p .0)) (p .2) (c .base .ensures))
 
 new-requires : tie.Need-new-requires
 new-requires c κs = search needs
 
 returns : tie.Need-returns
-returns c = λ good e. next-down good _ _ _ (omega arith) (e ∙ c .before .if2 .taken) ∙ sym (c .new .ensures)
+returns c =
+    let p = c .before .before .before .before .before .pre .1 .1 in
+    λ good e. next-down _ good _ _ _ (p .0) (omega arith) (p .2) (e ∙ c .before .before .if2 .taken) (c .before .base .ensures) ∙ sym (c .new .ensures)
 
 way-up-requires : tie.Need-way-up-requires
-way-up-requires c κs = search needs
+way-up-requires c κs =
+    let p = c .before .before .pre in
+    (p .0, (p .1 .0, (omega (arith, p .1 .1 .0, p .1 .1 .1), p .1 .1 .2)))
 
 returns-2 : tie.Need-returns-2
-returns-2 c = λ good e. ⊎-elim (λ w. next-bad good _ _ _ (e ∙ w .1 .left)) (λ w. next-last good _ _ _ (omega arith)) (c .before .if1 .came) ∙ c .way-up .ensures good _
+returns-2 c =
+    λ good e. ⊎-elim (λ w. next-bad _ good _ _ _ (e ∙ w .1 .left)) (λ w. next-last _ good _ _ _ (omega arith)) (c .before .if1 .came) ∙ c .way-up .ensures good _
 
 pub next-place-spec : {M : Type 1} → statement M
-next-place-spec = tie.close (tie.spec add-new mul-new new-requires returns way-up-requires returns-2)
+next-place-spec =
+    tie.close
+    (tie.spec base-requires add-new mul-new new-requires returns way-up-requires returns-2)

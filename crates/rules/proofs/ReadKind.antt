@@ -1,0 +1,47 @@
+-- The kind of search that saved bytes hold, and what it may use of a component: byte 12 of the size record tells the one, byte 3 of a
+-- component's record the other.
+use mathlib.Core.Path.{_≡_, refl, sym}
+use mathlib.Core.Logic.{_↔_}
+use mathlib.Core.Bool.{Bool, true, false}
+use mathlib.Core.List.{List}
+use Prim.Native.Nat.{ℕ, _+_, _-_, _≤_}
+use native.Mathlib.Omega.{arith}
+use lib.Dec.{eqb}
+use borrow.Author.Tests.{eqb-true}
+use Rattle.rules.specs.Limits.{Profile-MIXED, Template-COMPONENTS}
+use Rattle.rules.specs.Lists.{if}
+use Rattle.rules.specs.Profile.{numbered-profile}
+use Rattle.rules.specs.Refused.{byte, numbered}
+use Rattle.rules.specs.Saved.{record-at, component-count, read-profile, read-component, read-template, read-search}
+use Rattle.rules.specs.Template.{none}
+use Rattle.rules.specs.declared.Profile.the-variants.{Exact, Mixed}
+use Rattle.rules.proofs.Laid.{field-byte, not-exact}
+use Rattle.rules.proofs.Over.{getD-map-run}
+use Rattle.rules.proofs.Rewritten.{component-in, read-components}
+
+-- 1 is the number of a mixed search alone
+numbered-mixed : (n : ℕ) → (numbered-profile n ≡ Mixed) ↔ (n ≡ Profile-MIXED)
+numbered-mixed n = (λ e. go (eqb n Profile-MIXED) refl e, λ e. rw e)
+  where
+    go : (b : Bool) → eqb n Profile-MIXED ≡ b → if b Mixed Exact ≡ Mixed → n ≡ Profile-MIXED
+    go true q e = eqb-true n Profile-MIXED q
+    go false q e = absurd (not-exact (sym e))
+
+module _ (bs : List ℕ) where
+  -- so bytes hold a mixed search exactly if byte 12 of the size record is 1
+  pub mixed-saved : (read-profile bs ≡ Mixed) ↔ (byte bs 0 12 ≡ Profile-MIXED)
+  unfolding read-profile
+  mixed-saved = rw (field-byte (record-at bs 0) 12) (numbered-mixed (byte bs 0 12))
+
+  -- and then the allowance of component i is byte 3 of its record
+  pub saved-allowance : component-count bs ≤ Template-COMPONENTS → read-profile bs ≡ Mixed → (i : ℕ) → 1 ≤ i → i ≤ component-count bs
+      → numbered (read-search bs .template) i .allowance ≡ byte bs i 3
+  unfolding read-search read-component
+  saved-allowance few m i some most =
+      let z : 1 + (i - 1) ≡ i = omega arith in
+      rw (read-components bs few, getD-map-run (component-in bs) none 1 (component-count bs) (i - 1) (omega arith), z, m) (field-byte (record-at bs i) 3)
+
+-- the kind of the template that is read is that of the bytes
+pub kind-read : (bs : List ℕ) → read-search bs .template .profile ≡ read-profile bs
+unfolding read-search read-template
+kind-read bs = refl

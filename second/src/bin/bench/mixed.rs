@@ -1,0 +1,162 @@
+//! A candidate of a mixed search beside one of an exact search, over the same
+//! letters and the same template, both of the library. The mixed legs are held
+//! to the second program, as far as that comes, before they are timed.
+
+use crate::inputs;
+use crate::linked;
+use crate::timing::{in_turn, ratio, row, title, Work};
+use crate::walk::{Place, Rows, Search, Went};
+
+/// The steps that are taken of a search over random letters.
+const STEPS: u64 = 20_000;
+/// The rows of the tables: more than are listed in so many steps.
+const ROOM: usize = 20_000;
+/// The steps of a mixed search that the second program takes too.
+const HELD: u64 = 150;
+
+/// What a mixed candidate may take, in times of an exact one.
+const TARGET: f64 = 1.3;
+
+/// The steps that are taken of a search that lists nothing.
+const MANY_STEPS: u64 = 100_000;
+
+/// Searches that list nothing: what a candidate alone takes. In the last the
+/// sequences are too short for the third component.
+fn walks() -> Vec<(String, Search)> {
+    let mut searches = Vec::new();
+    for letters in [1_000, 8_000, 65_536] {
+        for (low, high) in [(0, 0), (0, 255)] {
+            let name = format!("NN[{low},{high}]NN[255,255]N, both of two sequences, {letters}");
+            searches.push((name, inputs::walk(letters, low, high)));
+        }
+    }
+    let short = [(4, 0, 0), (4, 0, 100), (1, 255, 255)];
+    searches.push((
+        "NNNN[0,100]NNNN[255,255]N, 12 % of 1,024 sequences of 64".to_string(),
+        inputs::random(1_024, 64, &short, 123),
+    ));
+    searches
+}
+
+/// Searches over random letters, also of as many letters as a mixed motif has.
+/// What a listed motif takes more, its weighted support, counts in; in the mixed
+/// profile there are more of them, and they have more occurrences.
+fn searches() -> Vec<(String, Search)> {
+    let deep = [(6, 0, 0), (5, 0, 30), (5, 0, 30)];
+    let narrow = [(12, 0, 0), (4, 0, 0)];
+    let mut searches: Vec<_> = inputs::searches()
+        .into_iter()
+        .map(|(name, search, _)| (name.to_string(), search))
+        .collect();
+    searches.extend([
+        (
+            "N x 6[0,30]N x 5[0,30]N x 5, one sequence of 65,536".to_string(),
+            inputs::random(1, 65_536, &deep, 1),
+        ),
+        (
+            "N x 12[0,0]N x 4, 2 of 64 sequences of 1,024".to_string(),
+            inputs::random(64, 1_024, &narrow, 2),
+        ),
+        (
+            "N x 12[0,0]N x 4, one sequence of 65,536".to_string(),
+            inputs::random(1, 65_536, &narrow, 1),
+        ),
+    ]);
+    searches
+}
+
+/// A leg from the first candidate on.
+fn leg<'a>(search: &'a Search, budget: u64) -> impl FnMut(&mut Rows) -> Went + 'a {
+    let saved = linked::saved_at(search, Place::FIRST);
+    move |tables| linked::leg(search, &saved, budget, tables)
+}
+
+/// The library's first steps of a search, held to the second program's.
+fn held(search: &Search) {
+    let mut tables = Rows::with_room(ROOM);
+    let went = leg(search, HELD)(&mut tables);
+    let template = second::Template {
+        profile: search.profile,
+        components: search.components.clone(),
+    };
+    let (letters, lengths) = (&search.set.letters, &search.set.lengths);
+    let begun = second::begin(letters, lengths, &template, search.quorum).expect("a search");
+    let mut beside = Rows::with_room(ROOM);
+    let (m, s, w) = (
+        &mut beside.motifs,
+        &mut beside.supports,
+        &mut beside.weights,
+    );
+    let there = second::leg(letters, lengths, &begun, HELD, m, s, w);
+    assert_eq!((went.steps, went.rows), (there.steps, there.rows));
+    let place = (went.place.letters, went.place.number);
+    let next = there.search.place;
+    assert_eq!(place, (usize::from(next.letters), next.number));
+    assert!(tables == beside, "the programs differ");
+}
+
+/// A row of a table: what a candidate takes in each profile, the first steps
+/// less a leg that takes none. Gives the ratio.
+fn measured(name: &str, exact: &Search, allowance: u16, budget: u64) -> f64 {
+    let mixed = exact.mixed(allowance);
+    held(&mixed);
+    let both = [exact, &mixed];
+    let went = both.map(|search| leg(search, budget)(&mut Rows::with_room(ROOM)));
+    let mut works: Vec<Work> = Vec::new();
+    for search in both {
+        for budget in [0, budget] {
+            let mut run = leg(search, budget);
+            let mut tables = Rows::with_room(ROOM);
+            works.push(Box::new(move || run(&mut tables).steps));
+        }
+    }
+    let times = in_turn(10, &mut works);
+    let each = [0, 1].map(|at| {
+        let steps = went[at].steps as f64;
+        times[2 * at + 1].on_top_of(&times[2 * at]) / steps
+    });
+    let mut cells = vec![name.to_string(), allowance.to_string()];
+    for (went, time) in went.iter().zip(each) {
+        cells.extend([went.steps.to_string(), went.rows.to_string()]);
+        cells.push(format!("{:.3}", time * 1e6));
+    }
+    cells.push(ratio(each[1], each[0]));
+    row(&cells);
+    each[1] / each[0]
+}
+
+/// A table of such rows, and which of them are above the target.
+fn table(searches: Vec<(String, Search)>, budget: u64) {
+    title(&[
+        "search",
+        "allowance",
+        "exact, steps",
+        "rows",
+        "us a candidate",
+        "mixed, steps",
+        "rows",
+        "us a candidate",
+        "mixed / exact",
+    ]);
+    let mut above = Vec::new();
+    for (name, exact) in searches {
+        for allowance in [1, 2] {
+            if measured(&name, &exact, allowance, budget) > TARGET {
+                above.push(format!("{name}, allowance {allowance}"));
+            }
+        }
+    }
+    let above = match above.is_empty() {
+        true => "none".to_string(),
+        false => above.join("; "),
+    };
+    println!("\nabove {TARGET}: {above}\n");
+}
+
+/// Both tables.
+pub fn beside_exact() {
+    println!("A candidate of a mixed search beside one of an exact search that lists nothing\n");
+    table(walks(), MANY_STEPS);
+    println!("The same over random letters, the first {STEPS} steps of each search\n");
+    table(searches(), STEPS);
+}

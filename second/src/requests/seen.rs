@@ -1,0 +1,273 @@
+//! What came up in the requests: how often each kind of call came out in each
+//! way, in each profile. All that can come about has to.
+
+use super::answer::{Answer, REFUSED};
+use super::request::{Kind, Request, Value};
+use crate::{Place, Profile};
+use std::collections::BTreeMap;
+use std::fmt;
+use std::ops::RangeInclusive;
+
+use Profile::{Exact, Mixed};
+
+/// How each call can come out, and the refusals that it can give. A join and
+/// the FASTA reader have no profile, and are counted with the exact one.
+const ANSWERS: [(Kind, Profile, &[u64], &[u64]); 12] = [
+    (Kind::Begin, Exact, &[1], &[1, 2, 3, 4, 5, 6, 7, 8, 9]),
+    (
+        Kind::Leg,
+        Exact,
+        &[1, 2, 3],
+        &[1, 2, 3, 4, 5, 6, 7, 8, 9, 12, 13, 23],
+    ),
+    (
+        Kind::Save,
+        Exact,
+        &[1],
+        &[1, 2, 3, 4, 5, 6, 7, 8, 9, 12, 13, 17, 23],
+    ),
+    (
+        Kind::Restore,
+        Exact,
+        &[1],
+        &[1, 2, 3, 4, 5, 6, 7, 8, 9, 10, 11, 12, 13, 21, 22, 23],
+    ),
+    (
+        Kind::Recover,
+        Exact,
+        &[1],
+        &[1, 2, 3, 4, 5, 6, 7, 8, 14, 15],
+    ),
+    (Kind::Join, Exact, &[1], &[6, 8, 16, 17]),
+    (Kind::Fasta, Exact, &[1, 2], &[4, 19, 20]),
+    (Kind::Begin, Mixed, &[1], &[1, 2, 3, 4, 5, 6, 7, 8, 9, 24]),
+    (
+        Kind::Leg,
+        Mixed,
+        &[1, 2, 3],
+        &[1, 2, 3, 4, 5, 6, 7, 8, 9, 12, 13, 23, 24],
+    ),
+    (
+        Kind::Save,
+        Mixed,
+        &[1],
+        &[1, 2, 3, 4, 5, 6, 7, 8, 9, 12, 13, 17, 23, 24],
+    ),
+    (
+        Kind::Restore,
+        Mixed,
+        &[1],
+        &[1, 2, 3, 4, 5, 6, 7, 8, 9, 10, 11, 12, 13, 21, 22, 23, 24],
+    ),
+    (
+        Kind::Recover,
+        Mixed,
+        &[1],
+        &[1, 2, 3, 4, 5, 6, 7, 8, 14, 15, 24],
+    ),
+];
+
+/// The refusals that tell a record, and the records from 0 that each kind of
+/// call can tell: of saves of one to six components, whose place record is
+/// the third to the eighth.
+const RECORDS: [(Kind, Profile, u64, RangeInclusive<u64>); 12] = [
+    (Kind::Leg, Exact, 23, 2..=7),
+    (Kind::Save, Exact, 23, 2..=7),
+    (Kind::Restore, Exact, 11, 0..=7),
+    (Kind::Restore, Exact, 21, 0..=7),
+    (Kind::Restore, Exact, 22, 0..=0),
+    (Kind::Restore, Exact, 23, 2..=7),
+    (Kind::Leg, Mixed, 23, 2..=7),
+    (Kind::Save, Mixed, 23, 2..=7),
+    (Kind::Restore, Mixed, 11, 0..=7),
+    (Kind::Restore, Mixed, 21, 0..=7),
+    (Kind::Restore, Mixed, 22, 0..=0),
+    (Kind::Restore, Mixed, 23, 2..=7),
+];
+
+/// Why a mixed place breaks its rule, or a number is no mixed motif's: the
+/// first that applies.
+#[derive(Clone, Copy, Debug, PartialEq, Eq, PartialOrd, Ord)]
+enum Why {
+    Letters,
+    Number,
+    Digit,
+    Allowance,
+}
+
+/// The calls that see to it. A recovery's number has as many letters as motifs
+/// have.
+const WHY: [(Kind, u64, &[Why]); 4] = [
+    (
+        Kind::Leg,
+        23,
+        &[Why::Letters, Why::Number, Why::Digit, Why::Allowance],
+    ),
+    (
+        Kind::Save,
+        23,
+        &[Why::Letters, Why::Number, Why::Digit, Why::Allowance],
+    ),
+    (
+        Kind::Restore,
+        23,
+        &[Why::Letters, Why::Number, Why::Digit, Why::Allowance],
+    ),
+    (
+        Kind::Recover,
+        14,
+        &[Why::Number, Why::Digit, Why::Allowance],
+    ),
+];
+
+impl fmt::Display for Why {
+    fn fmt(&self, out: &mut fmt::Formatter) -> fmt::Result {
+        out.write_str(match self {
+            Why::Letters => "too many letters",
+            Why::Number => "number too large",
+            Why::Digit => "digit 14 or 15",
+            Why::Allowance => "over the allowance",
+        })
+    }
+}
+
+/// The profile that a request is in: that of its search value, or of its saved
+/// bytes, as the size record tells it.
+fn profile(request: &Request) -> Profile {
+    match request.kind {
+        Kind::Restore if request.saved.get(12) == Some(&1) => Mixed,
+        Kind::Restore | Kind::Join | Kind::Fasta => Exact,
+        _ => request.value.profile,
+    }
+}
+
+/// The part of a search value that some saved bytes hold whose place breaks its
+/// rule: lengths, allowances and the place.
+fn held(bytes: &[u8]) -> Value {
+    let mut value = Value {
+        profile: Mixed,
+        count: bytes.len() as u16 / 16 - 2,
+        ..Value::default()
+    };
+    let records = bytes.chunks(16);
+    for (slot, record) in value.slots.iter_mut().zip(records.clone().skip(1)) {
+        (slot.length, slot.allowance) = (record[2].into(), record[3].into());
+    }
+    if let Some(place) = records.last() {
+        value.place = place[1];
+        value.number = u64::from_le_bytes(place[8..].try_into().expect("eight bytes"));
+    }
+    value
+}
+
+/// Why the place of a mixed search value breaks its rule.
+fn why(value: &Value) -> Why {
+    let letters = u64::from(value.place);
+    if letters > value.letters_in_all() {
+        return Why::Letters;
+    }
+    if letters < 16 && value.number >> (4 * letters) > 0 {
+        return Why::Number;
+    }
+    let place = Place {
+        letters: value.place,
+        number: value.number,
+    };
+    match place.values(Mixed).iter().any(|digit| *digit > 13) {
+        true => Why::Digit,
+        false => Why::Allowance,
+    }
+}
+
+/// How often each kind of call came out in each way, in each profile, how often
+/// it gave each refusal, by its number, how often with each place, where that is
+/// a record, and for which reason, where there are several.
+#[derive(Default)]
+pub struct Seen {
+    outcomes: BTreeMap<(u64, u16, u64), u64>,
+    refusals: BTreeMap<(u64, u16, u64), u64>,
+    records: BTreeMap<(u64, u16, u64, u64), u64>,
+    reasons: BTreeMap<(u64, Why), u64>,
+}
+
+impl Seen {
+    pub fn count(&mut self, request: &Request, answer: &Answer) {
+        let kind = request.kind as u64;
+        let profile = profile(request);
+        let of = (kind, profile.number());
+        if answer.outcome() != REFUSED {
+            let outcome = (of.0, of.1, answer.outcome());
+            *self.outcomes.entry(outcome).or_default() += 1;
+            return;
+        }
+        let refusal = answer.refusal();
+        *self.refusals.entry((of.0, of.1, refusal)).or_default() += 1;
+        if let 11 | 21..=23 = refusal {
+            let record = (of.0, of.1, refusal, answer.place_told());
+            *self.records.entry(record).or_default() += 1;
+        }
+        if profile == Mixed && (refusal == 23 || refusal == 14) {
+            let value = match request.kind {
+                Kind::Restore => held(&request.saved),
+                Kind::Recover => Value {
+                    place: request.value.letters_in_all() as u8,
+                    number: request.motif,
+                    ..request.value
+                },
+                _ => request.value,
+            };
+            *self.reasons.entry((kind, why(&value))).or_default() += 1;
+        }
+    }
+
+    /// A line for each kind of call and profile, and one for each of its
+    /// refusals that tells a record or has several reasons; or what never came
+    /// up.
+    pub fn told(&self) -> Result<Vec<String>, String> {
+        let mut lines = Vec::new();
+        for (kind, profile, outcomes, refusals) in ANSWERS {
+            let which = format!("{kind:?}, {profile:?}");
+            let came_to = |name: &str, seen: &BTreeMap<(u64, u16, u64), u64>, expected: &[u64]| {
+                let count = |what: &u64| seen.get(&(kind as u64, profile.number(), *what)).copied();
+                counts(&which, name, expected.iter().copied(), |what| count(&what))
+            };
+            let outcomes = came_to("outcome", &self.outcomes, outcomes)?;
+            let refusals = came_to("refusal", &self.refusals, refusals)?;
+            lines.push(format!("{which}, {outcomes}; {refusals}"));
+        }
+        for (kind, profile, refusal, records) in RECORDS {
+            let of = |record| (kind as u64, profile.number(), refusal, record);
+            let count = |record| self.records.get(&of(record)).copied();
+            let which = format!("{kind:?}, {profile:?}, refusal {refusal},");
+            lines.push(format!(
+                "{which} {}",
+                counts(&which, "record", records, count)?
+            ));
+        }
+        for (kind, refusal, reasons) in WHY {
+            let count = |why| self.reasons.get(&(kind as u64, why)).copied();
+            let which = format!("{kind:?}, Mixed, refusal {refusal},");
+            lines.push(format!(
+                "{which} {}",
+                counts(&which, "reason", reasons.iter().copied(), count)?
+            ));
+        }
+        Ok(lines)
+    }
+}
+
+/// The counts of what has to come up; or what did not.
+fn counts<T: Copy + fmt::Display>(
+    which: &str,
+    name: &str,
+    expected: impl Iterator<Item = T>,
+    count: impl Fn(T) -> Option<u64>,
+) -> Result<String, String> {
+    let counts: Result<Vec<String>, String> = expected
+        .map(|what| match count(what) {
+            Some(count) => Ok(format!("{what}: {count}")),
+            None => Err(format!("{which} never came to {name} {what}")),
+        })
+        .collect();
+    Ok(format!("by {name} {}", counts?.join(", ")))
+}
