@@ -1,7 +1,7 @@
 -- A binary digit of a number, and of what the bit operations and the shifts make.
 use mathlib.Core.Path.{_≡_, sym, ap, _∙_}
 use Prim.Native.Nat.{ℕ, zero, suc, _+_, _-_, _*_, _/_, _%_, _^_, _≤_, _<_, min, max}
-use native.Mathlib.Nat.{max-zero, zero-max, div-one, div-eq-of-lt, mul-assoc}
+use native.Mathlib.Nat.{max-zero, zero-max, div-one, div-eq-of-lt, mul-assoc, mul-right-comm, add-mul, pow-succ'}
 use native.Mathlib.Decide.{decLt}
 use native.Mathlib.Omega.{arith}
 use lib.Bits.{bitAnd, bitOr, bitXor, differ, and-step, or-step, xor-step, and-shr, or-shr, xor-shr, or-zero-r, shifted-even}
@@ -116,6 +116,22 @@ down-none low high =
     let e : (high * 2) % 2 ^ 64 ≡ k * 2 = omega arith in
     let z : ((high * 2) % 2 ^ 64 * 2 ^ (63 - 0)) % 2 ^ 64 ≡ 0 = rw e (even k) in
     rw (z, or-zero-r, div-one)
+
+-- shifted down by some, the upper may be shifted at once: what its first shift loses the second would lose too
+pub down-at-once : (i low high : ℕ) → 1 ≤ i → i < 64 → bitOr (low / 2 ^ i) ((high * 2 ^ (64 - i)) % 2 ^ 64) ≡ down i low high
+unfolding down
+down-at-once i low high h l = ap (bitOr (low / 2 ^ i)) (ap (λ (x : ℕ). x % 2 ^ 64) whole ∙ less (high * 2 / 2 ^ 64 * 2 ^ (63 - i)) ((high * 2) % 2 ^ 64 * 2 ^ (63 - i)))
+  where
+    less : (k z : ℕ) → (k * 2 ^ 64 + z) % 2 ^ 64 ≡ z % 2 ^ 64
+    less k z = omega arith
+
+    whole : high * 2 ^ (64 - i) ≡ high * 2 / 2 ^ 64 * 2 ^ (63 - i) * 2 ^ 64 + (high * 2) % 2 ^ 64 * 2 ^ (63 - i)
+    whole =
+        let e : 64 - i ≡ suc (63 - i) = omega arith in
+        let p : high * 2 ^ (64 - i) ≡ high * 2 * 2 ^ (63 - i) = ap (λ (x : ℕ). high * 2 ^ x) e ∙ ap (_*_ high) (pow-succ' 2 (63 - i)) ∙ sym (mul-assoc high 2 (2 ^ (63 - i))) in
+        let q : high * 2 ≡ high * 2 / 2 ^ 64 * 2 ^ 64 + (high * 2) % 2 ^ 64 = omega arith in
+        p ∙ ap (λ (x : ℕ). x * 2 ^ (63 - i)) q ∙ add-mul (high * 2 / 2 ^ 64 * 2 ^ 64) ((high * 2) % 2 ^ 64) (2 ^ (63 - i))
+        ∙ ap (λ (x : ℕ). x + (high * 2) % 2 ^ 64 * 2 ^ (63 - i)) (mul-right-comm (high * 2 / 2 ^ 64) (2 ^ 64) (2 ^ (63 - i)))
 
 -- and the upper shifted up by i
 module _ (i low high b : ℕ) (small : i < 64) (inside : b < 64) where

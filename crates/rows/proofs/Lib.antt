@@ -34,6 +34,7 @@ pub mod Tally
 pub mod Lowest
 pub mod Kept
 pub mod Possible
+pub mod Cleared
 pub mod Single
 pub mod Shifted
 pub mod Opened

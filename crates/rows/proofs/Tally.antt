@@ -93,6 +93,12 @@ module _ (g h : ℕ → Bool) where
       let r = tally-same (suc a) n (λ k l u. q k (omega arith) (omega arith)) in
       omega (arith, e, r)
 
+-- of two that do not hold at once, and one of which holds where a third does
+pub tally-split : (f g h : ℕ → Bool) → ((k : ℕ) → bit (f k) + bit (g k) ≡ bit (h k)) → (a n : ℕ) → tally f a n + tally g a n ≡ tally h a n
+unfolding tally
+tally-split f g h q a zero = refl
+tally-split f g h q a (suc n) = omega (arith, q a, tally-split f g h q (suc a) n)
+
 bit-of : (x : ℕ) (b : Bool) → x ≤ 1 → eqb x 1 ≡ b → x ≡ bit b
 bit-of x true h e = eqb-true x 1 e
 bit-of x false h e = elim (decLt 0 x) [ yes l ↦ absurd (false≢true (sym e ∙ eq-eqb x 1 (omega arith))) | no l ↦ omega arith ]
@@ -113,19 +119,20 @@ word-tally h (suc n) a v s q =
 unfoldable mark-bit : List ℕ → ℕ → ℕ
 mark-bit row k = bit (marked? row k)
 
--- the digits of the words of marks are the tally of the marks
-pub marks-tally : (row : List ℕ) → 16 ≤ length row → sum (held (take 16 row)) ≡ tally (marked? row) 0 1024
+-- the digits of the first n words of marks are the tally of their marks
+pub marks-tally : (n : ℕ) (row : List ℕ) → n ≤ length row → sum (held (take n row)) ≡ tally (marked? row) 0 (n * 64)
 unfolding mark-bit marked?
-marks-tally row wide = ap sum marks-list ∙ sym (tally-sum (marked? row) (mark-bit row) 0 1024 (λ k l u. refl))
+marks-tally n row wide = ap sum marks-list ∙ sym (tally-sum (marked? row) (mark-bit row) 0 (n * 64) (λ k l u. refl))
   where
-    at : (p : ℕ) → p < 1024 → getD (held (take 16 row)) p 0 ≡ mark-bit row p
+    at : (p : ℕ) → p < n * 64 → getD (held (take n row)) p 0 ≡ mark-bit row p
     at p h =
-        let q : p / 64 < 16 = omega arith in
-        held-at (take 16 row) p ∙ ap (λ (w : ℕ). digit w (p % 64)) (getD-take 16 row (p / 64) 0 q) ∙ sym (held-at row p)
+        let q : p / 64 < n = omega arith in
+        held-at (take n row) p ∙ ap (λ (w : ℕ). digit w (p % 64)) (getD-take n row (p / 64) 0 q) ∙ sym (held-at row p)
         ∙ bit-of (getD (held row) p 0) (eqb (getD (held row) p 0) 1) (bit-small row p) refl
 
-    marks-list : held (take 16 row) ≡ map (mark-bit row) (run 0 1024)
+    marks-list : held (take n row) ≡ map (mark-bit row) (run 0 (n * 64))
     marks-list =
-        let n : length (held (take 16 row)) ≡ 1024 = length-held (take 16 row) ∙ ap (λ (m : ℕ). 64 * m) (length-take-le 16 row wide) in
-        ext-getD 0 (held (take 16 row)) (map (mark-bit row) (run 0 1024)) (n ∙ sym (length-map-run (mark-bit row) 0 1024))
-        (λ p h. at p (rw n at h) ∙ sym (getD-map-run (mark-bit row) 0 0 1024 p (rw n at h) ∙ ap (mark-bit row) (zero-add p)))
+        let t = length-take-le n row wide in
+        let m : length (held (take n row)) ≡ n * 64 = length-held (take n row) ∙ omega (arith, t) in
+        ext-getD 0 (held (take n row)) (map (mark-bit row) (run 0 (n * 64))) (m ∙ sym (length-map-run (mark-bit row) 0 (n * 64)))
+        (λ p h. at p (rw m at h) ∙ sym (getD-map-run (mark-bit row) 0 0 (n * 64) p (rw m at h) ∙ ap (mark-bit row) (zero-add p)))

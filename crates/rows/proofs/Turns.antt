@@ -75,6 +75,19 @@ module _ (i : ℕ) (ls ws : List ℕ) where
         let k : map (extended-word i ls ws) (run 0 (n + 1)) ≡ map (extended-word i ls ws) (run 0 (length ws)) = ap (λ (m : ℕ). map (extended-word i ls ws) (run 0 m)) h in
         (extended-bits small same fitl fitw all, f ∙ joined-all (bitOr a (bitAnd (getD ws n 0) r)) _ g ∙ ap left? k ∙ extended-left small same fitl fitw all)
 
+    -- all of them at once, where nothing is shifted
+    pub kept-plain : (n a : ℕ) {x : List ℕ} {found : Bool} → i ≡ 0 → n ≡ length ws
+        → eqb a 0 ≡ not (left? (map (extended-word 0 ls ws) (run 0 n)))
+        → x ≡ over (extended-word 0 ls ws) n l
+        → found ≡ not (eqb a 0)
+        → (held x ≡ extended i (held ls) (held ws)) × (found ≡ left? (held x))
+    kept-plain n a {x} {found} z h e o f =
+        let all : x ≡ map (extended-word i ls ws) (run 0 (length ws)) =
+        over-all (extended-word 0 ls ws) n l o h (omega arith) ∙ ap (λ (k : ℕ). map (extended-word k ls ws) (run 0 (length ws))) (sym z) in
+        let g : eqb a 0 ≡ not (left? (map (extended-word i ls ws) (run 0 (length ws)))) =
+        e ∙ ap (λ (m : ℕ). not (left? (map (extended-word 0 ls ws) (run 0 m)))) h ∙ ap (λ (k : ℕ). not (left? (map (extended-word k ls ws) (run 0 (length ws))))) (sym z) in
+        (extended-bits small same fitl fitw all, f ∙ joined-all a _ g ∙ extended-left small same fitl fitw all)
+
     none : length ws ≡ 0 → map (extended-word i ls ws) (run 0 (length ws)) ≡ []
     unfolding run
     none z = rw z

@@ -7,7 +7,7 @@ ghost use mathlib.Core.Path.{_≡_};
 ghost use Prim.Native.Nat.{ℕ, _+_, _-_, _*_, _^_, _≤_, _<_, min};
 ghost use mathlib.Core.List.{[], _∷_};
 ghost use lib.Dec.{eqb, ltb};
-ghost use lib.ListN.{length, take, getD};
+ghost use lib.ListN.{length, take, drop, getD};
 ghost use Rattle.rules.specs.Limits.{SequenceSet-SEQUENCES, SequenceSet-LETTERS};
 ghost use Rattle.rules.specs.Lists as lists;
 ghost use Rattle.rows.specs.Bits.{held};
@@ -223,7 +223,7 @@ fn keep_short(
     ensures { λ r. ⌜ (quorum ≤ r → Filled (marked? (now (row .entry))) (extended-at i (now (lengths .entry)) (now (letter .entry)) (now (row .entry))) (now (lengths .entry)) (now (out .exit)) (length (now (lengths .entry)))) ⌝ }
     ensures { λ _. ⌜ length (now (out .exit)) ≡ length (now (out .entry)) ⌝ }
 {
-    let mut able = count(row);
+    let mut able = count(MARKS, row);
     let mut w = 0;
     while w < MARKS {
         if able < quorum {
@@ -231,13 +231,30 @@ fn keep_short(
         }
         let left = keep_ones(w, lengths, firsts, row, letter, i, out);
         out[w] = left;
-        able -= u64::count_ones(row[w]) - u64::count_ones(left);
+        able -= u64::count_ones(row[w] ^ left);
         w += 1;
     }
     if able < quorum {
         return able;
     }
-    count(out)
+    count(MARKS, out)
+}
+
+// How many words of marks `n` sequences take up.
+fn marks_of(n: usize) -> usize
+    requires { ⌜ n ≤ SequenceSet-SEQUENCES ⌝ }
+    ensures { λ r. ⌜ (r ≤ Row-MARKS) × (n ≤ 64 * r) ⌝ }
+{
+    (n + 63) / BITS
+}
+
+// Clears the words of marks from `n` on.
+fn clear_marks(n: usize, row: &mut [u64])
+    requires { ⌜ (n ≤ Row-MARKS) × (Row-MARKS ≤ length (now row)) ⌝ }
+    ensures { λ _. ⌜ ((q : ℕ) → q < n → getD (now (row .exit)) q 0 ≡ getD (now (row .entry)) q 0) × ((q : ℕ) → n ≤ q → q < Row-MARKS → getD (now (row .exit)) q 0 ≡ 0) ⌝ }
+    ensures { λ _. ⌜ (drop Row-MARKS (now (row .exit)) ≡ drop Row-MARKS (now (row .entry))) × (length (now (row .exit)) ≡ length (now (row .entry))) ⌝ }
+{
+    words::fill(&mut row[n..MARKS], 0);
 }
 
 // One letter more, the i-th of its component, in every sequence that has a mark: its words, and its new mark. It answers how many have a
@@ -264,11 +281,15 @@ pub fn keep_all(
 {
     let last = firsts.len() - 1;
     if firsts[last] == 1 {
+        if i == 0 {
+            return keep_short(lengths, firsts, row, letter, 0, quorum, out);
+        }
         return keep_short(lengths, firsts, row, letter, i, quorum, out);
     }
-    let mut possible = count(row);
+    let used = marks_of(lengths.len());
+    let mut possible = count(used, row);
     let mut w = 0;
-    while w < MARKS {
+    while w < used {
         if possible < quorum {
             return possible;
         }
@@ -280,17 +301,18 @@ pub fn keep_all(
     if possible < quorum {
         return possible;
     }
-    count(out)
+    clear_marks(used, out);
+    count(used, out)
 }
 
-// How many sequences are marked.
-fn count(row: &[u64]) -> u32
-    requires { ⌜ Row-MARKS ≤ length (now row) ⌝ }
-    ensures { λ r. ⌜ r ≡ lists.sum (held (take Row-MARKS (now (row .entry)))) ⌝ }
+// How many sequences are marked in the first `n` words of marks: the sum of their counts of ones.
+fn count(n: usize, row: &[u64]) -> u32
+    requires { ⌜ (n ≤ Row-MARKS) × (n ≤ length (now row)) ⌝ }
+    ensures { λ r. ⌜ r ≡ lists.sum (held (take n (now (row .entry)))) ⌝ }
 {
     let mut sum: u32 = 0;
     let mut w = 0;
-    while w < MARKS {
+    while w < n {
         sum += u64::count_ones(row[w]);
         w += 1;
     }

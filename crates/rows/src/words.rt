@@ -24,6 +24,14 @@ pub fn down(i: usize, low: u64, high: u64) -> u64
     (low >> i) | ((high << 1) << (63 - i))
 }
 
+// The same where `i` is not 0: one shift for each word.
+fn down_some(i: usize, low: u64, high: u64) -> u64
+    requires { ⌜ (1 ≤ i) × (i < 64) ⌝ }
+    ensures { λ r. ⌜ r ≡ words.down i low high ⌝ }
+{
+    (low >> i) | (high << (64 - i))
+}
+
 // The upper of two words, shifted up by `i` bits, with those that come in from the lower.
 pub fn up(i: usize, low: u64, high: u64) -> u64
     requires { ⌜ i < 64 ⌝ }
@@ -140,7 +148,7 @@ pub fn letter_words(sequence: &[u8]) -> Bases
 
 // The first `n` words of a row with the first letter of a part more, for which nothing is shifted, and all of them joined in one.
 fn keep_plain(row: &[u64], letters: &[u64], n: usize, out: &mut [u64]) -> u64
-    requires { ⌜ (length (now letters) ≡ length (now row)) × (length (now out) ≡ length (now row)) × (n < length (now row)) ⌝ }
+    requires { ⌜ (length (now letters) ≡ length (now row)) × (length (now out) ≡ length (now row)) × (n ≤ length (now row)) ⌝ }
     ensures { λ r. ⌜ eqb r 0 ≡ not (left? (map (words.extended-word 0 (now (letters .entry)) (now (row .entry))) (run 0 n))) ⌝ }
     ensures { λ _. ⌜ now (out .exit) ≡ over (words.extended-word 0 (now (letters .entry)) (now (row .entry))) n (now (out .entry)) ⌝ }
 {
@@ -155,21 +163,22 @@ fn keep_plain(row: &[u64], letters: &[u64], n: usize, out: &mut [u64]) -> u64
     all
 }
 
-// The first `n` words of a row with one letter more, and all of them joined in one.
+// The first `n` words of a row with a later letter more, and all of them joined in one. Each word of the letter's row is read once: the
+// upper of two is the lower of the next two.
 fn keep_words(row: &[u64], letters: &[u64], i: usize, n: usize, out: &mut [u64]) -> u64
-    requires { ⌜ (length (now letters) ≡ length (now row)) × (length (now out) ≡ length (now row)) × (n < length (now row)) × (i < 64) ⌝ }
+    requires { ⌜ (length (now letters) ≡ length (now row)) × (length (now out) ≡ length (now row)) × (n < length (now row)) × (1 ≤ i) × (i < 64) ⌝ }
     ensures { λ r. ⌜ eqb r 0 ≡ not (left? (map (words.extended-word i (now (letters .entry)) (now (row .entry))) (run 0 n))) ⌝ }
     ensures { λ _. ⌜ now (out .exit) ≡ over (words.extended-word i (now (letters .entry)) (now (row .entry))) n (now (out .entry)) ⌝ }
 {
-    if i == 0 {
-        return keep_plain(row, letters, n, out);
-    }
     let mut all: u64 = 0;
+    let mut low = letters[0];
     let mut q = 0;
     while q < n {
-        let v = row[q] & down(i, letters[q], letters[q + 1]);
+        let high = letters[q + 1];
+        let v = row[q] & down_some(i, low, high);
         out[q] = v;
         all = all | v;
+        low = high;
         q += 1;
     }
     all
@@ -185,6 +194,9 @@ pub fn keep_letter(row: &[u64], letters: &[u64], i: usize, out: &mut [u64]) -> b
     let n = out.len();
     if n == 0 {
         return false;
+    }
+    if i == 0 {
+        return marked(keep_plain(row, letters, n, out));
     }
     let last = n - 1;
     let all = keep_words(row, letters, i, last, out);

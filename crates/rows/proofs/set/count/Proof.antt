@@ -13,10 +13,10 @@ use Rattle.rows.proofs.set.count.Statement.{statement}
 use Rattle.rows.proofs.set.count.Tie as tie
 
 abbrev Inv-loop : tie.InvT-loop
-Inv-loop row sum₀ w₀ sum w = (w ≤ Row-MARKS) × (sum ≤ 64 * w) × (sum + lists.sum (held (drop w (take Row-MARKS row))) ≡ lists.sum (held (take Row-MARKS row)))
+Inv-loop n row sum₀ w₀ sum w = (w ≤ n) × (n ≤ Row-MARKS) × (sum ≤ 64 * w) × (sum + lists.sum (held (drop w (take n row))) ≡ lists.sum (held (take n row)))
 
 abbrev μ-loop : tie.MeasureT-loop
-μ-loop row sum₀ w₀ sum w = Row-MARKS - w
+μ-loop n row sum₀ w₀ sum w = n - w
 
 loop-holds : tie.Need-loop-holds Inv-loop μ-loop
 loop-holds c = search needs
@@ -41,12 +41,13 @@ loop-again c =
     let w = c .before .before .loop .w in
     let fits = c .shared-slice-known .given w .fits in (
       search needs,
+      search needs,
       omega (arith, ones-le 64 _ fits),
-      omega (arith, counted-step Row-MARKS (c .before .before .before .args .row .now) w (search needs) (search needs) fits),
+      omega (arith, counted-step (c .before .before .before .args .n) (c .before .before .before .args .row .now) w (search needs) (search needs) fits),
     )
 
 returns : tie.Need-returns Inv-loop μ-loop
-returns c = omega (arith, counted-end Row-MARKS (c .before .before .args .row .now) (c .before .loop .w) (search needs))
+returns c = omega (arith, counted-end (c .before .before .args .n) (c .before .before .args .row .now) (c .before .loop .w) (search needs))
 
 pub count-spec : {M : Type 1} → statement M
 count-spec =

@@ -1,5 +1,6 @@
 -- A short set is left to a function that promises the same. In any other each turn writes the sequences of one word of marks and then the
--- word itself, which stands before all sequences; and those that are lost are taken off those that can have a mark.
+-- word itself, which stands before all sequences; and those that are lost are taken off those that can have a mark. In the words of marks
+-- behind those that the set has, there is none.
 use borrow.Author.Needs.{needs}
 use mathlib.Core.Path.{_≡_, refl, _∙_}
 use Prim.Native.Nat.{_-_, _≤_}
@@ -18,10 +19,10 @@ use Rattle.rows.proofs.set.keep_sequences.Reads as keep-sequences-reads
 use Rattle.rows.proofs.set.keep_short.Reads as keep-short-reads
 
 abbrev Inv-loop : tie.InvT-loop
-Inv-loop lengths firsts row letter i quorum out₀ last possible₀ w₀ out possible w = (w ≤ Row-MARKS) × (length out ≡ length out₀) × (Possible i lengths letter row quorum out possible w)
+Inv-loop lengths firsts row letter i quorum out₀ last used possible₀ w₀ out possible w = (w ≤ used) × (used ≤ Row-MARKS) × (length out ≡ length out₀) × (Possible i lengths letter row quorum out possible w)
 
 abbrev μ-loop : tie.MeasureT-loop
-μ-loop lengths firsts row letter i quorum out₀ last possible₀ w₀ out possible w = Row-MARKS - w
+μ-loop lengths firsts row letter i quorum out₀ last used possible₀ w₀ out possible w = used - w
 
 sub-last : tie.Need-sub-last Inv-loop μ-loop
 sub-last c =
@@ -40,59 +41,75 @@ shared-slice-read-if1 c =
 
 keep-short-requires : tie.Need-keep-short-requires Inv-loop μ-loop
 keep-short-requires c κs =
-    let s = c .before .before .before .before .before .before .before .before in
-    (s .pre .0, (s .pre .1 .0, (c .before .if1 .taken, (s .pre .1 .1 .0, s .pre .1 .1 .1))))
+    let s = c .before .before .before .before .before .before .before .before .before in
+    ((s .pre .0 .0, omega arith), (s .pre .1 .0, (c .before .before .if1 .taken, (s .pre .1 .1 .0, s .pre .1 .1 .1))))
 
 same-length : tie.Need-same-length Inv-loop μ-loop
 same-length c = search needs
 
 returns : tie.Need-returns Inv-loop μ-loop
-returns c = c .before .before .keep-short .ensures
+returns c = rw (c .before .before .before .before .if2 .taken) (c .before .before .keep-short .ensures)
 
-count-requires : tie.Need-count-requires Inv-loop μ-loop
-count-requires c κs =
-    let s = c .before .before .before .before .before .before .before in
-    omega (arith, s .pre .1 .1 .1 .0, first-past (s .args .lengths .now) (length (s .args .lengths .now)))
-
-loop-holds : tie.Need-loop-holds Inv-loop μ-loop
-loop-holds c =
-    let s = c .before .before .before .before .before .before .before .before in
-    (omega arith, refl, possible-begin (s .args .i) (s .args .lengths .now) (s .args .letter .now) (s .args .row .now) (s .args .quorum) (s .args .out .now) (omega (arith, s .pre .1 .1 .1 .0, first-past (s .args .lengths .now) (length (s .args .lengths .now)))) (c .count .ensures))
+keep-short-requires-2 : tie.Need-keep-short-requires-2 Inv-loop μ-loop
+keep-short-requires-2 c κs =
+    let s = c .before .before .before .before .before .before .before .before .before in
+    (s .pre .0, (s .pre .1 .0, (c .before .before .if1 .taken, (s .pre .1 .1 .0, s .pre .1 .1 .1))))
 
 same-length-2 : tie.Need-same-length-2 Inv-loop μ-loop
 same-length-2 c = search needs
 
 returns-2 : tie.Need-returns-2 Inv-loop μ-loop
-returns-2 c =
-    let s = c .before .before .before .before .before .before .before .before .before .before .before in
+returns-2 c = c .before .before .keep-short2 .ensures
+
+marks-of-requires : tie.Need-marks-of-requires Inv-loop μ-loop
+marks-of-requires c κs = search needs
+
+count-requires : tie.Need-count-requires Inv-loop μ-loop
+count-requires c κs =
+    let s = c .before .before .before .before .before .before .before .before in
+    let m = c .marks-of .ensures in
+    (m .0, omega (arith, m .0, s .pre .1 .1 .1 .0, first-past (s .args .lengths .now) (length (s .args .lengths .now))))
+
+loop-holds : tie.Need-loop-holds Inv-loop μ-loop
+loop-holds c =
+    let s = c .before .before .before .before .before .before .before .before .before in
+    let m = c .before .marks-of .ensures in
+    (omega arith, m .0, refl, possible-begin (s .args .i) (s .args .lengths .now) (s .args .letter .now) (s .args .row .now) (s .pre .1 .1 .0) _ (m .1) (s .args .quorum) (s .args .out .now) (m .0) (omega (arith, m .0, s .pre .1 .1 .1 .0, first-past (s .args .lengths .now) (length (s .args .lengths .now)))) (c .count .ensures))
+
+same-length-3 : tie.Need-same-length-3 Inv-loop μ-loop
+same-length-3 c = search needs
+
+returns-3 : tie.Need-returns-3 Inv-loop μ-loop
+returns-3 c =
+    let s = c .before .before .before .before .before .before .before .before .before .before .before .before in
     let l = c .before .before .loop in
-    stopped (s .args .i) (s .args .lengths .now) (s .args .letter .now) (s .args .row .now) (s .args .quorum) (l .out) (l .possible) (l .w) (l .inv .2) (l .inv .0) (c .if2 .taken) (l .inv .1)
+    stopped (s .args .i) (s .args .lengths .now) (s .args .letter .now) (s .args .row .now) (s .args .quorum) (l .out) (l .possible) (l .w) (l .inv .3) (omega (arith, l .inv .0, l .inv .1)) (c .if3 .taken) (l .inv .2)
 
 keep-sequences-requires : tie.Need-keep-sequences-requires Inv-loop μ-loop
 keep-sequences-requires c κs =
-    let s = c .before .before .before .before .before .before .before .before .before .before .before .before in
+    let s = c .before .before .before .before .before .before .before .before .before .before .before .before .before in
     let l = c .before .before .before .loop in
-    ((search needs, s .pre .0 .0, s .pre .0 .1), (s .pre .1 .0, (s .pre .1 .1 .0, (s .pre .1 .1 .1 .0, s .pre .1 .1 .1 .1, l .inv .1 ∙ s .pre .1 .1 .1 .2))))
+    ((omega (arith, l .inv .1, c .before .before .loop-test .taken), s .pre .0 .0, s .pre .0 .1), (s .pre .1 .0, (s .pre .1 .1 .0, (s .pre .1 .1 .1 .0, s .pre .1 .1 .1 .1, l .inv .2 ∙ s .pre .1 .1 .1 .2))))
 
 mul-out : tie.Need-mul-out Inv-loop μ-loop
 mul-out c = search needs
 
 slice-write-out : tie.Need-slice-write-out Inv-loop μ-loop
 slice-write-out c =
-    let s = c .before .before .before .before .before .before .before .before .before .before .before .before .before .before .before in
+    let s = c .before .before .before .before .before .before .before .before .before .before .before .before .before .before .before .before in
     let l = c .before .before .before .before .before .before .loop in
     let e = c .before .before .keep-sequences .ensures in
-    mark-in _ _ (e .1 .1 .0 .1) (l .inv .1) (s .pre .1 .1 .1 .2) (s .pre .1 .1 .1 .0) _ (search needs)
+    mark-in _ _ (e .1 .1 .0 .1) (l .inv .2) (s .pre .1 .1 .1 .2) (s .pre .1 .1 .1 .0) _ (omega (arith, l .inv .1, c .before .before .before .before .before .loop-test .taken))
 
 sub-possible : tie.Need-sub-possible Inv-loop μ-loop
 sub-possible c =
-    let s = c .before .before .before .before .before .before .before .before .before .before .before .before .before .before .before .before in
+    let s = c .before .before .before .before .before .before .before .before .before .before .before .before .before .before .before .before .before in
     let l = c .before .before .before .before .before .before .before .loop in
     let k = c .before .before .before .keep-sequences in
     let e = k .ensures in
-    let h = c .before .before .before .before .before .if2 .left in
+    let h = c .before .before .before .before .before .if3 .left in
     let i = c .before .before .before .before .before .before .loop-test .taken in
-    omega (arith, lost-most (s .args .i) (s .args .lengths .now) (s .args .letter .now) (s .args .row .now) (s .args .quorum) (l .out) (l .possible) (l .w) (l .inv .2) (omega (arith, h)) i (k .result .lost) (e .0))
+    omega (arith, lost-most (s .args .i) (s .args .lengths .now) (s .args .letter .now) (s .args .row .now) (s .args .quorum) (l .out) (l .possible) (l .w) (l .inv .3) (omega (arith, h)) (omega (arith, l .inv .1, i)) (k .result .lost) (e .0))
 
 add-w : tie.Need-add-w Inv-loop μ-loop
 add-w c = search needs
@@ -102,44 +119,55 @@ loop-less c = search needs
 
 loop-again : tie.Need-loop-again Inv-loop μ-loop
 loop-again c =
-    let s = c .before .before .before .before .before .before .before .before .before .before .before .before .before .before .before .before in
+    let s = c .before .before .before .before .before .before .before .before .before .before .before .before .before .before .before .before .before in
     let l = c .before .before .before .before .before .before .before .loop in
     let k = c .before .before .before .keep-sequences in
     let e = k .ensures in
-    let h = c .before .before .before .before .before .if2 .left in
+    let h = c .before .before .before .before .before .if3 .left in
     let i = c .before .before .before .before .before .before .loop-test .taken in
-    let long = marks-in _ _ (e .1 .1 .0 .1) (l .inv .1) (s .pre .1 .1 .1 .2) (s .pre .1 .1 .1 .0) in (
+    let long = marks-in _ _ (e .1 .1 .0 .1) (l .inv .2) (s .pre .1 .1 .1 .2) (s .pre .1 .1 .1 .0) in (
       search needs,
-      length-set (k .last .1 .1 .1 .1 .1 .1 .1 .0) (l .w) (k .result .left) ∙ e .1 .1 .0 .1 ∙ l .inv .1,
-      possible-turn (s .args .i) (s .args .lengths .now) (s .args .letter .now) (s .args .row .now) (s .args .quorum) (l .out) (l .possible) (l .w) (l .inv .2) (omega (arith, h)) i (k .result .lost) (e .0) _ (k .result .left) (e .1 .1 .0 .0) long (e .1 .0) (e .1 .1 .1 .0),
+      l .inv .1,
+      length-set (k .last .1 .1 .1 .1 .1 .1 .1 .0) (l .w) (k .result .left) ∙ e .1 .1 .0 .1 ∙ l .inv .2,
+      possible-turn (s .args .i) (s .args .lengths .now) (s .args .letter .now) (s .args .row .now) (s .args .quorum) (l .out) (l .possible) (l .w) (l .inv .3) (omega (arith, h)) (omega (arith, l .inv .1, i)) (k .result .lost) (e .0) _ (k .result .left) (e .1 .1 .0 .0) long (e .1 .0) (e .1 .1 .1 .0),
     )
-
-same-length-3 : tie.Need-same-length-3 Inv-loop μ-loop
-same-length-3 c = search needs
-
-returns-3 : tie.Need-returns-3 Inv-loop μ-loop
-returns-3 c =
-    let s = c .before .before .before .before .before .before .before .before .before .before .before in
-    let l = c .before .before .loop in
-    stopped (s .args .i) (s .args .lengths .now) (s .args .letter .now) (s .args .row .now) (s .args .quorum) (l .out) (l .possible) (l .w) (l .inv .2) (l .inv .0) (c .if3 .taken) (l .inv .1)
-
-count-requires-2 : tie.Need-count-requires-2 Inv-loop μ-loop
-count-requires-2 c κs =
-    let s = c .before .before .before .before .before .before .before .before .before .before .before .before in
-    let l = c .before .before .before .loop in
-    marks-in _ _ refl (l .inv .1) (s .pre .1 .1 .1 .2) (s .pre .1 .1 .1 .0)
 
 same-length-4 : tie.Need-same-length-4 Inv-loop μ-loop
 same-length-4 c = search needs
 
 returns-4 : tie.Need-returns-4 Inv-loop μ-loop
 returns-4 c =
+    let s = c .before .before .before .before .before .before .before .before .before .before .before .before in
+    let l = c .before .before .loop in
+    stopped (s .args .i) (s .args .lengths .now) (s .args .letter .now) (s .args .row .now) (s .args .quorum) (l .out) (l .possible) (l .w) (l .inv .3) (omega (arith, l .inv .0, l .inv .1)) (c .if4 .taken) (l .inv .2)
+
+clear-marks-requires : tie.Need-clear-marks-requires Inv-loop μ-loop
+clear-marks-requires c κs =
     let s = c .before .before .before .before .before .before .before .before .before .before .before .before .before in
-    let l = c .before .before .before .before .loop in
-    let w : l .w ≡ Row-MARKS = omega (arith, l .inv .0, c .before .before .before .loop-test .left) in
-    let q : s .args .quorum ≤ l .possible = omega (arith, c .before .before .if3 .left) in
-    let wide = marks-in _ _ refl (l .inv .1) (s .pre .1 .1 .1 .2) (s .pre .1 .1 .1 .0) in
-    ended (s .args .i) (s .args .lengths .now) (s .args .letter .now) (s .args .row .now) (s .args .quorum) (l .out) (l .possible) (l .w) (l .inv .2) w q (s .pre .0 .0) wide (c .count2 .ensures) (l .inv .1)
+    let l = c .before .before .before .loop in
+    (l .inv .1, marks-in _ _ refl (l .inv .2) (s .pre .1 .1 .1 .2) (s .pre .1 .1 .1 .0))
+
+count-requires-2 : tie.Need-count-requires-2 Inv-loop μ-loop
+count-requires-2 c κs =
+    let s = c .before .before .before .before .before .before .before .before .before .before .before .before .before .before .before .before .before in
+    let l = c .before .before .before .before .before .before .before .loop in
+    let e = c .before .before .before .clear-marks .ensures in
+    (l .inv .1, omega (arith, l .inv .1, marks-in _ _ (e .1 .1) (l .inv .2) (s .pre .1 .1 .1 .2) (s .pre .1 .1 .1 .0)))
+
+same-length-5 : tie.Need-same-length-5 Inv-loop μ-loop
+same-length-5 c = search needs
+
+returns-5 : tie.Need-returns-5 Inv-loop μ-loop
+returns-5 c =
+    let s = c .before .before .before .before .before .before .before .before .before .before .before .before .before .before .before .before .before .before in
+    let l = c .before .before .before .before .before .before .before .before .loop in
+    let m = c .before .before .before .before .before .before .before .before .before .before .marks-of in
+    let e = c .before .before .before .before .clear-marks .ensures in
+    let w : l .w ≡ m .result = omega (arith, l .inv .0, c .before .before .before .before .before .before .before .loop-test .left) in
+    let q : s .args .quorum ≤ l .possible = omega (arith, c .before .before .before .before .before .before .if4 .left) in
+    let wide = marks-in _ _ (e .1 .1) (l .inv .2) (s .pre .1 .1 .1 .2) (s .pre .1 .1 .1 .0) in
+    ended (s .args .i) (s .args .lengths .now) (s .args .letter .now) (s .args .row .now) (s .args .quorum) (l .out) (l .possible) (l .w) (l .inv .3) (s .pre .1 .1 .0) (m .result) (m .ensures .1) (l .inv .1) w q
+    _ (e .0 .0) (e .0 .1) (e .1 .0) (omega (arith, l .inv .1, wide)) (c .count2 .ensures) (e .1 .1 ∙ l .inv .2)
 
 pub keep-all-spec : {M : Type 1} → statement M
 keep-all-spec =
@@ -153,10 +181,14 @@ keep-all-spec =
     keep-short-requires
     same-length
     returns
-    count-requires
-    loop-holds
+    keep-short-requires-2
     same-length-2
     returns-2
+    marks-of-requires
+    count-requires
+    loop-holds
+    same-length-3
+    returns-3
     keep-sequences-requires
     mul-out
     slice-write-out
@@ -164,8 +196,9 @@ keep-all-spec =
     add-w
     loop-less
     loop-again
-    same-length-3
-    returns-3
-    count-requires-2
     same-length-4
-    returns-4)
+    returns-4
+    clear-marks-requires
+    count-requires-2
+    same-length-5
+    returns-5)

@@ -5,11 +5,12 @@ use mathlib.Core.List.{List}
 use mathlib.Core.Path.{_≡_, refl, _∙_}
 use Prim.Native.Nat.{ℕ, _+_, _-_, _*_, _≤_}
 use native.Mathlib.Omega.{arith}
+use lib.Bits.{bitXor}
 use lib.Count.{ones}
 use lib.ListN.{length, length-set, getD}
 use Rattle.rows.specs.Set.{Row-MARKS, marked?, tally, extended-marked?}
 use Rattle.rows.proofs.Marks.{marks-in, mark-in}
-use Rattle.rows.proofs.Possible.{Possible, ones-less, ones-lost, possible-begin, stopped, ended, lost-most, possible-turn}
+use Rattle.rows.proofs.Possible.{Possible, ones-lost, possible-begin, stopped, ended, lost-most, possible-turn}
 use Rattle.rows.proofs.Sets.{first-past}
 use Rattle.rows.proofs.set.keep_short.Statement.{statement}
 use Rattle.rows.proofs.set.keep_short.Tie as tie
@@ -35,13 +36,7 @@ module _ (t : tie.After-shared-slice-known5 Inv-loop μ-loop) where
   abbrev left : ℕ
   left = t .before .before .before .keep-ones .result
 
-  few : ones left ≤ ones (getD row w 0)
-  few =
-      let a = t .before .before .before .before .before .before .before .before .before .before .before .before .before .before .args in
-      let k = t .before .before .before .keep-ones in
-      ones-less (a .i) (a .lengths .now) (a .letter .now) row w left (omega (arith, k .ok)) (t .shared-slice-known5 .given w .fits) (k .ensures .0)
-
-  lost : tally (extended-marked? (t .before .before .before .before .before .before .before .before .before .before .before .before .before .before .args .i) (t .before .before .before .before .before .before .before .before .before .before .before .before .before .before .args .lengths .now) (t .before .before .before .before .before .before .before .before .before .before .before .before .before .before .args .letter .now) row) (w * 64) 64 + (ones (getD row w 0) - ones left) ≤ tally (marked? row) (w * 64) 64
+  lost : tally (extended-marked? (t .before .before .before .before .before .before .before .before .before .before .before .before .before .before .args .i) (t .before .before .before .before .before .before .before .before .before .before .before .before .before .before .args .lengths .now) (t .before .before .before .before .before .before .before .before .before .before .before .before .before .before .args .letter .now) row) (w * 64) 64 + ones (bitXor (getD row w 0) left) ≤ tally (marked? row) (w * 64) 64
   lost =
       let a = t .before .before .before .before .before .before .before .before .before .before .before .before .before .before .args in
       let k = t .before .before .before .keep-ones in
@@ -50,12 +45,12 @@ module _ (t : tie.After-shared-slice-known5 Inv-loop μ-loop) where
 count-requires : tie.Need-count-requires Inv-loop μ-loop
 count-requires c κs =
     let s = c .before .before .before .before .before in
-    omega (arith, s .pre .1 .1 .1 .1 .0, first-past (s .args .lengths .now) (length (s .args .lengths .now)))
+    (omega arith, omega (arith, s .pre .1 .1 .1 .1 .0, first-past (s .args .lengths .now) (length (s .args .lengths .now))))
 
 loop-holds : tie.Need-loop-holds Inv-loop μ-loop
 loop-holds c =
     let s = c .before .before .before .before .before .before in
-    (omega arith, refl, possible-begin (s .args .i) (s .args .lengths .now) (s .args .letter .now) (s .args .row .now) (s .args .quorum) (s .args .out .now) (omega (arith, s .pre .1 .1 .1 .1 .0, first-past (s .args .lengths .now) (length (s .args .lengths .now)))) (c .count .ensures))
+    (omega arith, refl, possible-begin (s .args .i) (s .args .lengths .now) (s .args .letter .now) (s .args .row .now) (s .pre .1 .1 .1 .0) 16 (s .pre .0 .0) (s .args .quorum) (s .args .out .now) (omega arith) (omega (arith, s .pre .1 .1 .1 .1 .0, first-past (s .args .lengths .now) (length (s .args .lengths .now)))) (c .count .ensures))
 
 same-length : tie.Need-same-length Inv-loop μ-loop
 same-length c = search needs
@@ -91,10 +86,7 @@ shared-slice-read-able c =
     mark-in _ _ refl refl refl (s .pre .1 .1 .1 .1 .0) _ (search needs)
 
 sub-able : tie.Need-sub-able Inv-loop μ-loop
-sub-able c = few c
-
-sub-able-2 : tie.Need-sub-able-2 Inv-loop μ-loop
-sub-able-2 c =
+sub-able c =
     let s = c .before .before .before .before .before .before .before .before .before .before .before .before .before .before in
     let l = c .before .before .before .before .before .before .before .loop in
     let h = c .before .before .before .before .before .if1 .left in
@@ -134,7 +126,7 @@ count-requires-2 : tie.Need-count-requires-2 Inv-loop μ-loop
 count-requires-2 c κs =
     let s = c .before .before .before .before .before .before .before .before .before .before in
     let l = c .before .before .before .loop in
-    marks-in _ _ refl (l .inv .1) (s .pre .1 .1 .1 .1 .2) (s .pre .1 .1 .1 .1 .0)
+    (omega arith, marks-in _ _ refl (l .inv .1) (s .pre .1 .1 .1 .1 .2) (s .pre .1 .1 .1 .1 .0))
 
 same-length-3 : tie.Need-same-length-3 Inv-loop μ-loop
 same-length-3 c = search needs
@@ -146,7 +138,7 @@ returns-3 c =
     let w : l .w ≡ Row-MARKS = omega (arith, l .inv .0, c .before .before .before .loop-test .left) in
     let q : s .args .quorum ≤ l .able = omega (arith, c .before .before .if2 .left) in
     let wide = marks-in _ _ refl (l .inv .1) (s .pre .1 .1 .1 .1 .2) (s .pre .1 .1 .1 .1 .0) in
-    ended (s .args .i) (s .args .lengths .now) (s .args .letter .now) (s .args .row .now) (s .args .quorum) (l .out) (l .able) (l .w) (l .inv .2) w q (s .pre .0 .0) wide (c .count2 .ensures) (l .inv .1)
+    ended (s .args .i) (s .args .lengths .now) (s .args .letter .now) (s .args .row .now) (s .args .quorum) (l .out) (l .able) (l .w) (l .inv .2) (s .pre .1 .1 .1 .0) 16 (s .pre .0 .0) (omega arith) w q (l .out) (λ _ _. refl) (λ _ h g. absurd (omega (arith, h, g))) refl wide (c .count2 .ensures) (l .inv .1)
 
 pub keep-short-spec : {M : Type 1} → statement M
 keep-short-spec =
@@ -164,7 +156,6 @@ keep-short-spec =
     mul-able
     shared-slice-read-able
     sub-able
-    sub-able-2
     add-w
     loop-less
     loop-again

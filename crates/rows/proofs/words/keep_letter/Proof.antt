@@ -1,6 +1,7 @@
--- The loop makes all words but the last, past which there is none to shift bits in from. A row of no words has none to keep.
+-- Where nothing is shifted the loop makes all words; else all but the last, past which there is none to shift bits in from. A row of no words
+-- has none to keep.
 use borrow.Author.Needs.{needs}
-use Rattle.rows.proofs.Turns.{kept-whole, kept-empty}
+use Rattle.rows.proofs.Turns.{kept-whole, kept-plain, kept-empty}
 use Rattle.rows.proofs.words.keep_letter.Statement.{statement}
 use Rattle.rows.proofs.words.keep_letter.Tie as tie
 
@@ -9,6 +10,24 @@ returns c =
     let ls = c .before .before .shared-slice-known2 in
     let ws = c .before .before .before .shared-slice-known in
     kept-empty _ _ _ (search needs) (search needs) (λ q. ls .given q .fits) (λ q. ws .given q .fits) _ (search needs) (search needs)
+
+keep-plain-requires : tie.Need-keep-plain-requires
+keep-plain-requires c κs = search needs
+
+marked-requires : tie.Need-marked-requires
+marked-requires c κs = search needs
+
+same-length : tie.Need-same-length
+same-length c = search needs
+
+returns-2 : tie.Need-returns-2
+returns-2 c =
+    let k = c .before .before .before .keep-plain in
+    let ls = c .before .before .before .before .before .before .before .before .shared-slice-known2 in
+    let ws = c .before .before .before .before .before .before .before .before .before .shared-slice-known in
+    let a = c .before .before .before .before .before .before .before .before .before .before .args in
+    kept-plain _ _ _ (search needs) (search needs) (λ q. ls .given q .fits) (λ q. ws .given q .fits)
+    (a .out .now) (search needs) _ (k .result) (c .before .before .before .before .before .if2 .taken) (search needs) (k .ensures .0) (k .ensures .1) (c .marked .ensures)
 
 sub-last : tie.Need-sub-last
 sub-last c = search needs
@@ -37,26 +56,30 @@ mul-out c = search needs
 slice-write-out : tie.Need-slice-write-out
 slice-write-out c = search needs
 
-marked-requires : tie.Need-marked-requires
-marked-requires c κs = search needs
+marked-requires-2 : tie.Need-marked-requires-2
+marked-requires-2 c κs = search needs
 
-same-length : tie.Need-same-length
-same-length c = search needs
+same-length-2 : tie.Need-same-length-2
+same-length-2 c = search needs
 
-returns-2 : tie.Need-returns-2
-returns-2 c =
+returns-3 : tie.Need-returns-3
+returns-3 c =
     let k = c .before .before .before .before .before .before .keep-words in
-    let ls = c .before .before .before .before .before .before .before .before .before .before .shared-slice-known2 in
-    let ws = c .before .before .before .before .before .before .before .before .before .before .before .shared-slice-known in
-    let a = c .before .before .before .before .before .before .before .before .before .before .before .before .args in
+    let ls = c .before .before .before .before .before .before .before .before .before .before .before .shared-slice-known2 in
+    let ws = c .before .before .before .before .before .before .before .before .before .before .before .before .shared-slice-known in
+    let a = c .before .before .before .before .before .before .before .before .before .before .before .before .before .args in
     kept-whole _ _ _ (search needs) (search needs) (λ q. ls .given q .fits) (λ q. ws .given q .fits)
-    (a .out .now) (search needs) _ (k .result) (search needs) (k .ensures .0) (k .ensures .1) (c .before .down .ensures) (c .marked .ensures)
+    (a .out .now) (search needs) _ (k .result) (search needs) (k .ensures .0) (k .ensures .1) (c .before .down .ensures) (c .marked2 .ensures)
 
 pub keep-letter-spec : {M : Type 1} → statement M
 keep-letter-spec =
     tie.close
     (tie.spec
     returns
+    keep-plain-requires
+    marked-requires
+    same-length
+    returns-2
     sub-last
     keep-words-requires
     mul-v
@@ -66,6 +89,6 @@ keep-letter-spec =
     down-requires
     mul-out
     slice-write-out
-    marked-requires
-    same-length
-    returns-2)
+    marked-requires-2
+    same-length-2
+    returns-3)

@@ -3,7 +3,7 @@ use borrow.Author.Needs.{needs}
 use mathlib.Core.Bool.{not}
 use mathlib.Core.List.{map}
 use mathlib.Core.Path.{_≡_, refl}
-use Prim.Native.Nat.{_-_, _≤_, _<_}
+use Prim.Native.Nat.{_-_, _≤_}
 use lib.Dec.{eqb}
 use lib.ListN.{length}
 use Rattle.rules.specs.Lists.{over, run}
@@ -17,7 +17,7 @@ use Rattle.rows.proofs.words.keep_plain.Tie as tie
 
 abbrev Inv-loop : tie.InvT-loop
 Inv-loop row letters n out₀ all₀ q₀ out all q =
-    (q ≤ n) × (length out ≡ length out₀) × (length out₀ ≡ length row) × (length letters ≡ length row) × (n < length row)
+    (q ≤ n) × (length out ≡ length out₀) × (length out₀ ≡ length row) × (length letters ≡ length row) × (n ≤ length row)
     × (eqb all 0 ≡ not (left? (map (extended-word 0 letters row) (run 0 q))))
     × (out ≡ over (extended-word 0 letters row) q out₀)
 
