@@ -7,13 +7,13 @@ use Prim.Native.Nat.{ℕ, zero, suc, _+_, _-_, _*_, _≤_, _<_}
 use native.Mathlib.Decide.{decLt}
 use native.Mathlib.Omega.{arith}
 use lib.ListN.{length, take, drop, getD}
-use lib.Seq.{drop-drop}
 use borrow.Rule.Slice.PartMut.{midOf, putMid, mid-len, drop-put}
 use Rattle.rules.specs.Lists.{sum}
 use Rattle.rows.specs.Bits.{held}
 use Rattle.rows.specs.Flags.{added, masked}
 use Rattle.rows.specs.Set.{Row-MARKS, words-of, first-word, between, marked?, Bounded}
 use Rattle.matching.specs.Weights.{counts-at, kept-counts, begun, begun-counts}
+use Rattle.rows.proofs.Rewritten.{drop-more}
 use Rattle.rows.proofs.Sets.{first-next, between-kept, bits-are-at, part-written}
 
 not-both : (b : Bool) {A : Type 0} → b ≡ false → b ≡ true → A
@@ -97,10 +97,7 @@ led-at first d n ns row x k = added d (d + n - 1) (begun-counts first ns row x k
 -- WHAT A TURN LEAVES
 between-later : (e b f : ℕ) (x y : List ℕ) → e ≤ b → drop e y ≡ drop e x → between b f y ≡ between b f x
 unfolding between
-between-later e b f x y h q = ap (take (f - b)) (sym (from y) ∙ ap (drop (b - e)) q ∙ from x)
-  where
-    from : (l : List ℕ) → drop (b - e) (drop e l) ≡ drop b l
-    from l = let z : e + (b - e) ≡ b = omega arith in drop-drop (b - e) e l ∙ ap (λ (n : ℕ). drop n l) z
+between-later e b f x y h q = ap (take (f - b)) (drop-more e b x y h q)
 
 -- the sequences from a up to k written as far as they are on, and all others as they were
 pub record Led (on : ℕ → Bool) (g : ℕ → List ℕ) (ns opened : List ℕ) (a k : ℕ) (x y : List ℕ) : Type 0 where

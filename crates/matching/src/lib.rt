@@ -30,9 +30,9 @@ pub const DIGITS: usize = Letter::DIGITS as usize;
 pub const MIXED_ROWS: usize = DIGITS * WORDS;
 
 // A letter's row is kept shifted for each of the first places of a component: a candidate that ends there costs one AND for each word.
-// For a later place it is shifted as it is used, which costs as much again. They are kept for as many places as the table that is lent
-// has room for, at least one: in a leg of an exact search for the first four, as more of them would not fit the stack that a call may
-// use, and of a mixed one, which has four times as many letters, for the first.
+// For a later place it is shifted as it is used, which costs about as much again. They are kept for as many places as the table that is
+// lent has room for, at least one: in a leg of an exact search for the first four, as more of them would not fit the stack that a call
+// may use, and of a mixed one, whose digits take up a row each of the same sixteen, for the first.
 pub const SHIFTS: usize = 4;
 
 pub const STANDING: usize = SHIFTS * ROWS;

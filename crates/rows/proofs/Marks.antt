@@ -12,14 +12,10 @@ use lib.Seq.{getD-take, length-take-le, drop-set-lt, getD-set-same, getD-set-oth
 use Rattle.rules.specs.Lists.{sum}
 use Rattle.rows.specs.Bits.{held}
 use Rattle.rows.specs.Set.{Row-MARKS, words-of, first-word, between, bits-at, marked?, Filled, Marked}
-use Rattle.rows.proofs.Bits.{held-at, getD-held}
+use Rattle.rows.proofs.Bits.{held-at, word-bit}
 use Rattle.rows.proofs.Digits.{digit}
 use Rattle.rows.proofs.Held.{held-step, held-end}
 use Rattle.rows.proofs.Sets.{first-past, first-most, between-kept}
-
--- a bit of a word by itself
-pub own-bit : (v b : ℕ) → b < 64 → getD (held (v ∷ [])) b 0 ≡ digit v b
-own-bit v b s = let z : b ≡ 0 * 64 + b = omega arith in ap (λ (p : ℕ). getD (held (v ∷ [])) p 0) z ∙ getD-held (v ∷ []) 0 b s
 
 -- a word before those that may differ
 pub same-word : (n : ℕ) (x y : List ℕ) → take n y ≡ take n x → (q : ℕ) → q < n → getD y q 0 ≡ getD x q 0
@@ -56,7 +52,7 @@ module _ (ns x y : List ℕ) (w v : ℕ) (s : w < Row-MARKS) (stays : take (firs
             | no m ↦ (let z : k / 64 ≡ w = omega arith in
                 let k' : w * 64 + k % 64 ≡ k = omega arith in
                 let o : getD (set y w v) (k / 64) 0 ≡ v = ap (λ (q : ℕ). getD (set y w v) q 0) z ∙ getD-set-same y w v 0 (omega arith) in
-                ap (λ (d : ℕ). eqb d 1) (ap (λ (q : ℕ). digit q (k % 64)) o ∙ sym (own-bit v (k % 64) (omega arith))) ∙ here (k % 64) (omega arith) ∙ ap h k')
+                ap (λ (d : ℕ). eqb d 1) (ap (λ (q : ℕ). digit q (k % 64)) o ∙ sym (word-bit v (k % 64) (omega arith))) ∙ here (k % 64) (omega arith) ∙ ap h k')
           ];
     }
 

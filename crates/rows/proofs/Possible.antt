@@ -14,9 +14,9 @@ use Rattle.rules.specs.Lists.{if, sum}
 use Rattle.rows.specs.Bits.{held}
 use Rattle.rows.specs.Flags.{bit}
 use Rattle.rows.specs.Set.{Row-MARKS, words-of, first-word, between, bits-at, marked?, tally, extended-at, extended-marked?, Filled, Marked, Bounded}
-use Rattle.rows.proofs.Bits.{held-at, digit-none}
+use Rattle.rows.proofs.Bits.{held-at, word-bit, digit-none}
 use Rattle.rows.proofs.Digits.{digit, digit-xor}
-use Rattle.rows.proofs.Marks.{own-bit, filled-word, marked-word, marked-none, marked-end}
+use Rattle.rows.proofs.Marks.{filled-word, marked-word, marked-none, marked-end}
 use Rattle.rows.proofs.Rewritten.{drop-more}
 use Rattle.rows.proofs.Sets.{first-past, filled-none, filled-end}
 use Rattle.rows.proofs.Tally.{tally-zero, tally-append, tally-less, tally-same, tally-end, tally-split, word-tally, marks-tally}
@@ -76,7 +76,7 @@ module _ (i : ℕ) (ns ls ws : List ℕ) where
         word-tally gone 64 (w * 64) (bitXor (getD ws w 0) left) (xor-lt 64 (getD ws w 0) left f s) (λ b l.
         ap (λ (d : ℕ). eqb d 1) (digit-xor (getD ws w 0) left b)
         ∙ lost-digit (digit (getD ws w 0) b) (digit left b) (small (getD ws w 0) b) (small left b) (marked? ws (w * 64 + b)) (extended-marked? i ns ls ws (w * 64 + b))
-        (sym (mark-digit ws w f b l)) (ap (λ (d : ℕ). eqb d 1) (sym (own-bit left b l)) ∙ lefts b l) (mark-none i ns ls ws (w * 64 + b)))
+        (sym (mark-digit ws w f b l)) (ap (λ (d : ℕ). eqb d 1) (sym (word-bit left b l)) ∙ lefts b l) (mark-none i ns ls ws (w * 64 + b)))
 
     pub ones-lost : tally (extended-marked? i ns ls ws) (w * 64) 64 + ones (bitXor (getD ws w 0) left) ≤ tally (marked? ws) (w * 64) 64
     unfolding gone

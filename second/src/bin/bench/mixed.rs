@@ -126,7 +126,7 @@ fn measured(name: &str, exact: &Search, allowance: u16, budget: u64) -> f64 {
 }
 
 /// A table of such rows, and which of them are above the target.
-fn table(searches: Vec<(String, Search)>, budget: u64) {
+fn table(searches: Vec<(String, Search)>, allowances: &[u16], budget: u64) {
     title(&[
         "search",
         "allowance",
@@ -140,7 +140,7 @@ fn table(searches: Vec<(String, Search)>, budget: u64) {
     ]);
     let mut above = Vec::new();
     for (name, exact) in searches {
-        for allowance in [1, 2] {
+        for &allowance in allowances {
             if measured(&name, &exact, allowance, budget) > TARGET {
                 above.push(format!("{name}, allowance {allowance}"));
             }
@@ -153,10 +153,14 @@ fn table(searches: Vec<(String, Search)>, budget: u64) {
     println!("\nabove {TARGET}: {above}\n");
 }
 
-/// Both tables.
+/// All tables. With an allowance of 0 a mixed search has the very candidates and
+/// rows of the exact one.
 pub fn beside_exact() {
-    println!("A candidate of a mixed search beside one of an exact search that lists nothing\n");
-    table(walks(), MANY_STEPS);
+    println!("A candidate of a mixed search beside the same one of an exact search\n");
+    let both = walks().into_iter().chain(searches()).collect();
+    table(both, &[0], STEPS);
+    println!("The same with mixed letters allowed, in searches that list nothing\n");
+    table(walks(), &[1, 2], MANY_STEPS);
     println!("The same over random letters, the first {STEPS} steps of each search\n");
-    table(searches(), STEPS);
+    table(searches(), &[1, 2], STEPS);
 }

@@ -63,9 +63,10 @@ impl Row {
         })
     }
 
-    /// How many sequences have a mark.
-    fn count(&self) -> u32 {
-        self.marks.iter().map(|marks| marks.count_ones()).sum()
+    /// How many of so many sequences have a mark.
+    fn count(&self, sequences: usize) -> u32 {
+        let marks = &self.marks[..sequences.div_ceil(64)];
+        marks.iter().map(|marks| marks.count_ones()).sum()
     }
 
     /// One letter more, the `i`-th of its component: those bits of a row at
@@ -80,7 +81,7 @@ impl Row {
         spans: &[Span],
         quorum: u32,
     ) -> u32 {
-        let mut possible = from.count();
+        let mut possible = from.count(spans.len());
         let n = self.words.len();
         let (row, letter, out) = (&from.words[..n], &letter[..n], &mut self.words[..n]);
         let marks = from.marks.iter().zip(&mut self.marks);
@@ -111,8 +112,8 @@ impl Row {
     /// The same where every sequence has one word. The quorum is looked at for
     /// each word of marks.
     pub fn keep_short(&mut self, from: &Row, letter: &[u64], i: usize, quorum: u32) -> u32 {
-        let mut possible = from.count();
         let n = self.words.len();
+        let mut possible = from.count(n);
         let (row, letter, out) = (&from.words[..n], &letter[..n], &mut self.words[..n]);
         let marks = from.marks.iter().zip(&mut self.marks);
         let rows = row
@@ -131,7 +132,7 @@ impl Row {
                 found |= u64::from(out[bit] != 0) << bit;
             }
             *left = found;
-            possible -= all.count_ones() - found.count_ones();
+            possible -= (all ^ found).count_ones();
         }
         possible
     }
@@ -139,6 +140,14 @@ impl Row {
 
 /// One letter more in a sequence of several words, and all of them joined.
 fn keep(row: &[u64], letter: &[u64], i: usize, out: &mut [u64]) -> u64 {
+    if i == 0 {
+        let mut all = 0;
+        for ((row, letter), out) in row.iter().zip(letter).zip(out) {
+            *out = row & letter;
+            all |= *out;
+        }
+        return all;
+    }
     let (Some((last, row)), Some((end, _))) = (row.split_last(), letter.split_last()) else {
         return 0;
     };
@@ -148,16 +157,9 @@ fn keep(row: &[u64], letter: &[u64], i: usize, out: &mut [u64]) -> u64 {
     *to = last & end >> i;
     let mut all = *to;
     let rows = row.iter().zip(letter.iter().zip(&letter[1..])).zip(out);
-    if i == 0 {
-        for ((row, (letter, _)), out) in rows {
-            *out = row & letter;
-            all |= *out;
-        }
-    } else {
-        for ((row, (low, high)), out) in rows {
-            *out = row & (low >> i | high << (64 - i));
-            all |= *out;
-        }
+    for ((row, (low, high)), out) in rows {
+        *out = row & (low >> i | high << (64 - i));
+        all |= *out;
     }
     all
 }
