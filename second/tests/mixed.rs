@@ -130,7 +130,7 @@ fn which_letter_comes_next() {
         let (answer, _) = leg_of(&lent, &search, 1, 5);
         assert_eq!(answer.steps, 1, "{letters}");
         let place = answer.search.place;
-        mixed_letters_of(place.letters.into(), place.number)
+        letters_in(Profile::Mixed, place.letters.into(), place.number)
     };
     for (letters, expected) in [
         ("A", "C"),

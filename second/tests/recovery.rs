@@ -2,6 +2,7 @@
 
 mod common;
 
+use common::naive::naive_occurrences;
 use common::*;
 use second::{recover, Recovered};
 

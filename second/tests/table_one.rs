@@ -2,6 +2,7 @@
 
 mod common;
 
+use common::naive::{naive_occurrences, naive_supports};
 use common::*;
 use second::{printout, recover, support, weighted_support, Recovered};
 

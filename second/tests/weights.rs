@@ -4,6 +4,7 @@
 
 mod common;
 
+use common::naive::{naive_occurrences, naive_supports};
 use common::*;
 use second::{recover, Recovered, Template};
 

@@ -1,7 +1,9 @@
-//! What the tests share: the set E, small builders, a generator, and an even
-//! plainer enumeration that works on letters and tries every tuple.
+//! What the tests share: the set E, small builders and a generator.
 
 #![allow(dead_code)]
+
+pub mod faults;
+pub mod naive;
 
 use second::{begin, leg, Answer, Component, Leg, Place, Profile, Refusal, Search, Template};
 
@@ -86,37 +88,50 @@ pub fn place(letters: u8, number: u64) -> Place {
     Place { letters, number }
 }
 
-/// The number that the paper gives to these letters.
+/// The letters of a profile's motifs, in the paper's and the request's order.
+pub fn alphabet(profile: Profile) -> &'static str {
+    match profile {
+        Profile::Exact => "ACGT",
+        Profile::Mixed => "ACGTRYKMSWBDHV",
+    }
+}
+
+/// "Its number reads them as base-4 digits"; "numbers are base 16 by place in
+/// that order".
+fn base(profile: Profile) -> u64 {
+    match profile {
+        Profile::Exact => 4,
+        Profile::Mixed => 16,
+    }
+}
+
+/// The number that a profile gives to these letters.
+pub fn number_in(profile: Profile, letters: &str) -> u64 {
+    letters.chars().fold(0, |number, letter| {
+        let digit = alphabet(profile).find(letter).expect("a letter");
+        number * base(profile) + digit as u64
+    })
+}
+
+/// The letters of a profile's number.
+pub fn letters_in(profile: Profile, letters: usize, number: u64) -> String {
+    let digit = |power: u32| number / base(profile).pow(power) % base(profile);
+    (0..letters as u32)
+        .rev()
+        .map(|power| alphabet(profile).as_bytes()[digit(power) as usize] as char)
+        .collect()
+}
+
 pub fn number(letters: &str) -> u64 {
-    letters.chars().fold(0, |number, letter| {
-        number * 4 + "ACGT".find(letter).expect("a letter") as u64
-    })
+    number_in(Profile::Exact, letters)
 }
 
-/// The letters of a number.
 pub fn letters_of(letters: usize, number: u64) -> String {
-    (0..letters)
-        .rev()
-        .map(|power| b"ACGT"[(number >> (2 * power)) as usize % 4] as char)
-        .collect()
+    letters_in(Profile::Exact, letters, number)
 }
 
-/// The letters of a mixed motif, in the request's order.
-pub const MIXED: &str = "ACGTRYKMSWBDHV";
-
-/// "Numbers are base 16 by place in that order."
 pub fn mixed_number(letters: &str) -> u64 {
-    letters.chars().fold(0, |number, letter| {
-        number * 16 + MIXED.find(letter).expect("a letter") as u64
-    })
-}
-
-/// The mixed letters of a number.
-pub fn mixed_letters_of(letters: usize, number: u64) -> String {
-    (0..letters)
-        .rev()
-        .map(|power| MIXED.as_bytes()[(number >> (4 * power)) as usize % 16] as char)
-        .collect()
+    number_in(Profile::Mixed, letters)
 }
 
 /// One row of a list: motif number, support, weighted support.
@@ -169,102 +184,6 @@ pub fn restore_of(lent: &Lent, bytes: &[u8]) -> Result<Search, Refusal> {
 
 pub fn refusal(number: u8, place: u64) -> Refusal {
     Refusal { number, place }
-}
-
-/// Whether a sequence's letter is one that a motif's letter stands for.
-fn fits((there, letter): (char, char)) -> bool {
-    let bases = match letter {
-        'R' => "AG",
-        'Y' => "CT",
-        'K' => "GT",
-        'M' => "AC",
-        'S' => "CG",
-        'W' => "AT",
-        'B' => "CGT",
-        'D' => "AGT",
-        'H' => "ACT",
-        'V' => "ACG",
-        single => return there == single,
-    };
-    bases.contains(there)
-}
-
-/// All occurrences of a prefix, by trying every tuple of positions in every
-/// sequence, in the paper's order.
-pub fn naive_occurrences(lent: &Lent, template: &Template, prefix: &str) -> Vec<Vec<u32>> {
-    let mut parts: Vec<(&str, i64, i64)> = Vec::new();
-    let mut left = prefix;
-    for component in &template.components {
-        if left.is_empty() {
-            break;
-        }
-        let (part, later) = left.split_at(left.len().min(component.length as usize));
-        parts.push((part, i64::from(component.low), i64::from(component.high)));
-        left = later;
-    }
-    let mut rows = Vec::new();
-    for (index, sequence) in lent.sequences().iter().enumerate() {
-        let positions = sequence.len();
-        let tuples = positions.pow(parts.len() as u32);
-        for tuple in 0..tuples {
-            let mut starts = Vec::new();
-            let mut left = tuple;
-            for _ in &parts {
-                starts.insert(0, left % positions + 1);
-                left /= positions;
-            }
-            let stand = parts.iter().zip(&starts).all(|((part, _, _), start)| {
-                let there = sequence.get(start - 1..start - 1 + part.len());
-                there.is_some_and(|there| there.chars().zip(part.chars()).all(fits))
-            });
-            let gaps = (1..parts.len()).all(|next| {
-                let gap =
-                    starts[next] as i64 - starts[next - 1] as i64 - parts[next - 1].0.len() as i64;
-                parts[next].1 <= gap && gap <= parts[next].2
-            });
-            if stand && gaps {
-                let mut row = vec![index as u32 + 1];
-                row.extend(starts.iter().map(|start| *start as u32));
-                rows.push(row);
-            }
-        }
-    }
-    rows
-}
-
-/// Support and weighted support of a prefix from all its occurrences: their
-/// sequences, and their own number.
-pub fn naive_supports(occurrences: &[Vec<u32>]) -> (u32, u64) {
-    let mut sequences: Vec<u32> = occurrences.iter().map(|row| row[0]).collect();
-    sequences.dedup();
-    (sequences.len() as u32, occurrences.len() as u64)
-}
-
-/// The whole search by trying every prefix of every length: 4 times the
-/// number of frequent prefixes of 0 to K - 1 letters, and the frequent motifs.
-pub fn naive_whole(lent: &Lent, template: &Template, quorum: u64) -> (u64, Vec<Row>) {
-    let k: usize = template
-        .components
-        .iter()
-        .map(|component| component.length as usize)
-        .sum();
-    let mut frequent_prefixes = 1;
-    let mut rows = Vec::new();
-    for letters in 1..=k {
-        for number in 0..1u64 << (2 * letters) {
-            let found = naive_occurrences(lent, template, &letters_of(letters, number));
-            let (support, weight) = naive_supports(&found);
-            if u64::from(support) < quorum {
-                continue;
-            }
-            if letters < k {
-                frequent_prefixes += 1;
-            } else {
-                rows.push((number, support, weight));
-            }
-        }
-    }
-    (4 * frequent_prefixes, rows)
 }
 
 /// A small xorshift generator.
