@@ -1,43 +1,17 @@
-//! Which record of a save is bad, and how: refusals 11 and 21 to 23, and what
-//! else the bytes of a save can tell.
+//! Which record of a save is bad, and how, in both profiles: what every change
+//! of a byte tells, and what of several changes comes first.
 
 mod common;
 
-use common::*;
+use common::saves::{changed, saved};
+use second::Profile;
 use std::ops::RangeInclusive;
-
-/// The save of E after 4 steps, which p9 gives.
-fn saved() -> Vec<u8> {
-    let lent = e();
-    let search = lent.begin(&e_template(), 2).unwrap();
-    let bytes = save_of(&lent, &leg_of(&lent, &search, 4, 5).0.search);
-    let size = [1, 4, 2, 0, 3, 0, 2, 0, 12, 0, 0, 0, 0, 0, 0, 0];
-    let first = [2, 1, 1, 0, 0, 0, 0, 0, 0, 0, 0, 0, 0, 0, 0, 0];
-    let second = [2, 2, 1, 0, 0, 0, 1, 0, 0, 0, 0, 0, 0, 0, 0, 0];
-    let place = [3, 2, 0, 0, 0, 0, 0, 0, 3, 0, 0, 0, 0, 0, 0, 0];
-    assert_eq!(bytes, [size, first, second, place].concat());
-    bytes
-}
-
-/// What a restore of bytes over E tells.
-fn told(bytes: &[u8]) -> Option<(u8, u64)> {
-    let refused = restore_of(&e(), bytes).err()?;
-    Some((refused.number, refused.place))
-}
-
-/// What a restore of that save tells with these bytes changed.
-fn changed(changes: &[(usize, u8)]) -> Option<(u8, u64)> {
-    let mut bytes = saved();
-    for (at, value) in changes {
-        assert_ne!(bytes[*at], *value, "byte {at} stays as it is");
-        bytes[*at] = *value;
-    }
-    told(&bytes)
-}
 
 /// Bytes of which every other value tells the same: the number, the record or
 /// another place.
-const SAME: [(RangeInclusive<usize>, u8, u64); 21] = [
+type Same = (RangeInclusive<usize>, u8, u64);
+
+const IN_BOTH: [Same; 19] = [
     (0..=0, 11, 0),
     (1..=1, 10, 0),
     (3..=3, 9, 0),
@@ -47,12 +21,10 @@ const SAME: [(RangeInclusive<usize>, u8, u64); 21] = [
     (13..=15, 21, 0),
     (16..=17, 11, 1),
     (18..=18, 22, 0),
-    (19..=19, 21, 1),
     (20..=23, 8, 1),
     (24..=31, 21, 1),
     (32..=33, 11, 2),
     (34..=34, 22, 0),
-    (35..=35, 21, 2),
     (37..=37, 8, 2),
     (39..=39, 8, 2),
     (40..=47, 21, 2),
@@ -61,56 +33,82 @@ const SAME: [(RangeInclusive<usize>, u8, u64); 21] = [
     (57..=63, 23, 3),
 ];
 
-#[test]
-fn every_change_of_a_byte() {
-    let right = saved();
-    let mut judged = vec![2, 12, 36, 38, 49, 56];
-    for (bytes, number, place) in SAME {
-        judged.extend(bytes.clone());
-        for at in bytes {
-            for value in (0..=255).filter(|value| *value != right[at]) {
-                let expected = Some((number, place));
-                assert_eq!(changed(&[(at, value)]), expected, "{value} in byte {at}");
-            }
-        }
-    }
-    judged.sort();
-    assert_eq!(judged, (0..64).collect::<Vec<_>>(), "each byte once");
+const EXACT: [Same; 2] = [(19..=19, 21, 1), (35..=35, 21, 2)];
 
-    for value in 0..=255 {
-        let expected = |at: usize| match (at, value) {
-            // The quorum is 1 to 3.
-            (2, 0 | 4..) => Some((9, 0)),
-            // 1 makes it a save of the mixed profile, in which AT has the same
-            // number.
-            (12, 2..) => Some((21, 0)),
-            // l is at most u, which is 1; u may be anything up to 255.
-            (36, 2..) => Some((8, 2)),
-            // T is a candidate too. No other place with number 3 keeps its
-            // rule.
-            (49, 0 | 3..) => Some((23, 3)),
-            // A number of two letters is below 16. Every letter is frequent
-            // at quorum 2, so that each such number is a candidate.
-            (56, 16..) => Some((23, 3)),
-            _ => None,
-        };
-        for at in [2, 12, 36, 38, 49, 56] {
-            if value != right[at] {
-                assert_eq!(
-                    changed(&[(at, value)]),
-                    expected(at),
-                    "{value} in byte {at}"
-                );
-            }
-        }
+/// M alone is over the first component's allowance.
+const MIXED: [Same; 1] = [(49..=49, 23, 3)];
+
+/// The bytes of which the values differ, in either profile.
+const OTHERS: [&[usize]; 2] = [&[2, 12, 36, 38, 49, 56], &[2, 12, 19, 35, 36, 38, 56]];
+
+/// What one of those tells.
+fn expected(profile: Profile, at: usize, value: u8) -> Option<(u8, u64)> {
+    use Profile::{Exact, Mixed};
+    match (profile, at, value) {
+        // The quorum is 1 to 3.
+        (_, 2, 0 | 4..) => Some((9, 0)),
+        // 1 makes the exact save one of the mixed profile, in which AT has the
+        // same number. In the exact profile the mixed one's second component
+        // has a byte 3 that has to be 0.
+        (_, 12, 2..) => Some((21, 0)),
+        (Mixed, 12, 0) => Some((21, 2)),
+        // An allowance is at most the length, which is 1. Without one AM is
+        // over it.
+        (Mixed, 19 | 35, 2..) => Some((24, 0)),
+        (Mixed, 35, 0) => Some((23, 3)),
+        // l is at most u, which is 1; u may be anything up to 255.
+        (_, 36, 2..) => Some((8, 2)),
+        // T is a candidate too. No other place with number 3 keeps its rule.
+        (Exact, 49, 0 | 3..) => Some((23, 3)),
+        // A number of two letters is below 16. Every letter is frequent at
+        // quorum 2, so that each such number is a candidate.
+        (Exact, 56, 16..) => Some((23, 3)),
+        // Digits of 14 and 15 are no letters, and the first letter is single.
+        (Mixed, 56, 0x40..) => Some((23, 3)),
+        (Mixed, 56, _) if value % 16 > 13 => Some((23, 3)),
+        // At quorum 3, C and G are not frequent.
+        (Mixed, 56, 0x10..=0x2F) => Some((13, 0)),
+        _ => None,
     }
 }
 
 #[test]
+fn every_change_of_a_byte() {
+    for (profile, own, others) in [
+        (Profile::Exact, &EXACT[..], OTHERS[0]),
+        (Profile::Mixed, &MIXED[..], OTHERS[1]),
+    ] {
+        let right = saved(profile);
+        let mut judged = others.to_vec();
+        let each = |at: usize, expected: &dyn Fn(u8) -> Option<(u8, u64)>| {
+            for value in (0..=255).filter(|value| *value != right[at]) {
+                let told = changed(profile, &[(at, value)]);
+                assert_eq!(told, expected(value), "{profile:?}, {value} in byte {at}");
+            }
+        };
+        for (bytes, number, place) in IN_BOTH.iter().chain(own) {
+            judged.extend(bytes.clone());
+            for at in bytes.clone() {
+                each(at, &|_| Some((*number, *place)));
+            }
+        }
+        for at in others {
+            each(*at, &|value| expected(profile, *at, value));
+        }
+        judged.sort();
+        assert_eq!(judged, (0..64).collect::<Vec<_>>(), "each byte once");
+    }
+}
+
+/// Several changes of a save, and the number and the record that are told; 0 is
+/// none.
+type Several = (&'static [(usize, u8)], u8, u64);
+
+#[test]
 fn the_number_comes_first_and_then_the_record() {
-    for (changes, number, record) in [
+    let exact: &[Several] = &[
         // 11 of the last record before 21 of the first, and 22 and 23.
-        (&[(48, 4), (12, 2), (6, 1), (63, 1)][..], 11, 3),
+        (&[(48, 4), (12, 2), (6, 1), (63, 1)], 11, 3),
         (&[(48, 2), (19, 1)], 11, 3),
         (&[(33, 9), (15, 1)], 11, 2),
         // 21 of the last record before 22, which tells the first.
@@ -141,108 +139,42 @@ fn the_number_comes_first_and_then_the_record() {
         (&[(32, 1), (40, 1)], 11, 2),
         (&[(13, 1), (6, 1)], 21, 0),
         (&[(49, 3), (51, 1)], 21, 3),
-    ] {
-        assert_eq!(changed(changes), Some((number, record)), "{changes:?}");
-    }
-    // Two changes of the lengths that leave their sum as it is.
-    assert_eq!(changed(&[(18, 2), (34, 0)]), Some((6, 2)));
-}
-
-#[test]
-fn records_that_change_places() {
-    let right = saved();
-    let parts: Vec<&[u8]> = right.chunks(16).collect();
-    let [size, first, second, place] = parts[..] else {
-        panic!("four records")
-    };
-    assert_eq!(told(&[size, second, first, place].concat()), Some((11, 1)));
-    assert_eq!(told(&[size, first, place, second].concat()), Some((11, 2)));
-    assert_eq!(told(&[size, first, second, second].concat()), Some((11, 3)));
-    assert_eq!(told(&[size, first, first, place].concat()), Some((11, 2)));
-    assert_eq!(told(&[size, size, second, place].concat()), Some((11, 1)));
-    // A component record has 1 where the size record has the record count.
-    assert_eq!(told(&[first, size, second, place].concat()), Some((10, 0)));
-}
-
-#[test]
-fn a_record_more_or_fewer() {
-    let right = saved();
-    let mut more = right.clone();
-    more.splice(48..48, [2, 3, 1].into_iter().chain([0; 13]));
-    assert_eq!(told(&more), Some((10, 0)));
-    more[1] = 5;
-    assert_eq!(told(&more), Some((22, 0)));
-    more[6] = 3;
-    assert_eq!(told(&more), None);
-    more[65] = 4;
-    assert_eq!(told(&more), Some((23, 4)));
-    more[66] = 1;
-    assert_eq!(told(&more), Some((21, 4)));
-    more[64] = 2;
-    assert_eq!(told(&more), Some((11, 4)));
-    more[49] = 4;
-    assert_eq!(told(&more), Some((11, 3)));
-
-    let mut fewer = right.clone();
-    fewer.drain(32..48);
-    assert_eq!(told(&fewer), Some((10, 0)));
-    fewer[1] = 3;
-    assert_eq!(told(&fewer), Some((22, 0)));
-    fewer[6] = 1;
-    assert_eq!(told(&fewer), Some((23, 2)));
-    fewer.drain(16..32);
-    fewer[1] = 2;
-    assert_eq!(told(&fewer), Some((5, 0)));
-}
-
-#[test]
-fn record_counts() {
-    let lent = e();
-    for count in 0..=255u8 {
-        for records in [0, 1, 2, count as usize] {
-            let mut bytes = vec![0; 16 * records];
-            if let Some(byte) = bytes.get_mut(1) {
-                *byte = count;
-            }
-            let told = if records < 1 || count < 2 || records != count as usize {
-                10
-            } else if (3..=8).contains(&count) {
-                11
-            } else {
-                5
-            };
-            assert_eq!(restore_of(&lent, &bytes), Err(refusal(told, 0)));
+        // Two changes of the lengths that leave their sum as it is.
+        (&[(18, 2), (34, 0)], 6, 2),
+    ];
+    let mixed: &[Several] = &[
+        // 11 before the profile's 21, and that before the components'.
+        (&[(12, 2), (48, 1)], 11, 3),
+        (&[(12, 2), (19, 1)], 21, 0),
+        (&[(12, 9), (31, 1)], 21, 0),
+        (&[(12, 0), (19, 1)], 21, 1),
+        (&[(12, 0), (6, 1)], 21, 2),
+        (&[(12, 255), (6, 1), (49, 9)], 21, 0),
+        // The exact profile again, in which AM's number is that of CT.
+        (&[(12, 0), (35, 0), (2, 2)], 0, 0),
+        (&[(12, 0), (35, 0)], 13, 0),
+        (&[(12, 0), (35, 0), (56, 16)], 23, 3),
+        // 22, then 23, before 24.
+        (&[(35, 2), (6, 3)], 22, 0),
+        (&[(35, 2), (56, 14)], 23, 3),
+        (&[(19, 2), (56, 0x45)], 24, 0),
+        // 6, 7 and 8 before 24, and that before 12, 9 and 13.
+        (&[(35, 255), (34, 13), (6, 14)], 6, 2),
+        (&[(35, 255), (34, 12), (18, 5), (19, 1), (6, 17)], 7, 0),
+        (&[(35, 255), (36, 2)], 8, 2),
+        (&[(35, 255), (4, 9)], 24, 0),
+        (&[(35, 255), (2, 0)], 24, 0),
+        (&[(35, 255), (56, 0x10)], 24, 0),
+        (&[(19, 255), (56, 0x10)], 24, 0),
+        // An allowance as long as the component.
+        (&[(19, 1), (56, 0x45)], 0, 0),
+        (&[(34, 12), (35, 12), (6, 13)], 0, 0),
+        (&[(34, 12), (35, 13), (6, 13)], 24, 0),
+    ];
+    for (profile, several) in [(Profile::Exact, exact), (Profile::Mixed, mixed)] {
+        for (changes, number, record) in several {
+            let told = (*number != 0).then_some((*number, *record));
+            assert_eq!(changed(profile, changes), told, "{profile:?}, {changes:?}");
         }
     }
-}
-
-#[test]
-fn wrong_lengths_and_k_in_a_save() {
-    let lent = e();
-    // Lengths 13 and 1 with K 14; then 12, 12, 12 with K 36.
-    assert_eq!(changed(&[(18, 13), (6, 14)]), Some((6, 1)));
-    let three = template(&[(12, 0, 0), (12, 0, 0), (8, 0, 0)]);
-    let mut bytes = save_of(&lent, &lent.begin(&three, 2).unwrap());
-    bytes[50] = 12;
-    assert_eq!(restore_of(&lent, &bytes), Err(refusal(22, 0)));
-    bytes[6] = 36;
-    assert_eq!(restore_of(&lent, &bytes), Err(refusal(7, 0)));
-    // A place beyond 32 letters keeps its rule there.
-    bytes[65] = 36;
-    bytes[72..80].fill(255);
-    assert_eq!(restore_of(&lent, &bytes), Err(refusal(7, 0)));
-    bytes[65] = 37;
-    assert_eq!(restore_of(&lent, &bytes), Err(refusal(23, 4)));
-    // A sum that does not fit one byte: both bytes of K count.
-    let mut long = saved();
-    (long[18], long[34]) = (255, 255);
-    assert_eq!(told(&long), Some((22, 0)));
-    long[6] = 254;
-    assert_eq!(told(&long), Some((22, 0)));
-    long[7] = 1;
-    assert_eq!(told(&long), Some((6, 1)));
-    long[49] = 255;
-    assert_eq!(told(&long), Some((6, 1)));
-    long[49] = 0;
-    assert_eq!(told(&long), Some((23, 3)));
 }

@@ -186,3 +186,40 @@ fn places_that_are_no_candidates() {
         }
     }
 }
+
+/// The place's letters are dealt out to the components in order, whatever their
+/// lengths are: those are looked at later.
+#[test]
+fn the_place_rule_comes_before_bad_lengths_and_allowances() {
+    for (components, letters, number, told) in [
+        // A component of length 0 takes none.
+        (&[(0, 9, 0, 0), (2, 0, 0, 0)][..], "AR", 23, 3),
+        (&[(0, 0, 0, 0), (2, 1, 0, 0)], "AR", 6, 1),
+        (&[(1, 0, 0, 0), (0, 0, 0, 0), (1, 1, 0, 0)], "AR", 6, 2),
+        (&[(1, 0, 0, 0), (0, 9, 0, 0), (1, 0, 0, 0)], "AR", 23, 4),
+        // Long ones take them all.
+        (&[(255, 2, 0, 0), (1, 0, 0, 0)], "ARRA", 6, 1),
+        (&[(255, 1, 0, 0), (1, 9, 0, 0)], "ARRA", 23, 3),
+        (&[(12, 12, 0, 0), (5, 0, 0, 0)], "ARRRRRRRRRRRACGTA", 7, 0),
+        (&[(12, 12, 0, 0), (5, 0, 0, 0)], "ARRRRRRRRRRRACGTR", 23, 3),
+        // An allowance above the length allows all letters that there are.
+        (&[(2, 65_535, 0, 0), (1, 0, 0, 0)], "RR", 24, 0),
+        (&[(2, 65_535, 0, 0), (1, 0, 0, 0)], "RRR", 23, 3),
+        (&[(2, 2, 0, 0), (1, 65_535, 0, 0)], "RRR", 24, 0),
+        (&[(2, 1, 0, 0), (1, 65_535, 0, 0)], "RRR", 23, 3),
+        (&[(2, 1, 1, 0), (1, 65_535, 0, 0)], "RAR", 8, 1),
+        // Of 255 letters all but the last are As.
+        (&[(255, 1, 0, 0)], &("A".repeat(253) + "RR"), 23, 2),
+        (&[(255, 2, 0, 0)], &("A".repeat(253) + "RR"), 6, 1),
+    ] {
+        let search = Search {
+            template: mixed(components),
+            quorum: 3,
+            sequences: 3,
+            letters: 12,
+            place: place(letters.len() as u8, mixed_number(letters)),
+        };
+        let refused = refused(&e(), &search);
+        assert_eq!(refused, Some((number, told)), "{components:?} {letters}");
+    }
+}

@@ -97,12 +97,8 @@ fn p8_after_at_and_after_tt() {
 
 #[test]
 fn p9_the_save_after_4_steps() {
-    let lent = e();
-    let search = lent.begin(&e_template(), 2).unwrap();
-    let (answer, rows) = leg_of(&lent, &search, 4, 5);
-    assert_eq!((answer.answer, answer.steps), (Answer::Spent, 4));
+    let (rows, bytes) = walked(&e(), &e_template(), 2, 4);
     assert_eq!(rows, [(2, 2, 3)]);
-    let bytes = save_of(&lent, &answer.search);
     assert_eq!(bytes.len(), 64);
     assert_eq!(
         bytes[..16],

@@ -4,6 +4,7 @@
 
 pub mod faults;
 pub mod naive;
+pub mod saves;
 
 use second::{begin, leg, Answer, Component, Leg, Place, Profile, Refusal, Search, Template};
 
@@ -176,6 +177,17 @@ pub fn save_of(lent: &Lent, search: &Search) -> Vec<u8> {
     assert!(bytes[length..].iter().all(|byte| *byte == 0xEE));
     bytes.truncate(length);
     bytes
+}
+
+/// A search's first steps, so many of which it takes: their rows, and its save
+/// after them, which gives it back.
+pub fn walked(lent: &Lent, template: &Template, quorum: u64, steps: u64) -> (Vec<Row>, Vec<u8>) {
+    let search = lent.begin(template, quorum).expect("a search");
+    let (answer, rows) = leg_of(lent, &search, steps, 5);
+    assert_eq!((answer.answer, answer.steps), (Answer::Spent, steps));
+    let bytes = save_of(lent, &answer.search);
+    assert_eq!(restore_of(lent, &bytes), Ok(answer.search));
+    (rows, bytes)
 }
 
 pub fn restore_of(lent: &Lent, bytes: &[u8]) -> Result<Search, Refusal> {
