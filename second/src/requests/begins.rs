@@ -1,8 +1,10 @@
 //! New searches: each limit from both sides, several faults at once, and
 //! searches that are begun.
 
+use super::alphabets::any_allowance;
 use super::random::Random;
 use super::request::{Kind, Request, Set, Slot, Value};
+use crate::Profile;
 use std::rc::Rc;
 
 fn begin(set: Set, value: Value) -> Request {
@@ -141,8 +143,9 @@ pub fn faulty_set(random: &mut Random) -> Set {
     set
 }
 
-/// A search value with faults of its template and its quorum, or none.
-pub fn faulty_value(random: &mut Random, set: &Set) -> Value {
+/// A search value with faults of its template, in the mixed profile also of its
+/// allowances, and of its quorum, or none.
+pub fn faulty_value(profile: Profile, random: &mut Random, set: &Set) -> Value {
     let most = random.pick(&[4, 12, 12, 48]);
     let mut value = random.template(most, 6);
     value.quorum = random.within(1, set.lengths.len().max(1) as u64);
@@ -158,6 +161,11 @@ pub fn faulty_value(random: &mut Random, set: &Set) -> Value {
             _ => value.quorum = random.edge(),
         }
     }
+    value = random.in_profile(profile, value, 3);
+    if profile == Profile::Mixed && random.once_in(3) {
+        let at = random.below(6) as usize;
+        value.slots[at].allowance = any_allowance(random);
+    }
     value
 }
 
@@ -166,7 +174,7 @@ pub fn requests(random: &mut Random) -> Vec<Request> {
     requests.extend(values());
     for _ in 0..6_000 {
         let set = faulty_set(random);
-        let value = faulty_value(random, &set);
+        let value = faulty_value(Profile::Exact, random, &set);
         requests.push(begin(set, value));
     }
     requests

@@ -1,8 +1,8 @@
 //! New searches in the mixed profile: each limit of its own from both sides;
 //! and in the exact one with allowances, which it does not look at.
 
+use super::alphabets::{exact, shape};
 use super::begins::{faulty_set, faulty_value};
-use super::mixed::{any_allowance, exact, mixed, shape};
 use super::random::Random;
 use super::request::{Kind, Request, Set, Slot, Value};
 use crate::Profile;
@@ -61,7 +61,7 @@ fn lengths() -> Vec<Value> {
         &[12, 12, 9],
     ] {
         let parts: Vec<(u16, u16)> = lengths.iter().map(|length| (*length, 1)).collect();
-        for value in both(shape(&parts, 3).with_quorum(3)) {
+        for value in both(shape(Profile::Mixed, &parts, 3).with_quorum(3)) {
             values.push(value);
             let mut wrong = value;
             wrong.slots[0].allowance = 13;
@@ -78,7 +78,7 @@ fn lengths() -> Vec<Value> {
 
 /// One fault of the sequences: the template is then not looked at.
 fn sets(random: &mut Random) -> Vec<Request> {
-    let value = shape(&[(1, 0), (1, 9)], 1).with_quorum(9);
+    let value = shape(Profile::Mixed, &[(1, 0), (1, 9)], 1).with_quorum(9);
     let mut sets = vec![
         Set::of(&[""; 0]),
         Set::of(&[""; 1_025]),
@@ -97,18 +97,6 @@ fn sets(random: &mut Random) -> Vec<Request> {
         .collect()
 }
 
-/// A search value with faults of its template, its allowances and its quorum,
-/// or none.
-pub fn faulty_mixed(random: &mut Random, set: &Set) -> Value {
-    let value = faulty_value(random, set);
-    let mut value = mixed(value, 3, random);
-    if random.once_in(3) {
-        let at = random.below(6) as usize;
-        value.slots[at].allowance = any_allowance(random);
-    }
-    value
-}
-
 pub fn requests(random: &mut Random) -> Vec<Request> {
     let e = Rc::new(Set::e());
     let mut requests = sets(random);
@@ -116,7 +104,7 @@ pub fn requests(random: &mut Random) -> Vec<Request> {
     requests.extend(lengths().into_iter().map(|value| begin(&e, value)));
     for _ in 0..3_000 {
         let set = Rc::new(faulty_set(random));
-        let value = faulty_mixed(random, &set);
+        let value = faulty_value(Profile::Mixed, random, &set);
         requests.push(begin(&set, value));
         if random.once_in(4) {
             requests.push(begin(&set, exact(value, random)));

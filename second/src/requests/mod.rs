@@ -2,31 +2,29 @@
 //! is compared by, the program `calls` (bin/compare) and the linked library
 //! (tests/library_compare.rs). Every request follows from a group's seed.
 
+mod alphabets;
 pub mod answer;
 mod begins;
 mod convert;
+mod crossings;
 mod damaged;
 mod fasta;
+mod faults;
 pub mod files;
 mod forgeries;
 mod joins;
 mod legs;
-mod mixed;
 mod mixed_begins;
-mod mixed_damaged;
-mod mixed_forgeries;
-mod mixed_legs;
-mod mixed_recoveries;
-mod mixed_saves;
-mod mixed_words;
 pub mod random;
 mod recoveries;
+mod relays;
 pub mod request;
 mod saves;
 mod seen;
 mod shown;
 mod words;
 
+use crate::Profile::{Exact, Mixed};
 use random::Random;
 use request::Request;
 
@@ -40,20 +38,22 @@ pub const GROUPS: [Group; 31] = [
     (
         "legs laid end to end, saved and restored between",
         102,
-        legs::relays,
+        |random| relays::requests(Exact, random),
     ),
     (
         "legs where words of 64 letters or sequences end",
         129,
-        words::requests,
+        |random| words::requests(Exact, random),
     ),
-    ("legs and saves of forged searches", 103, forgeries::any),
+    ("legs and saves of forged searches", 103, |random| {
+        forgeries::any(Exact, random)
+    }),
     (
         "legs and saves of searches whose place breaks its rule",
         113,
-        forgeries::place_rules,
+        |random| forgeries::place_rules(Exact, random),
     ),
-    ("saves", 104, saves::saves),
+    ("saves", 104, |random| saves::saves(Exact, random)),
     (
         "restores of damaged saves of E",
         105,
@@ -82,13 +82,15 @@ pub const GROUPS: [Group; 31] = [
     ("restores of damaged saves of 6 components", 126, |random| {
         damaged::one_byte(6, random)
     }),
-    (
-        "restores of saves with several faults",
-        127,
-        damaged::several_faults,
-    ),
-    ("restores of other bytes", 106, saves::restores),
-    ("recoveries", 107, recoveries::requests),
+    ("restores of saves with several faults", 127, |random| {
+        faults::several_faults(Exact, random)
+    }),
+    ("restores of other bytes", 106, |random| {
+        saves::restores(Exact, random)
+    }),
+    ("recoveries", 107, |random| {
+        recoveries::requests(Exact, random)
+    }),
     ("joins", 108, joins::requests),
     (
         "FASTA files read one record after another",
@@ -105,34 +107,36 @@ pub const GROUPS: [Group; 31] = [
     (
         "mixed: legs laid end to end, saved and restored between",
         132,
-        mixed_legs::relays,
+        |random| relays::requests(Mixed, random),
     ),
     (
         "mixed: legs where words of 64 letters or sequences end",
         133,
-        mixed_words::requests,
+        |random| words::requests(Mixed, random),
     ),
-    (
-        "mixed: legs and saves of forged searches",
-        134,
-        mixed_forgeries::any,
-    ),
+    ("mixed: legs and saves of forged searches", 134, |random| {
+        forgeries::any(Mixed, random)
+    }),
     (
         "mixed: legs and saves of searches whose place breaks its rule",
         135,
-        mixed_forgeries::place_rules,
+        |random| forgeries::place_rules(Mixed, random),
     ),
-    ("mixed: saves", 136, mixed_saves::saves),
-    ("mixed: restores of other bytes", 137, mixed_saves::restores),
+    ("mixed: saves", 136, |random| saves::saves(Mixed, random)),
+    ("mixed: restores of other bytes", 137, |random| {
+        saves::restores(Mixed, random)
+    }),
     (
         "mixed: restores of damaged saves of 1 to 6 components",
         138,
-        mixed_damaged::one_byte,
+        damaged::one_mixed_byte,
     ),
     (
         "mixed: restores of saves with several faults",
         139,
-        mixed_damaged::several_faults,
+        |random| faults::several_faults(Mixed, random),
     ),
-    ("mixed: recoveries", 140, mixed_recoveries::requests),
+    ("mixed: recoveries", 140, |random| {
+        recoveries::requests(Mixed, random)
+    }),
 ];

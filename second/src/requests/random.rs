@@ -1,6 +1,7 @@
 //! Random numbers from a printed seed, and inputs made of them.
 
 use super::request::{Set, Slot, Value};
+use crate::Profile;
 
 /// A generator (splitmix64): the same numbers for the same seed, everywhere.
 pub struct Random(u64);
@@ -97,5 +98,23 @@ impl Random {
             left -= length;
         }
         Value::of(&slots)
+    }
+
+    /// The same template in the mixed profile, with an allowance of at most
+    /// `most` for each component, and at most its length.
+    pub fn mixed(&mut self, value: Value, most: u64) -> Value {
+        let allowances = value.slots.map(|slot| {
+            let most = most.min(slot.length.into());
+            self.below(most + 1) as u16
+        });
+        value.mixed(&allowances)
+    }
+
+    /// The same template in a profile, in the mixed one with such allowances.
+    pub fn in_profile(&mut self, profile: Profile, value: Value, most: u64) -> Value {
+        match profile {
+            Profile::Exact => value,
+            Profile::Mixed => self.mixed(value, most),
+        }
     }
 }

@@ -112,6 +112,33 @@ impl Value {
         self
     }
 
+    /// The same with the counts of a set.
+    pub fn over(self, set: &Set) -> Value {
+        Value {
+            sequences: set.lengths.len() as u32,
+            letters: set.letters.len() as u32,
+            ..self
+        }
+    }
+
+    /// The same at the place of a word of its profile's letters.
+    pub fn at(self, word: &[u8]) -> Value {
+        let letters = self.profile.letters();
+        let digit = |letter: &u8| letters.iter().position(|l| l == letter);
+        Value {
+            place: word.len() as u8,
+            number: word.iter().fold(0, |number, letter| {
+                number * self.profile.base() + digit(letter).expect("a letter") as u64
+            }),
+            ..self
+        }
+    }
+
+    /// The same at the ended place.
+    pub fn ended(self) -> Value {
+        self.at(b"")
+    }
+
     /// K, the letters of the components that it counts.
     pub fn letters_in_all(&self) -> u64 {
         let counted = self.slots.iter().take(self.count.into());

@@ -10,79 +10,49 @@ use std::ops::RangeInclusive;
 
 use Profile::{Exact, Mixed};
 
-/// How each call can come out, and the refusals that it can give. A join and
-/// the FASTA reader have no profile, and are counted with the exact one.
-const ANSWERS: [(Kind, Profile, &[u64], &[u64]); 12] = [
-    (Kind::Begin, Exact, &[1], &[1, 2, 3, 4, 5, 6, 7, 8, 9]),
+/// How each call can come out, and the refusals that it can give. In the mixed
+/// profile each can also give 24.
+const ANSWERS: [(Kind, &[u64], &[u64]); 7] = [
+    (Kind::Begin, &[1], &[1, 2, 3, 4, 5, 6, 7, 8, 9]),
     (
         Kind::Leg,
-        Exact,
         &[1, 2, 3],
         &[1, 2, 3, 4, 5, 6, 7, 8, 9, 12, 13, 23],
     ),
     (
         Kind::Save,
-        Exact,
         &[1],
         &[1, 2, 3, 4, 5, 6, 7, 8, 9, 12, 13, 17, 23],
     ),
     (
         Kind::Restore,
-        Exact,
         &[1],
         &[1, 2, 3, 4, 5, 6, 7, 8, 9, 10, 11, 12, 13, 21, 22, 23],
     ),
-    (
-        Kind::Recover,
-        Exact,
-        &[1],
-        &[1, 2, 3, 4, 5, 6, 7, 8, 14, 15],
-    ),
-    (Kind::Join, Exact, &[1], &[6, 8, 16, 17]),
-    (Kind::Fasta, Exact, &[1, 2], &[4, 19, 20]),
-    (Kind::Begin, Mixed, &[1], &[1, 2, 3, 4, 5, 6, 7, 8, 9, 24]),
-    (
-        Kind::Leg,
-        Mixed,
-        &[1, 2, 3],
-        &[1, 2, 3, 4, 5, 6, 7, 8, 9, 12, 13, 23, 24],
-    ),
-    (
-        Kind::Save,
-        Mixed,
-        &[1],
-        &[1, 2, 3, 4, 5, 6, 7, 8, 9, 12, 13, 17, 23, 24],
-    ),
-    (
-        Kind::Restore,
-        Mixed,
-        &[1],
-        &[1, 2, 3, 4, 5, 6, 7, 8, 9, 10, 11, 12, 13, 21, 22, 23, 24],
-    ),
-    (
-        Kind::Recover,
-        Mixed,
-        &[1],
-        &[1, 2, 3, 4, 5, 6, 7, 8, 14, 15, 24],
-    ),
+    (Kind::Recover, &[1], &[1, 2, 3, 4, 5, 6, 7, 8, 14, 15]),
+    (Kind::Join, &[1], &[6, 8, 16, 17]),
+    (Kind::Fasta, &[1, 2], &[4, 19, 20]),
 ];
+
+/// The profiles in which a call is made. A join and the FASTA reader have none,
+/// and are counted with the exact one.
+fn profiles(kind: Kind) -> &'static [Profile] {
+    match kind {
+        Kind::Join | Kind::Fasta => &[Exact],
+        _ => &[Exact, Mixed],
+    }
+}
 
 /// The refusals that tell a record, and the records from 0 that each kind of
 /// call can tell: of saves of one to six components, whose place record is
 /// the third to the eighth.
-const RECORDS: [(Kind, Profile, u64, RangeInclusive<u64>); 12] = [
-    (Kind::Leg, Exact, 23, 2..=7),
-    (Kind::Save, Exact, 23, 2..=7),
-    (Kind::Restore, Exact, 11, 0..=7),
-    (Kind::Restore, Exact, 21, 0..=7),
-    (Kind::Restore, Exact, 22, 0..=0),
-    (Kind::Restore, Exact, 23, 2..=7),
-    (Kind::Leg, Mixed, 23, 2..=7),
-    (Kind::Save, Mixed, 23, 2..=7),
-    (Kind::Restore, Mixed, 11, 0..=7),
-    (Kind::Restore, Mixed, 21, 0..=7),
-    (Kind::Restore, Mixed, 22, 0..=0),
-    (Kind::Restore, Mixed, 23, 2..=7),
+const RECORDS: [(Kind, u64, RangeInclusive<u64>); 6] = [
+    (Kind::Leg, 23, 2..=7),
+    (Kind::Save, 23, 2..=7),
+    (Kind::Restore, 11, 0..=7),
+    (Kind::Restore, 21, 0..=7),
+    (Kind::Restore, 22, 0..=0),
+    (Kind::Restore, 23, 2..=7),
 ];
 
 /// Why a mixed place breaks its rule, or a number is no mixed motif's: the
@@ -95,24 +65,14 @@ enum Why {
     Allowance,
 }
 
+const WHY: [Why; 4] = [Why::Letters, Why::Number, Why::Digit, Why::Allowance];
+
 /// The calls that see to it. A recovery's number has as many letters as motifs
 /// have.
-const WHY: [(Kind, u64, &[Why]); 4] = [
-    (
-        Kind::Leg,
-        23,
-        &[Why::Letters, Why::Number, Why::Digit, Why::Allowance],
-    ),
-    (
-        Kind::Save,
-        23,
-        &[Why::Letters, Why::Number, Why::Digit, Why::Allowance],
-    ),
-    (
-        Kind::Restore,
-        23,
-        &[Why::Letters, Why::Number, Why::Digit, Why::Allowance],
-    ),
+const REASONS: [(Kind, u64, &[Why]); 4] = [
+    (Kind::Leg, 23, &WHY),
+    (Kind::Save, 23, &WHY),
+    (Kind::Restore, 23, &WHY),
     (
         Kind::Recover,
         14,
@@ -225,32 +185,33 @@ impl Seen {
     /// up.
     pub fn told(&self) -> Result<Vec<String>, String> {
         let mut lines = Vec::new();
-        for (kind, profile, outcomes, refusals) in ANSWERS {
-            let which = format!("{kind:?}, {profile:?}");
-            let came_to = |name: &str, seen: &BTreeMap<(u64, u16, u64), u64>, expected: &[u64]| {
-                let count = |what: &u64| seen.get(&(kind as u64, profile.number(), *what)).copied();
-                counts(&which, name, expected.iter().copied(), |what| count(&what))
-            };
-            let outcomes = came_to("outcome", &self.outcomes, outcomes)?;
-            let refusals = came_to("refusal", &self.refusals, refusals)?;
-            lines.push(format!("{which}, {outcomes}; {refusals}"));
+        for (kind, outcomes, refusals) in ANSWERS {
+            for profile in profiles(kind) {
+                let which = format!("{kind:?}, {profile:?}");
+                let of = |what| (kind as u64, profile.number(), what);
+                let outcome = |what| self.outcomes.get(&of(what)).copied();
+                let outcomes = counts(&which, "outcome", outcomes.iter().copied(), outcome)?;
+                let also = (*profile == Mixed).then_some(24);
+                let expected = refusals.iter().copied().chain(also);
+                let refusal = |what| self.refusals.get(&of(what)).copied();
+                let refusals = counts(&which, "refusal", expected, refusal)?;
+                lines.push(format!("{which}, {outcomes}; {refusals}"));
+            }
         }
-        for (kind, profile, refusal, records) in RECORDS {
-            let of = |record| (kind as u64, profile.number(), refusal, record);
-            let count = |record| self.records.get(&of(record)).copied();
-            let which = format!("{kind:?}, {profile:?}, refusal {refusal},");
-            lines.push(format!(
-                "{which} {}",
-                counts(&which, "record", records, count)?
-            ));
+        for (kind, refusal, records) in RECORDS {
+            for profile in profiles(kind) {
+                let of = |record| (kind as u64, profile.number(), refusal, record);
+                let count = |record| self.records.get(&of(record)).copied();
+                let which = format!("{kind:?}, {profile:?}, refusal {refusal},");
+                let records = counts(&which, "record", records.clone(), count)?;
+                lines.push(format!("{which} {records}"));
+            }
         }
-        for (kind, refusal, reasons) in WHY {
+        for (kind, refusal, reasons) in REASONS {
             let count = |why| self.reasons.get(&(kind as u64, why)).copied();
             let which = format!("{kind:?}, Mixed, refusal {refusal},");
-            lines.push(format!(
-                "{which} {}",
-                counts(&which, "reason", reasons.iter().copied(), count)?
-            ));
+            let reasons = counts(&which, "reason", reasons.iter().copied(), count)?;
+            lines.push(format!("{which} {reasons}"));
         }
         Ok(lines)
     }

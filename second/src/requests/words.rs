@@ -1,15 +1,18 @@
-//! Legs where words of 64 end: a program may keep 64 letters of a sequence, or
-//! marks of 64 sequences, in one word, and pass over sixteen words at once. A
-//! motif that is lost or found twice at such an end shows in its weighted
-//! support, and one that stands nowhere else in its support.
+//! Legs where words of 64 end, in both profiles: a program may keep 64 letters of
+//! a sequence, or marks of 64 sequences, in one word, make the words of a mixed
+//! letter of those of its bases, and pass over sixteen words at once. A motif that
+//! is lost or found twice at such an end shows in its weighted support, and one
+//! that stands nowhere else in its support.
 
-use super::legs::{leg, relay, Grants};
+use super::alphabets::{spelled, word};
+use super::crossings;
+use super::legs::{enough, relay, Grants, Most, ALL};
 use super::random::Random;
-use super::request::{Kind, Request, Set, Slot, Value};
-use std::rc::Rc;
+use super::request::{Request, Set, Slot, Value};
+use crate::Profile;
 
 /// Lengths of sequences about the ends of one to four words.
-pub const LENGTHS: [u64; 16] = [
+const LENGTHS: [u64; 16] = [
     63, 64, 65, 66, 127, 128, 129, 130, 191, 192, 193, 194, 255, 256, 257, 258,
 ];
 
@@ -61,8 +64,16 @@ pub fn plant(
     }
 }
 
+/// What is enough where each step takes long, since the set is large.
+fn enough_of_many(profile: Profile) -> Most {
+    match profile {
+        Profile::Exact => ALL,
+        Profile::Mixed => (300, 99),
+    }
+}
+
 /// Random letters in sequences that end about where words do.
-fn across(random: &mut Random) -> Vec<Request> {
+fn across(profile: Profile, random: &mut Random) -> Vec<Request> {
     let shapes: [&[u16]; 8] = [
         &[6],
         &[8],
@@ -75,7 +86,10 @@ fn across(random: &mut Random) -> Vec<Request> {
     ];
     let mut requests = Vec::new();
     for round in 0..32 {
-        let alphabet = random.pick(&[2, 2, 3]);
+        let alphabet = random.pick(&match profile {
+            Profile::Exact => [2, 2, 3],
+            Profile::Mixed => [2, 3, 4],
+        });
         let mut sequences = vec![random.letters(LENGTHS[round % 16], alphabet)];
         for _ in 0..random.below(4) {
             let length = random.pick(&LENGTHS);
@@ -84,8 +98,10 @@ fn across(random: &mut Random) -> Vec<Request> {
         let lengths = random.pick(&shapes);
         let quorum = random.within(1, sequences.len() as u64);
         let value = template(lengths, &GAPS, random).with_quorum(quorum);
+        let value = random.in_profile(profile, value, 2);
         let grants = random.pick(&[Grants::Few, Grants::Any]);
-        requests.extend(relay(Set::of(&sequences), value, 5, grants, random));
+        let (set, most) = (Set::of(&sequences), enough(profile));
+        requests.extend(relay(set, value, 5, grants, most, random));
     }
     requests
 }
@@ -93,47 +109,65 @@ fn across(random: &mut Random) -> Vec<Request> {
 /// Occurrences from the first letter of a sequence to its last; and over the
 /// widest gaps to the last letter of each sequence but one, whose last letter
 /// is the first of the next.
-fn farthest(random: &mut Random) -> Vec<Request> {
+fn farthest(profile: Profile, random: &mut Random) -> Vec<Request> {
+    let most = enough(profile);
     let mut requests = Vec::new();
     for length in LENGTHS {
         let gap = length as u16 - 3;
         let value = template(&[2, 1], &[(gap, gap)], random).with_quorum(1);
+        let value = random.in_profile(profile, value, 1);
         let sequences = [length, length - 1, length + 1].map(|length| random.letters(length, 2));
-        requests.extend(relay(Set::of(&sequences), value, 2, Grants::Any, random));
+        let set = Set::of(&sequences);
+        requests.extend(relay(set, value, 2, Grants::Any, most, random));
     }
+    let last: &[u16] = match profile {
+        Profile::Exact => &[4, 12, 12],
+        Profile::Mixed => &[2, 12, 2],
+    };
     let shapes: [(&[u16], (u16, u16)); 6] = [
         (&[1, 1], (255, 255)),
         (&[2, 2], (0, 255)),
         (&[12, 4], (254, 255)),
         (&[1; 6], (255, 255)),
         (&[1, 1, 1], (0, 255)),
-        (&[4, 12, 12], (255, 255)),
+        (last, (255, 255)),
     ];
     for (lengths, gap) in shapes {
         for (alphabet, quorum) in [(1, 4), (2, 4), (2, 5)] {
             let value = template(lengths, &[gap], random).with_quorum(quorum);
-            let motif = random.letters(lengths.iter().sum::<u16>().into(), 4);
+            let value = random.in_profile(profile, value, 1);
+            let word = word(&value, random);
             let mut sequences = Vec::new();
             for before in [0, 1, 62, 63, 64] {
                 let mut sequence = random.letters(before, alphabet);
+                let motif = spelled(&word, random);
                 plant(&mut sequence, &motif, &value, alphabet, random);
                 sequences.push(sequence);
             }
             let last = sequences[2].pop();
             sequences[3].splice(..0, last);
             let set = Set::of(&sequences);
-            requests.extend(relay(set, value, 3, Grants::Any, random));
+            requests.extend(relay(set, value, 3, Grants::Any, most, random));
         }
     }
     requests
+}
+
+/// A motif of three letters, which each sequence spells as it likes.
+fn motif(profile: Profile) -> &'static [u8] {
+    match profile {
+        Profile::Exact => b"CGT",
+        Profile::Mixed => b"MGY",
+    }
 }
 
 /// As many sequences as marks fill words, or one more or fewer. Some lack the
 /// motif, the last of them at each end of a word, and the quorum is what is
 /// reached, or one more or fewer: a candidate can be given up there, and not
 /// before.
-fn marks(random: &mut Random) -> Vec<Request> {
+fn marks(profile: Profile, random: &mut Random) -> Vec<Request> {
     let value = template(&[1, 2], &[(0, 1)], random);
+    let most = enough_of_many(profile);
     let mut requests = Vec::new();
     for number in [63, 64, 65, 127, 128, 129, 1_023, 1_024] {
         for last in [0, 63, 64, number / 2, number - 1] {
@@ -141,7 +175,8 @@ fn marks(random: &mut Random) -> Vec<Request> {
             for at in 0..number {
                 let before = random.below(4);
                 let mut sequence = random.letters(before, 2);
-                plant(&mut sequence, b"CGT", &value, 1, random);
+                let motif = spelled(motif(profile), random);
+                plant(&mut sequence, &motif, &value, 1, random);
                 if at == last || at < last && random.once_in(5) {
                     sequence.pop();
                     reached -= 1;
@@ -149,8 +184,9 @@ fn marks(random: &mut Random) -> Vec<Request> {
                 sequences.push(sequence);
             }
             let quorum = random.within(reached - 1, number.min(reached + 1));
-            let value = value.with_quorum(quorum);
-            requests.extend(relay(Set::of(&sequences), value, 2, Grants::Few, random));
+            let value = random.in_profile(profile, value.with_quorum(quorum), 1);
+            let set = Set::of(&sequences);
+            requests.extend(relay(set, value, 2, Grants::Few, most, random));
         }
     }
     requests
@@ -158,7 +194,7 @@ fn marks(random: &mut Random) -> Vec<Request> {
 
 /// As many words as sequences, though not each sequence has one: for some that
 /// have two, as many have no letter.
-fn uneven(random: &mut Random) -> Vec<Request> {
+fn uneven(profile: Profile, random: &mut Random) -> Vec<Request> {
     let mut requests = Vec::new();
     for number in [2, 3, 5, 63, 64, 66, 129] {
         for _ in 0..3 {
@@ -176,9 +212,9 @@ fn uneven(random: &mut Random) -> Vec<Request> {
             }
             let value = template(&[2, 1], &GAPS, random);
             let quorum = random.within(1, (number as u64).div_ceil(4));
-            let set = Set::of(&sequences);
-            let value = value.with_quorum(quorum);
-            requests.extend(relay(set, value, 3, Grants::Any, random));
+            let value = random.in_profile(profile, value.with_quorum(quorum), 2);
+            let (set, most) = (Set::of(&sequences), enough_of_many(profile));
+            requests.extend(relay(set, value, 3, Grants::Any, most, random));
         }
     }
     requests
@@ -186,7 +222,7 @@ fn uneven(random: &mut Random) -> Vec<Request> {
 
 /// A long run of one letter, with a motif about the ends of sixteen words, and
 /// a short run before it.
-fn sparse(random: &mut Random) -> Vec<Request> {
+fn sparse(profile: Profile, random: &mut Random) -> Vec<Request> {
     let shapes: [&[u16]; 4] = [&[3], &[2, 1], &[1, 2], &[1, 1, 1]];
     let mut requests = Vec::new();
     let runs = [
@@ -195,107 +231,36 @@ fn sparse(random: &mut Random) -> Vec<Request> {
     for length in runs.repeat(2) {
         let lengths = random.pick(&shapes);
         let value = template(lengths, &GAPS, random).with_quorum(1);
+        let value = random.in_profile(profile, value, 1);
         let mut long = Vec::new();
         for word in [15, 16, 17, 31, 32, 47, 48, 1_015] {
             let at = 64 * word + random.pick(&[0, 1, 61, 62, 63]);
             if at < length && at >= long.len() && !random.once_in(3) {
                 long.resize(at, b'A');
-                plant(&mut long, b"CGT", &value, 1, random);
+                let motif = spelled(motif(profile), random);
+                plant(&mut long, &motif, &value, 1, random);
             }
         }
         long.resize(length, b'A');
         let before = random.below(70);
         let set = Set::of(&[random.letters(before, 1), long]);
-        requests.extend(relay(set, value, 4, Grants::Any, random));
+        let most = enough_of_many(profile);
+        requests.extend(relay(set, value, 4, Grants::Any, most, random));
     }
     requests
 }
 
-/// Components of many letters, across the end of a word after each of them. Two
-/// times they cross the end of their sequence instead, to go on at its own
-/// start or in the next one, where the motif does not stand; 11 sequences have
-/// it. As a place it is a candidate for that quorum, and hardly for one more.
-fn long_components(random: &mut Random) -> Vec<Request> {
-    let shapes: [&[u16]; 8] = [
-        &[7],
-        &[9],
-        &[12],
-        &[5, 6],
-        &[11, 10],
-        &[12, 12, 8],
-        &[8, 8, 8, 8],
-        &[5, 5, 5, 5, 6, 6],
+pub fn requests(profile: Profile, random: &mut Random) -> Vec<Request> {
+    let parts: [fn(Profile, &mut Random) -> Vec<Request>; 8] = [
+        across,
+        farthest,
+        marks,
+        uneven,
+        sparse,
+        crossings::long_components,
+        crossings::cut_off,
+        crossings::each_letter,
     ];
-    let mut requests = Vec::new();
-    for lengths in shapes.repeat(2) {
-        let mut value = template(lengths, &GAPS, random);
-        value.place = lengths.iter().sum::<u16>() as u8;
-        value.number = random.any() >> (64 - 2 * value.place);
-        let motif = value.place_letters().into_bytes();
-        let mut sequences = Vec::new();
-        for before_end in 0..=12 {
-            let end = 64 * random.within(1, 2);
-            let mut sequence = random.letters(end - before_end, 4);
-            plant(&mut sequence, &motif, &value, 4, random);
-            let after = (sequence.len() as u64).wrapping_neg() % 64;
-            sequence.extend(random.letters(after, 4));
-            match before_end {
-                4 => sequence.rotate_left(end as usize),
-                5 => sequences.push(sequence.drain(..end as usize).collect()),
-                _ => {}
-            }
-            sequences.push(sequence);
-        }
-        let set = Set::of(&sequences);
-        value.sequences = set.lengths.len() as u32;
-        value.letters = set.letters.len() as u32;
-        let lent = Rc::new(set.clone());
-        for quorum in [12, 11] {
-            value.quorum = quorum;
-            requests.push(leg(&lent, value, 4, [1; 3], random));
-            requests.push(Request {
-                saved: random.bytes(128),
-                ..Request::new(Kind::Save, &lent, value)
-            });
-        }
-        requests.extend(relay(set, value, 4, Grants::Any, random));
-    }
-    requests
-}
-
-/// Sequences of 64 letters, with a component of many letters at their end, of
-/// which up to five are cut off: behind a word that is full nothing stands.
-fn cut_off(random: &mut Random) -> Vec<Request> {
-    let shapes: [&[u16]; 6] = [&[5], &[8], &[12], &[2, 6], &[1, 9], &[3, 12]];
-    let mut requests = Vec::new();
-    for lengths in shapes {
-        let value = template(lengths, &[(0, 30)], random);
-        let motif = random.letters(lengths.iter().sum::<u16>().into(), 4);
-        let mut sequences = Vec::new();
-        for end in 64..70 {
-            let mut sequence = Vec::new();
-            plant(&mut sequence, &motif, &value, 4, random);
-            let before = random.letters(end - sequence.len() as u64, 4);
-            sequence.splice(..0, before);
-            sequence.truncate(64);
-            sequences.push(sequence);
-        }
-        for quorum in [1, 2] {
-            let value = value.with_quorum(quorum);
-            let set = Set::of(&sequences);
-            requests.extend(relay(set, value, 3, Grants::Any, random));
-        }
-    }
-    requests
-}
-
-pub fn requests(random: &mut Random) -> Vec<Request> {
-    let mut requests = across(random);
-    requests.extend(farthest(random));
-    requests.extend(marks(random));
-    requests.extend(uneven(random));
-    requests.extend(sparse(random));
-    requests.extend(long_components(random));
-    requests.extend(cut_off(random));
-    requests
+    let requests = parts.iter().flat_map(|part| part(profile, random));
+    requests.collect()
 }
