@@ -9,9 +9,8 @@
 use second::library::{self, Reader, Stop, Template};
 use second::requests::answer::{self, told, told_handed, told_refusal};
 use second::requests::answer::{Answer, DONE, FULL, REFUSED, SPENT};
-use second::requests::random::Random;
 use second::requests::request::{Kind, Request, Slot, Value};
-use second::requests::{Seen, GROUPS};
+use second::requests::{groups, Group, Seen};
 use second::{Handed, Profile, Refusal};
 
 fn shape(value: &Value) -> Vec<u16> {
@@ -265,12 +264,8 @@ fn difference(request: &Request) -> Option<String> {
     answered(request).difference(&Answer::expected(&expected))
 }
 
-fn compare(name: &str, seen: &mut Seen) {
-    let (name, seed, make) = GROUPS
-        .into_iter()
-        .find(|group| group.0 == name)
-        .expect("a group");
-    let requests = make(&mut Random::new(seed));
+fn compare(group: &Group, seen: &mut Seen) {
+    let (name, seed, requests) = (&group.name, group.seed, group.requests());
     for request in &requests {
         if let Some(difference) = difference(request) {
             panic!("{name}, seed {seed}: the library differs in {difference}\n{request}");
@@ -288,8 +283,8 @@ fn compare(name: &str, seen: &mut Seen) {
 #[test]
 fn every_answer_is_the_same() {
     let mut seen = Seen::default();
-    for (name, _, _) in GROUPS {
-        compare(name, &mut seen);
+    for group in groups() {
+        compare(&group, &mut seen);
     }
     println!("{}", seen.told().unwrap().join("\n"));
 }

@@ -23,35 +23,41 @@ fn records_that_change_places() {
     assert_eq!(told(&[first, size, second, place].concat()), Some((10, 0)));
 }
 
+/// Changes one byte after another, and says what each change brings a restore
+/// over E to tell.
+fn tell(bytes: &mut [u8], changes: &[(usize, u8, Option<(u8, u64)>)]) {
+    for (at, value, expected) in changes {
+        bytes[*at] = *value;
+        assert_eq!(told(bytes), *expected, "{value} in byte {at}");
+    }
+}
+
 #[test]
 fn a_record_more_or_fewer() {
     let right = saved(Profile::Exact);
     let mut more = right.clone();
     more.splice(48..48, [2, 3, 1].into_iter().chain([0; 13]));
-    assert_eq!(told(&more), Some((10, 0)));
-    more[1] = 5;
-    assert_eq!(told(&more), Some((22, 0)));
-    more[6] = 3;
-    assert_eq!(told(&more), None);
-    more[65] = 4;
-    assert_eq!(told(&more), Some((23, 4)));
-    more[66] = 1;
-    assert_eq!(told(&more), Some((21, 4)));
-    more[64] = 2;
-    assert_eq!(told(&more), Some((11, 4)));
-    more[49] = 4;
-    assert_eq!(told(&more), Some((11, 3)));
+    let changes = [
+        (1, 4, Some((10, 0))),
+        (1, 5, Some((22, 0))),
+        (6, 3, None),
+        (65, 4, Some((23, 4))),
+        (66, 1, Some((21, 4))),
+        (64, 2, Some((11, 4))),
+        (49, 4, Some((11, 3))),
+    ];
+    tell(&mut more, &changes);
 
     let mut fewer = right.clone();
     fewer.drain(32..48);
-    assert_eq!(told(&fewer), Some((10, 0)));
-    fewer[1] = 3;
-    assert_eq!(told(&fewer), Some((22, 0)));
-    fewer[6] = 1;
-    assert_eq!(told(&fewer), Some((23, 2)));
+    let changes = [
+        (1, 4, Some((10, 0))),
+        (1, 3, Some((22, 0))),
+        (6, 1, Some((23, 2))),
+    ];
+    tell(&mut fewer, &changes);
     fewer.drain(16..32);
-    fewer[1] = 2;
-    assert_eq!(told(&fewer), Some((5, 0)));
+    tell(&mut fewer, &[(1, 2, Some((5, 0)))]);
 }
 
 #[test]
@@ -79,29 +85,29 @@ fn record_counts() {
 fn wrong_lengths_and_k_in_a_save() {
     let lent = e();
     // Lengths 13 and 1 with K 14; then 12, 12, 12 with K 36.
-    assert_eq!(changed(Profile::Exact, &[(18, 13), (6, 14)]), Some((6, 1)));
+    let changes = [(18, 13), (6, 14)];
+    assert_eq!(changed(Profile::Exact, &changes), Some((6, 1)));
     let three = template(&[(12, 0, 0), (12, 0, 0), (8, 0, 0)]);
     let mut bytes = save_of(&lent, &lent.begin(&three, 2).unwrap());
-    bytes[50] = 12;
-    assert_eq!(restore_of(&lent, &bytes), Err(refusal(22, 0)));
-    bytes[6] = 36;
-    assert_eq!(restore_of(&lent, &bytes), Err(refusal(7, 0)));
+    tell(
+        &mut bytes,
+        &[(50, 12, Some((22, 0))), (6, 36, Some((7, 0)))],
+    );
     // A place beyond 32 letters keeps its rule there.
-    bytes[65] = 36;
     bytes[72..80].fill(255);
-    assert_eq!(restore_of(&lent, &bytes), Err(refusal(7, 0)));
-    bytes[65] = 37;
-    assert_eq!(restore_of(&lent, &bytes), Err(refusal(23, 4)));
+    tell(
+        &mut bytes,
+        &[(65, 36, Some((7, 0))), (65, 37, Some((23, 4)))],
+    );
     // A sum that does not fit one byte: both bytes of K count.
     let mut long = saved(Profile::Exact);
-    (long[18], long[34]) = (255, 255);
-    assert_eq!(told(&long), Some((22, 0)));
-    long[6] = 254;
-    assert_eq!(told(&long), Some((22, 0)));
-    long[7] = 1;
-    assert_eq!(told(&long), Some((6, 1)));
-    long[49] = 255;
-    assert_eq!(told(&long), Some((6, 1)));
-    long[49] = 0;
-    assert_eq!(told(&long), Some((23, 3)));
+    long[18] = 255;
+    let changes = [
+        (34, 255, Some((22, 0))),
+        (6, 254, Some((22, 0))),
+        (7, 1, Some((6, 1))),
+        (49, 255, Some((6, 1))),
+        (49, 0, Some((23, 3))),
+    ];
+    tell(&mut long, &changes);
 }

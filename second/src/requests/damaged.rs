@@ -12,42 +12,43 @@ use std::rc::Rc;
 /// Lent sequences, and saves of a search over them.
 pub type Saves = (Rc<Set>, Vec<Vec<u8>>);
 
-/// The parts of a template of one to six components: as many letters as they can
-/// have, from three components on 32.
-const EXACT: [Parts; 6] = [
-    &[(12, 0)],
-    &[(12, 0), (12, 0)],
-    &[(12, 0), (12, 0), (8, 0)],
-    &[(8, 0), (8, 0), (8, 0), (8, 0)],
-    &[(7, 0), (6, 0), (7, 0), (6, 0), (6, 0)],
-    &[(6, 0), (5, 0), (5, 0), (5, 0), (5, 0), (6, 0)],
+/// The parts of an exact and of a mixed template of one to six components: as
+/// many letters as they can have, from three components on 32, and from two on
+/// 16.
+const PARTS: [(Parts, Parts); 6] = [
+    (&[(12, 0)], &[(12, 1)]),
+    (&[(12, 0), (12, 0)], &[(12, 0), (4, 1)]),
+    (&[(12, 0), (12, 0), (8, 0)], &[(6, 1), (5, 0), (5, 1)]),
+    (
+        &[(8, 0), (8, 0), (8, 0), (8, 0)],
+        &[(4, 0), (4, 1), (4, 0), (4, 1)],
+    ),
+    (
+        &[(7, 0), (6, 0), (7, 0), (6, 0), (6, 0)],
+        &[(4, 0), (3, 0), (3, 1), (3, 0), (3, 1)],
+    ),
+    (
+        &[(6, 0), (5, 0), (5, 0), (5, 0), (5, 0), (6, 0)],
+        &[(3, 0), (3, 0), (3, 1), (3, 0), (2, 0), (2, 2)],
+    ),
 ];
 
-/// The gap ranges before them.
+/// The gap ranges before an exact one's components.
 const RANGES: [(u16, u16); 6] = [(0, 0), (0, 1), (1, 1), (0, 0), (1, 2), (0, 1)];
-
-/// In the mixed profile, from two components on 16 letters.
-const MIXED: [Parts; 6] = [
-    &[(12, 1)],
-    &[(12, 0), (4, 1)],
-    &[(6, 1), (5, 0), (5, 1)],
-    &[(4, 0), (4, 1), (4, 0), (4, 1)],
-    &[(4, 0), (3, 0), (3, 1), (3, 0), (3, 1)],
-    &[(3, 0), (3, 0), (3, 1), (3, 0), (2, 0), (2, 2)],
-];
 
 /// A template of so many components, which its sequences have to hold over a
 /// stretch of so many letters.
 fn template(profile: Profile, components: usize) -> (Value, u64) {
+    let (exact, mixed) = PARTS[components - 1];
     match profile {
         Profile::Exact => {
-            let mut value = shape(profile, EXACT[components - 1], 0);
+            let mut value = shape(profile, exact, 0);
             for (slot, (low, high)) in value.slots.iter_mut().zip(RANGES).take(components) {
                 *slot = Slot::new(slot.length, low, high);
             }
             (value, 42)
         }
-        Profile::Mixed => (shape(profile, MIXED[components - 1], 1), 20),
+        Profile::Mixed => (shape(profile, mixed, 1), 20),
     }
 }
 

@@ -24,36 +24,79 @@ mod seen;
 mod shown;
 mod words;
 
-use crate::Profile::{Exact, Mixed};
+use crate::Profile;
 use random::Random;
 use request::Request;
 
 pub use seen::Seen;
 
 /// A group of requests: its name, its seed, and what makes it.
-pub type Group = (&'static str, u64, fn(&mut Random) -> Vec<Request>);
+pub struct Group {
+    pub name: String,
+    pub seed: u64,
+    make: Make,
+}
 
-pub const GROUPS: [Group; 31] = [
-    ("new searches", 101, begins::requests),
+#[derive(Clone, Copy)]
+enum Make {
+    In(Profile, fn(Profile, &mut Random) -> Vec<Request>),
+    Plain(fn(&mut Random) -> Vec<Request>),
+}
+
+impl Group {
+    pub fn requests(&self) -> Vec<Request> {
+        let random = &mut Random::new(self.seed);
+        match self.make {
+            Make::In(profile, make) => make(profile, random),
+            Make::Plain(make) => make(random),
+        }
+    }
+}
+
+/// What is made in each profile, with the seeds of the exact and the mixed one.
+type InEach = (
+    &'static str,
+    [u64; 2],
+    fn(Profile, &mut Random) -> Vec<Request>,
+);
+
+const IN_EACH: [InEach; 8] = [
     (
         "legs laid end to end, saved and restored between",
-        102,
-        |random| relays::requests(Exact, random),
+        [102, 132],
+        relays::requests,
     ),
     (
         "legs where words of 64 letters or sequences end",
-        129,
-        |random| words::requests(Exact, random),
+        [129, 133],
+        words::requests,
     ),
-    ("legs and saves of forged searches", 103, |random| {
-        forgeries::any(Exact, random)
-    }),
+    (
+        "legs and saves of forged searches",
+        [103, 134],
+        forgeries::any,
+    ),
     (
         "legs and saves of searches whose place breaks its rule",
-        113,
-        |random| forgeries::place_rules(Exact, random),
+        [113, 135],
+        forgeries::place_rules,
     ),
-    ("saves", 104, |random| saves::saves(Exact, random)),
+    ("saves", [104, 136], saves::saves),
+    ("restores of other bytes", [106, 137], saves::restores),
+    (
+        "restores of saves with several faults",
+        [127, 139],
+        faults::several_faults,
+    ),
+    ("recoveries", [107, 140], recoveries::requests),
+];
+
+/// What has no profile, is made in both at once, or differs in them.
+type Plain = (&'static str, u64, fn(&mut Random) -> Vec<Request>);
+
+const PLAIN: [Plain; 15] = [
+    ("new searches", 101, begins::requests),
+    ("new searches with allowances", 131, mixed_begins::requests),
     (
         "restores of damaged saves of E",
         105,
@@ -82,15 +125,11 @@ pub const GROUPS: [Group; 31] = [
     ("restores of damaged saves of 6 components", 126, |random| {
         damaged::one_byte(6, random)
     }),
-    ("restores of saves with several faults", 127, |random| {
-        faults::several_faults(Exact, random)
-    }),
-    ("restores of other bytes", 106, |random| {
-        saves::restores(Exact, random)
-    }),
-    ("recoveries", 107, |random| {
-        recoveries::requests(Exact, random)
-    }),
+    (
+        "restores of damaged saves of mixed searches",
+        138,
+        damaged::one_mixed_byte,
+    ),
     ("joins", 108, joins::requests),
     (
         "FASTA files read one record after another",
@@ -103,40 +142,25 @@ pub const GROUPS: [Group; 31] = [
         128,
         fasta::every_byte,
     ),
-    ("mixed: new searches", 131, mixed_begins::requests),
-    (
-        "mixed: legs laid end to end, saved and restored between",
-        132,
-        |random| relays::requests(Mixed, random),
-    ),
-    (
-        "mixed: legs where words of 64 letters or sequences end",
-        133,
-        |random| words::requests(Mixed, random),
-    ),
-    ("mixed: legs and saves of forged searches", 134, |random| {
-        forgeries::any(Mixed, random)
-    }),
-    (
-        "mixed: legs and saves of searches whose place breaks its rule",
-        135,
-        |random| forgeries::place_rules(Mixed, random),
-    ),
-    ("mixed: saves", 136, |random| saves::saves(Mixed, random)),
-    ("mixed: restores of other bytes", 137, |random| {
-        saves::restores(Mixed, random)
-    }),
-    (
-        "mixed: restores of damaged saves of 1 to 6 components",
-        138,
-        damaged::one_mixed_byte,
-    ),
-    (
-        "mixed: restores of saves with several faults",
-        139,
-        |random| faults::several_faults(Mixed, random),
-    ),
-    ("mixed: recoveries", 140, |random| {
-        recoveries::requests(Mixed, random)
-    }),
 ];
+
+pub fn groups() -> Vec<Group> {
+    let mut groups = Vec::new();
+    for (name, seed, make) in PLAIN {
+        groups.push(Group {
+            name: name.to_string(),
+            seed,
+            make: Make::Plain(make),
+        });
+    }
+    for (name, seeds, make) in IN_EACH {
+        for (profile, seed) in [Profile::Exact, Profile::Mixed].into_iter().zip(seeds) {
+            groups.push(Group {
+                name: format!("{profile:?}: {name}"),
+                seed,
+                make: Make::In(profile, make),
+            });
+        }
+    }
+    groups
+}

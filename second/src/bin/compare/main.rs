@@ -18,13 +18,12 @@ mod texts;
 mod wire;
 
 use program::Program;
-use second::requests::random::Random;
-use second::requests::GROUPS;
+use second::requests::groups;
 use std::process::ExitCode;
 
 fn compare(program: &mut Program) -> Result<(), String> {
-    for (name, seed, make) in GROUPS {
-        let requests = make(&mut Random::new(seed));
+    for group in groups() {
+        let (name, seed, requests) = (&group.name, group.seed, group.requests());
         program
             .compare(&requests)
             .map_err(|difference| format!("{name}, seed {seed}: {difference}"))?;
