@@ -1,66 +1,47 @@
 //! The linked library on the paper's set E: each of the seven calls as the
-//! header declares it, with the paper's numbers, and refused calls, which
-//! leave every buffer as it was.
+//! header declares it, with the paper's numbers, a search in both profiles, and
+//! refused calls, which leave every buffer as it was.
 
 use second::library::{begin, join, leg, recover, restore, save};
-use second::library::{Leg, Reader, Recovered, Search, Stop, Template};
-use second::Refusal;
+use second::library::{Leg, Reader, Recovered, Stop, Template};
 
-/// ACGTA, CAGGT, AT.
-const LETTERS: &[u8] = b"ACGTACAGGTAT";
-const LENGTHS: &[u32] = &[5, 5, 2];
+mod linked;
 
-/// N[0,1]N.
-const SHAPE: [u16; 6] = [1, 0, 0, 1, 0, 1];
-const PAIR: Template = Template::exact(2, &SHAPE);
+use linked::*;
 
-/// The bytes of a new search, with its length told.
-fn begun(quorum: u64) -> Vec<u8> {
-    let mut saved = vec![0xEE; 128];
-    let size = begin(LETTERS, LENGTHS, PAIR, quorum, &mut saved).unwrap();
-    assert_eq!(size, 64);
-    assert!(saved[size..].iter().all(|byte| *byte == 0xEE));
-    saved.truncate(size);
-    saved
-}
-
-/// A search over E at a place.
-fn at(quorum: u64, next_letters: u8, next_number: u64) -> Search {
-    Search {
-        profile: 0,
-        components: 2,
-        quorum,
-        sequences: 3,
-        total: 12,
-        next_letters,
-        next_number,
-    }
-}
-
-fn refused(number: u8, place: u64) -> Refusal {
-    Refusal { number, place }
-}
-
+/// The whole search of E: what it lists, and its bytes then. At quorum 2 that is
+/// p3; in the mixed profile at quorum 3, AK, AB and AD.
 #[test]
 fn p3_a_search_of_e() {
-    let mut saved = begun(2);
-    let (mut motifs, mut supports, mut weights) = ([9; 5], [9; 5], [9; 5]);
-    let (m, s, w) = (&mut motifs[..], &mut supports[..], &mut weights[..]);
-    let told = leg(LETTERS, LENGTHS, &mut saved, 99, m, s, w).unwrap();
-    let (stop, steps, rows) = (Stop::Ended, 20, 3);
-    assert_eq!(told, Leg { stop, steps, rows });
-    assert_eq!(motifs, [2, 6, 11, 9, 9]);
-    assert_eq!(supports, [2, 2, 2, 9, 9]);
-    assert_eq!(weights, [3, 2, 3, 9, 9]);
-    assert_eq!(
-        restore(LETTERS, LENGTHS, &saved, &mut [], &mut []),
-        Ok(at(2, 0, 0))
-    );
+    for (template, quorum, steps, found) in [
+        (EXACT, 2, 20, [[2, 6, 11], [2, 2, 2], [3, 2, 3]]),
+        (MIXED, 3, 32, [[6, 10, 11], [3, 3, 3], [4, 5, 4]]),
+    ] {
+        let mut saved = begun(template, quorum);
+        let (mut motifs, mut supports, mut weights) = ([9; 5], [9; 5], [9; 5]);
+        let (m, s, w) = (&mut motifs[..], &mut supports[..], &mut weights[..]);
+        let told = leg(LETTERS, LENGTHS, &mut saved, 99, m, s, w).unwrap();
+        let (stop, rows) = (Stop::Ended, 3);
+        assert_eq!(told, Leg { stop, steps, rows });
+        assert_eq!(motifs[..3], found[0]);
+        assert_eq!(supports.map(u64::from)[..3], found[1]);
+        assert_eq!(weights[..3], found[2]);
+        assert_eq!(
+            (motifs[3..].to_vec(), weights[3..].to_vec()),
+            (vec![9; 2], vec![9; 2])
+        );
+        assert_eq!(supports[3..], [9, 9]);
+        let told = restore(LETTERS, LENGTHS, &saved, &mut [], &mut []);
+        assert_eq!(told, Ok(at(template, quorum, 0, 0)));
+        let ended = [3, 0, 0, 0, 0, 0, 0, 0, 0, 0, 0, 0, 0, 0, 0, 0];
+        assert_eq!(saved[..48], begun(template, quorum)[..48]);
+        assert_eq!(saved[48..], ended);
+    }
 }
 
 #[test]
 fn p4_nothing_in_twelve_steps() {
-    let mut saved = begun(3);
+    let mut saved = begun(EXACT, 3);
     let told = leg(LETTERS, LENGTHS, &mut saved, 99, &mut [], &mut [], &mut []).unwrap();
     let (stop, steps, rows) = (Stop::Ended, 12, 0);
     assert_eq!(told, Leg { stop, steps, rows });
@@ -68,7 +49,7 @@ fn p4_nothing_in_twelve_steps() {
 
 #[test]
 fn legs_stop_where_the_budget_or_the_room_ends() {
-    let mut saved = begun(2);
+    let mut saved = begun(EXACT, 2);
     let mut motifs = [0; 1];
     let mut next = |budget, room: usize| {
         let (mut supports, mut weights) = ([0; 1], [0; 1]);
@@ -89,26 +70,26 @@ fn legs_stop_where_the_budget_or_the_room_ends() {
 #[test]
 fn p5_the_occurrences_of_ag() {
     let mut out = [7; 11];
-    let told = recover(LETTERS, LENGTHS, PAIR, 2, 0, &mut out).unwrap();
+    let told = recover(LETTERS, LENGTHS, EXACT, 2, 0, &mut out).unwrap();
     assert_eq!(told, Recovered { rows: 3, length: 3 });
     assert_eq!(out, [1, 1, 3, 2, 2, 3, 2, 2, 4, 7, 7]);
     let mut page = [7; 5];
-    let told = recover(LETTERS, LENGTHS, PAIR, 2, 1, &mut page).unwrap();
+    let told = recover(LETTERS, LENGTHS, EXACT, 2, 1, &mut page).unwrap();
     assert_eq!(told, Recovered { rows: 1, length: 3 });
     assert_eq!(page, [2, 2, 3, 7, 7]);
-    let told = recover(LETTERS, LENGTHS, PAIR, 2, 3, &mut page).unwrap();
+    let told = recover(LETTERS, LENGTHS, EXACT, 2, 3, &mut page).unwrap();
     assert_eq!(told, Recovered { rows: 0, length: 3 });
 }
 
 #[test]
 fn p6_the_occurrences_of_aa() {
     let mut out = [0; 9];
-    let told = recover(b"AAA", &[3], PAIR, 0, 0, &mut out).unwrap();
+    let told = recover(b"AAA", &[3], EXACT, 0, 0, &mut out).unwrap();
     assert_eq!(told, Recovered { rows: 3, length: 3 });
     assert_eq!(out, [1, 1, 2, 1, 1, 3, 1, 2, 3]);
 
     let mut saved = [0; 64];
-    assert_eq!(begin(b"AAA", &[3], PAIR, 1, &mut saved), Ok(64));
+    assert_eq!(begin(b"AAA", &[3], EXACT, 1, &mut saved), Ok(64));
     let (mut motifs, mut supports, mut weights) = ([9; 1], [9; 1], [9; 1]);
     let (m, s, w) = (&mut motifs[..], &mut supports[..], &mut weights[..]);
     let told = leg(b"AAA", &[3], &mut saved, 99, m, s, w).unwrap();
@@ -148,56 +129,73 @@ fn a_fasta_file_of_e() {
     assert_eq!(letters, *b"ACGTACAGGTAT--");
     assert_eq!(lengths, [5, 5, 2, 7]);
     let mut saved = [0; 64];
-    let size = begin(&letters[..12], &lengths[..3], PAIR, 2, &mut saved);
+    let size = begin(&letters[..12], &lengths[..3], EXACT, 2, &mut saved);
     assert_eq!(size, Ok(64));
-    assert_eq!(saved[..], begun(2));
+    assert_eq!(saved[..], begun(EXACT, 2));
 }
 
-/// The save of E's search, quorum 2, after 4 steps.
-fn after_four_steps() -> Vec<u8> {
-    let mut saved = begun(2);
-    let (mut motifs, mut supports, mut weights) = ([0; 3], [0; 3], [0; 3]);
-    let (m, s, w) = (&mut motifs[..], &mut supports[..], &mut weights[..]);
-    let told = leg(LETTERS, LENGTHS, &mut saved, 4, m, s, w).unwrap();
-    let (stop, steps, rows) = (Stop::Spent, 4, 1);
-    assert_eq!(told, Leg { stop, steps, rows });
-    saved
-}
-
+/// What a save is, what it tells, and that what was told makes the same save.
 #[test]
 fn p9_a_save() {
-    let saved = after_four_steps();
-    let size = [1, 4, 2, 0, 3, 0, 2, 0, 12, 0, 0, 0, 0, 0, 0, 0];
-    let place = [3, 2, 0, 0, 0, 0, 0, 0, 3, 0, 0, 0, 0, 0, 0, 0];
-    assert_eq!(saved.len(), 64);
-    assert_eq!(saved[..16], size);
-    assert_eq!(saved[48..], place);
+    for (template, quorum, number) in [(EXACT, 2, 3), (MIXED, 3, 7)] {
+        let saved = walked(template);
+        let mixed = template.profile as u8;
+        let size = [
+            1,
+            4,
+            quorum as u8,
+            0,
+            3,
+            0,
+            2,
+            0,
+            12,
+            0,
+            0,
+            0,
+            mixed,
+            0,
+            0,
+            0,
+        ];
+        let first = [2, 1, 1, 0, 0, 0, 0, 0, 0, 0, 0, 0, 0, 0, 0, 0];
+        let second = [2, 2, 1, mixed, 0, 0, 1, 0, 0, 0, 0, 0, 0, 0, 0, 0];
+        let place = [3, 2, 0, 0, 0, 0, 0, 0, number, 0, 0, 0, 0, 0, 0, 0];
+        assert_eq!(saved, [size, first, second, place].concat());
 
-    let mut shape = [7; 20];
-    let search = restore(LETTERS, LENGTHS, &saved, &mut shape, &mut []).unwrap();
-    assert_eq!(search, at(2, 2, 3));
-    assert_eq!(shape[..6], SHAPE);
-    assert_eq!(shape[6..], [0, 0, 0, 0, 0, 0, 0, 0, 0, 0, 0, 0, 7, 7]);
-    // A shape with less room gets what fits.
-    let mut shape = [7; 4];
-    assert_eq!(
-        restore(LETTERS, LENGTHS, &saved, &mut shape, &mut []),
-        Ok(search)
-    );
-    assert_eq!(shape, SHAPE[..4]);
+        let (mut shape, mut allowances) = ([7; 20], [7; 8]);
+        let told = restore(LETTERS, LENGTHS, &saved, &mut shape, &mut allowances);
+        let search = at(template, quorum, 2, number.into());
+        assert_eq!(told, Ok(search));
+        assert_eq!(shape[..6], SHAPE);
+        assert_eq!(shape[6..], [0, 0, 0, 0, 0, 0, 0, 0, 0, 0, 0, 0, 7, 7]);
+        assert_eq!(allowances, [0, mixed.into(), 0, 0, 0, 0, 7, 7]);
+        // Arrays with less room get what fits.
+        for room in 0..=6 {
+            let (mut less, mut fewer) = ([7; 6], [7; 6]);
+            let (s, a) = (&mut less[..room], &mut fewer[..room]);
+            assert_eq!(restore(LETTERS, LENGTHS, &saved, s, a), Ok(search));
+            assert_eq!(
+                (&less[..room], &fewer[..room]),
+                (&shape[..room], &allowances[..room])
+            );
+            assert!(less[room..]
+                .iter()
+                .chain(&fewer[room..])
+                .all(|number| *number == 7));
+        }
 
-    let mut again = [0xEE; 65];
-    assert_eq!(
-        save(LETTERS, LENGTHS, &search, &SHAPE, &[], &mut again),
-        Ok(64)
-    );
-    assert_eq!(again[..64], saved);
-    assert_eq!(again[64], 0xEE);
+        let mut again = [0xEE; 65];
+        let size = save(LETTERS, LENGTHS, &search, &shape, &allowances, &mut again);
+        assert_eq!(size, Ok(64));
+        assert_eq!(again[..64], saved);
+        assert_eq!(again[64], 0xEE);
+    }
 }
 
 #[test]
 fn p10_a_save_cut_short() {
-    let mut cut = after_four_steps();
+    let mut cut = walked(EXACT);
     cut.truncate(63);
     let whole = cut.clone();
     let mut shape = [7; 18];
@@ -222,13 +220,13 @@ fn p11_a_place_that_is_no_candidate() {
     let mut out = [7; 64];
     let refusal = Err(refused(13, 0));
     assert_eq!(
-        save(LETTERS, LENGTHS, &at(3, 2, 4), &SHAPE, &[], &mut out),
+        save(LETTERS, LENGTHS, &at(EXACT, 3, 2, 4), &SHAPE, &[], &mut out),
         refusal
     );
     assert_eq!(out, [7; 64]);
 
     assert_eq!(
-        save(LETTERS, LENGTHS, &at(2, 2, 4), &SHAPE, &[], &mut out),
+        save(LETTERS, LENGTHS, &at(EXACT, 2, 2, 4), &SHAPE, &[], &mut out),
         Ok(64)
     );
     out[2] = 3;
@@ -244,16 +242,16 @@ fn p11_a_place_that_is_no_candidate() {
 #[test]
 fn refused_calls_leave_their_buffers() {
     let mut saved = [7; 64];
-    let refusal = begin(b"ACGTACAGGTAN", LENGTHS, PAIR, 2, &mut saved);
+    let refusal = begin(b"ACGTACAGGTAN", LENGTHS, EXACT, 2, &mut saved);
     assert_eq!(refusal, Err(refused(4, 11)));
-    let refusal = begin(LETTERS, LENGTHS, PAIR, 4, &mut saved);
+    let refusal = begin(LETTERS, LENGTHS, EXACT, 4, &mut saved);
     assert_eq!(refusal, Err(refused(9, 0)));
-    let refusal = begin(LETTERS, LENGTHS, PAIR, 2, &mut saved[..63]);
+    let refusal = begin(LETTERS, LENGTHS, EXACT, 2, &mut saved[..63]);
     assert_eq!(refusal, Err(refused(17, 0)));
     let refusal = save(
         LETTERS,
         LENGTHS,
-        &at(2, 1, 0),
+        &at(EXACT, 2, 1, 0),
         &SHAPE,
         &[],
         &mut saved[..63],
@@ -266,9 +264,9 @@ fn refused_calls_leave_their_buffers() {
     let template = Template::exact(2, &wide);
     let refusal = recover(LETTERS, LENGTHS, template, 2, 0, &mut out);
     assert_eq!(refusal, Err(refused(8, 2)));
-    let refusal = recover(LETTERS, LENGTHS, PAIR, 16, 0, &mut out);
+    let refusal = recover(LETTERS, LENGTHS, EXACT, 16, 0, &mut out);
     assert_eq!(refusal, Err(refused(14, 0)));
-    let refusal = recover(LETTERS, LENGTHS, PAIR, 2, 4, &mut out);
+    let refusal = recover(LETTERS, LENGTHS, EXACT, 2, 4, &mut out);
     assert_eq!(refusal, Err(refused(15, 0)));
 
     let refusal = join(&[1, 4], &[3, 5], 13, 0, 1, &mut out);

@@ -13,14 +13,9 @@ use second::requests::request::{Kind, Request, Slot, Value};
 use second::requests::{groups, Group, Seen};
 use second::{Handed, Profile, Refusal};
 
-fn shape(value: &Value) -> Vec<u16> {
-    let numbers = |slot: &Slot| [slot.length, slot.low, slot.high];
-    value.slots.iter().flat_map(numbers).collect()
-}
+mod linked;
 
-fn allowances(value: &Value) -> Vec<u16> {
-    value.slots.iter().map(|slot| slot.allowance).collect()
-}
+use linked::{allowances, shape};
 
 fn told_search(value: &Value) -> library::Search {
     library::Search {

@@ -1,110 +1,20 @@
-//! The linked library in the mixed profile: the paper's set E searched by hand,
-//! numbers of a profile that there is not, and arrays of allowances that end
-//! early or late.
+//! The linked library in the mixed profile, as far as that differs from the exact
+//! one: occurrences of a mixed motif, numbers of a profile that there is not, and
+//! arrays of allowances that end early or late.
 
 use second::library::{begin, leg, recover, restore, save};
 use second::library::{Leg, Recovered, Search, Stop, Template};
-use second::Refusal;
 
-/// ACGTA, CAGGT, AT.
-const LETTERS: &[u8] = b"ACGTACAGGTAT";
-const LENGTHS: &[u32] = &[5, 5, 2];
+mod linked;
 
-/// N[0,1]N, with a mixed letter in the second component.
-const SHAPE: [u16; 6] = [1, 0, 0, 1, 0, 1];
-const PAIR: Template = Template {
-    profile: 1,
-    components: 2,
-    shape: &SHAPE,
-    allowances: &[0, 1],
-};
-
-/// What a search of it tells.
-fn at(quorum: u64, next_letters: u8, next_number: u64) -> Search {
-    Search {
-        profile: 1,
-        components: 2,
-        quorum,
-        sequences: 3,
-        total: 12,
-        next_letters,
-        next_number,
-    }
-}
-
-fn refused(number: u8, place: u64) -> Refusal {
-    Refusal { number, place }
-}
-
-/// The save of a new search, quorum 3, and of the same after 8 steps.
-fn saves() -> [Vec<u8>; 2] {
-    let mut saved = vec![0xEE; 66];
-    assert_eq!(begin(LETTERS, LENGTHS, PAIR, 3, &mut saved), Ok(64));
-    assert_eq!(saved[64..], [0xEE; 2]);
-    saved.truncate(64);
-    let mut later = saved.clone();
-    let (mut motifs, mut supports, mut weights) = ([9; 2], [9; 2], [9; 2]);
-    let (m, s, w) = (&mut motifs[..], &mut supports[..], &mut weights[..]);
-    let told = leg(LETTERS, LENGTHS, &mut later, 8, m, s, w).unwrap();
-    let (stop, steps, rows) = (Stop::Spent, 8, 1);
-    assert_eq!(told, Leg { stop, steps, rows });
-    // AK, in all three.
-    assert_eq!((motifs, supports, weights), ([6, 9], [3, 9], [4, 9]));
-    [saved, later]
-}
+use linked::*;
 
 #[test]
-fn a_mixed_search_of_e() {
-    let [mut saved, later] = saves();
-    let (mut motifs, mut supports, mut weights) = ([9; 4], [9; 4], [9; 4]);
-    let (m, s, w) = (&mut motifs[..], &mut supports[..], &mut weights[..]);
-    let told = leg(LETTERS, LENGTHS, &mut saved, 99, m, s, w).unwrap();
-    let (stop, steps, rows) = (Stop::Ended, 32, 3);
-    assert_eq!(told, Leg { stop, steps, rows });
-    assert_eq!(motifs, [6, 10, 11, 9]);
-    assert_eq!(supports, [3, 3, 3, 9]);
-    assert_eq!(weights, [4, 5, 4, 9]);
-
-    let size = [1, 4, 3, 0, 3, 0, 2, 0, 12, 0, 0, 0, 1, 0, 0, 0];
-    let first = [2, 1, 1, 0, 0, 0, 0, 0, 0, 0, 0, 0, 0, 0, 0, 0];
-    let second = [2, 2, 1, 1, 0, 0, 1, 0, 0, 0, 0, 0, 0, 0, 0, 0];
-    let place = [3, 2, 0, 0, 0, 0, 0, 0, 7, 0, 0, 0, 0, 0, 0, 0];
-    assert_eq!(later, [size, first, second, place].concat());
-    assert_eq!(saved[..48], later[..48]);
-    assert_eq!(
-        saved[48..],
-        [3, 0, 0, 0, 0, 0, 0, 0, 0, 0, 0, 0, 0, 0, 0, 0]
-    );
-
+fn the_occurrences_of_ab() {
     let mut out = [7; 16];
-    let told = recover(LETTERS, LENGTHS, PAIR, 10, 0, &mut out).unwrap();
+    let told = recover(LETTERS, LENGTHS, MIXED, 10, 0, &mut out).unwrap();
     assert_eq!(told, Recovered { rows: 5, length: 5 });
     assert_eq!(out, [1, 1, 2, 1, 1, 3, 2, 2, 3, 2, 2, 4, 3, 1, 2, 7]);
-}
-
-#[test]
-fn what_a_save_tells() {
-    let [_, saved] = saves();
-    let (mut shape, mut allowances) = ([7; 20], [7; 8]);
-    let told = restore(LETTERS, LENGTHS, &saved, &mut shape, &mut allowances);
-    assert_eq!(told, Ok(at(3, 2, 7)));
-    assert_eq!(shape[..6], SHAPE);
-    assert_eq!(shape[6..], [0, 0, 0, 0, 0, 0, 0, 0, 0, 0, 0, 0, 7, 7]);
-    assert_eq!(allowances, [0, 1, 0, 0, 0, 0, 7, 7]);
-    for room in 0..=6 {
-        let mut allowances = [7; 6];
-        let told = restore(LETTERS, LENGTHS, &saved, &mut [], &mut allowances[..room]);
-        assert_eq!(told, Ok(at(3, 2, 7)));
-        assert_eq!(allowances[..room], [0, 1, 0, 0, 0, 0][..room]);
-        assert!(allowances[room..].iter().all(|number| *number == 7));
-    }
-    // What was told makes the same save.
-    let mut again = [0xEE; 65];
-    let told = at(3, 2, 7);
-    let size = save(LETTERS, LENGTHS, &told, &shape, &allowances, &mut again);
-    assert_eq!(size, Ok(64));
-    assert_eq!(again[..64], saved);
-    assert_eq!(again[64], 0xEE);
 }
 
 /// "An allowance past the array's end is 0; what goes past the components that
@@ -119,14 +29,24 @@ fn allowances_that_end_early_or_late() {
         (&[1, 0, 9, 65_535], [1, 0]),
         (&[0, 1, 0, 0, 0, 0, 9, 9], [0, 1]),
     ] {
-        let template = Template { allowances, ..PAIR };
+        let template = Template {
+            allowances,
+            ..MIXED
+        };
         assert_eq!(begin(LETTERS, LENGTHS, template, 3, &mut saved), Ok(64));
         assert_eq!(
             (saved[12], saved[19], saved[35]),
             (1, told[0] as u8, told[1] as u8)
         );
         let mut out = [0; 64];
-        let size = save(LETTERS, LENGTHS, &at(3, 1, 0), &SHAPE, allowances, &mut out);
+        let size = save(
+            LETTERS,
+            LENGTHS,
+            &at(MIXED, 3, 1, 0),
+            &SHAPE,
+            allowances,
+            &mut out,
+        );
         assert_eq!(size, Ok(64));
         assert_eq!(out, saved);
         // AB is a motif only where its B is allowed.
@@ -148,14 +68,14 @@ fn allowances_above_the_length() {
     for allowances in [[2, 0], [0, 2], [0, 65_535], [256, 0]] {
         let template = Template {
             allowances: &allowances,
-            ..PAIR
+            ..MIXED
         };
         let refusal = Err(refused(24, 0));
         assert_eq!(begin(LETTERS, LENGTHS, template, 3, &mut saved), refusal);
         let told = save(
             LETTERS,
             LENGTHS,
-            &at(3, 1, 0),
+            &at(MIXED, 3, 1, 0),
             &SHAPE,
             &allowances,
             &mut saved,
@@ -204,7 +124,7 @@ fn a_profile_that_there_is_not() {
                         profile,
                         components,
                         next_number: quorum,
-                        ..at(quorum, 1, 0)
+                        ..at(MIXED, quorum, 1, 0)
                     };
                     let size = save(letters, LENGTHS, &search, &SHAPE, &allowances, &mut saved);
                     assert_eq!(size, Err(told), "{search:?}");
@@ -216,7 +136,7 @@ fn a_profile_that_there_is_not() {
             }
         }
         // 1 to 3 come first, too.
-        let template = Template { profile, ..PAIR };
+        let template = Template { profile, ..MIXED };
         let begun = begin(LETTERS, &[], template, 3, &mut saved);
         assert_eq!(begun, Err(refused(1, 0)));
         let begun = begin(LETTERS, &[5, 5, 3], template, 3, &mut saved);
@@ -226,46 +146,6 @@ fn a_profile_that_there_is_not() {
         assert_eq!(begun, Err(refused(2, 0)));
     }
     assert_eq!((saved, out), ([7; 64], [7; 6]));
-}
-
-/// Bytes of which the profile or an allowance is wrong, for a restore and for a
-/// leg.
-#[test]
-fn saves_that_are_bad() {
-    let [_, right] = saves();
-    for (changes, number, place) in [
-        (&[(12, 2)][..], 21, 0),
-        (&[(12, 255)], 21, 0),
-        (&[(12, 0)], 21, 2),
-        (&[(13, 1)], 21, 0),
-        (&[(12, 2), (48, 1)], 11, 3),
-        (&[(19, 2)], 24, 0),
-        (&[(35, 255)], 24, 0),
-        (&[(35, 0)], 23, 3),
-        (&[(56, 14)], 23, 3),
-        (&[(56, 15)], 23, 3),
-        (&[(56, 0x47)], 23, 3),
-        (&[(57, 1)], 23, 3),
-        (&[(49, 3)], 23, 3),
-        (&[(56, 0x17)], 13, 0),
-        (&[(35, 255), (4, 9)], 24, 0),
-        (&[(35, 255), (36, 2)], 8, 2),
-        (&[(18, 12), (34, 5), (35, 9), (6, 17), (56, 0)], 7, 0),
-        (&[(18, 12), (34, 4), (35, 5), (6, 16), (56, 0)], 24, 0),
-    ] {
-        let mut bytes = right.clone();
-        for (at, value) in changes {
-            bytes[*at] = *value;
-        }
-        let (mut shape, mut allowances) = ([7; 18], [7; 6]);
-        let told = restore(LETTERS, LENGTHS, &bytes, &mut shape, &mut allowances);
-        assert_eq!(told, Err(refused(number, place)), "{changes:?}");
-        assert_eq!((shape, allowances), ([7; 18], [7; 6]));
-        let before = bytes.clone();
-        let told = leg(LETTERS, LENGTHS, &mut bytes, 9, &mut [], &mut [], &mut []);
-        assert_eq!(told, Err(refused(number, place)), "{changes:?}");
-        assert_eq!(bytes, before);
-    }
 }
 
 /// Sixteen letters, the last of them any that stands for T; and seventeen.

@@ -2,23 +2,14 @@
 //! and which record it tells. A leg from such bytes has to say the same, and
 //! nothing may be written.
 
-use second::library::{begin, leg, restore, save, Search, Template};
-use second::Refusal;
+use second::library::{leg, restore, save, Search};
 
-/// ACGTA, CAGGT, AT.
-const LETTERS: &[u8] = b"ACGTACAGGTAT";
-const LENGTHS: &[u32] = &[5, 5, 2];
+mod linked;
 
-/// The save of a new search, N[0,1]N and quorum 2.
-fn begun() -> Vec<u8> {
-    let template = Template::exact(2, &[1, 0, 0, 1, 0, 1]);
-    let mut saved = vec![0; 64];
-    assert_eq!(begin(LETTERS, LENGTHS, template, 2, &mut saved), Ok(64));
-    saved
-}
+use linked::*;
 
 /// What the restore of these bytes is refused with, and a leg from them.
-fn refused(bytes: &[u8]) -> (u8, u64) {
+fn refused_with(bytes: &[u8]) -> (u8, u64) {
     let (mut shape, mut allowances) = ([7; 18], [7; 6]);
     let told = restore(LETTERS, LENGTHS, bytes, &mut shape, &mut allowances);
     let told = told.expect_err("a refusal");
@@ -33,54 +24,75 @@ fn refused(bytes: &[u8]) -> (u8, u64) {
     (told.number, told.place)
 }
 
-#[test]
-fn a_byte_of_a_save() {
-    for (at, value, number, record) in [
-        (0, 2, 11, 0),
-        (15, 1, 21, 0),
-        (12, 255, 21, 0),
-        (6, 3, 22, 0),
-        (7, 1, 22, 0),
-        (16, 3, 11, 1),
-        (17, 2, 11, 1),
-        (18, 2, 22, 0),
-        (19, 1, 21, 1),
-        (31, 1, 21, 1),
-        (32, 0, 11, 2),
-        (33, 1, 11, 2),
-        (34, 13, 22, 0),
-        (35, 128, 21, 2),
-        (40, 1, 21, 2),
-        (48, 2, 11, 3),
-        (49, 3, 23, 3),
-        (50, 1, 21, 3),
-        (55, 1, 21, 3),
-        (56, 4, 23, 3),
-        (63, 1, 23, 3),
-    ] {
-        let mut bytes = begun();
-        bytes[at] = value;
-        assert_eq!(refused(&bytes), (number, record), "{value} in byte {at}");
-    }
-}
+/// Changes of a save, and the number and the record that are told.
+type Changes = (&'static [(usize, u8)], u8, u64);
+
+/// Of a new search.
+const OF_EXACT: &[Changes] = &[
+    (&[(0, 2)], 11, 0),
+    (&[(15, 1)], 21, 0),
+    (&[(12, 255)], 21, 0),
+    (&[(6, 3)], 22, 0),
+    (&[(7, 1)], 22, 0),
+    (&[(16, 3)], 11, 1),
+    (&[(17, 2)], 11, 1),
+    (&[(18, 2)], 22, 0),
+    (&[(19, 1)], 21, 1),
+    (&[(31, 1)], 21, 1),
+    (&[(32, 0)], 11, 2),
+    (&[(33, 1)], 11, 2),
+    (&[(34, 13)], 22, 0),
+    (&[(35, 128)], 21, 2),
+    (&[(40, 1)], 21, 2),
+    (&[(48, 2)], 11, 3),
+    (&[(49, 3)], 23, 3),
+    (&[(50, 1)], 21, 3),
+    (&[(55, 1)], 21, 3),
+    (&[(56, 4)], 23, 3),
+    (&[(63, 1)], 23, 3),
+    // The number comes first, and then the record.
+    (&[(12, 2), (48, 1)], 11, 3),
+    (&[(16, 1), (32, 1)], 11, 1),
+    (&[(17, 9), (32, 1)], 11, 1),
+    (&[(6, 0), (50, 1)], 21, 3),
+    (&[(24, 1), (40, 1)], 21, 1),
+    (&[(6, 0), (49, 9)], 22, 0),
+    (&[(18, 13), (6, 14), (49, 15)], 23, 3),
+    (&[(2, 0), (4, 9), (20, 1), (63, 1)], 23, 3),
+];
+
+/// Of a mixed search on its way: its profile and its allowances, too.
+const OF_MIXED: &[Changes] = &[
+    (&[(12, 2)], 21, 0),
+    (&[(12, 255)], 21, 0),
+    (&[(12, 0)], 21, 2),
+    (&[(13, 1)], 21, 0),
+    (&[(12, 2), (48, 1)], 11, 3),
+    (&[(19, 2)], 24, 0),
+    (&[(35, 255)], 24, 0),
+    (&[(35, 0)], 23, 3),
+    (&[(56, 14)], 23, 3),
+    (&[(56, 15)], 23, 3),
+    (&[(56, 0x47)], 23, 3),
+    (&[(57, 1)], 23, 3),
+    (&[(49, 3)], 23, 3),
+    (&[(56, 0x17)], 13, 0),
+    (&[(35, 255), (4, 9)], 24, 0),
+    (&[(35, 255), (36, 2)], 8, 2),
+    (&[(18, 12), (34, 5), (35, 9), (6, 17), (56, 0)], 7, 0),
+    (&[(18, 12), (34, 4), (35, 5), (6, 16), (56, 0)], 24, 0),
+];
 
 #[test]
-fn the_number_comes_first_and_then_the_record() {
-    for (changes, number, record) in [
-        (&[(12, 2), (48, 1)][..], 11, 3),
-        (&[(16, 1), (32, 1)], 11, 1),
-        (&[(17, 9), (32, 1)], 11, 1),
-        (&[(6, 0), (50, 1)], 21, 3),
-        (&[(24, 1), (40, 1)], 21, 1),
-        (&[(6, 0), (49, 9)], 22, 0),
-        (&[(18, 13), (6, 14), (49, 15)], 23, 3),
-        (&[(2, 0), (4, 9), (20, 1), (63, 1)], 23, 3),
-    ] {
-        let mut bytes = begun();
-        for (at, value) in changes {
-            bytes[*at] = *value;
+fn a_save_that_is_changed() {
+    for (right, cases) in [(begun(EXACT, 2), OF_EXACT), (walked(MIXED), OF_MIXED)] {
+        for (changes, number, record) in cases {
+            let mut bytes = right.clone();
+            for (at, value) in *changes {
+                bytes[*at] = *value;
+            }
+            assert_eq!(refused_with(&bytes), (*number, *record), "{changes:?}");
         }
-        assert_eq!(refused(&bytes), (number, record), "{changes:?}");
     }
 }
 
@@ -90,13 +102,8 @@ fn a_save_of_a_place_that_breaks_its_rule() {
     for components in [0, 1, 2, 3, 4, 5, 6, 7, 65_535] {
         for (next_letters, next_number) in [(0, 1), (1, 4), (7, 0), (33, 0), (255, u64::MAX)] {
             let search = Search {
-                profile: 0,
                 components,
-                quorum: 2,
-                sequences: 3,
-                total: 12,
-                next_letters,
-                next_number,
+                ..at(EXACT, 2, next_letters, next_number)
             };
             let (number, place) = match components {
                 1..=6 => (23, u64::from(components) + 1),
@@ -104,7 +111,7 @@ fn a_save_of_a_place_that_breaks_its_rule() {
             };
             let mut out = [7; 128];
             let told = save(LETTERS, LENGTHS, &search, &shape, &[], &mut out);
-            assert_eq!(told, Err(Refusal { number, place }));
+            assert_eq!(told, Err(refused(number, place)));
             assert_eq!(out, [7; 128]);
         }
     }

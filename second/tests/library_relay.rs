@@ -6,25 +6,37 @@
 use second::library::{self, Recovered, Stop, Template};
 use second::requests::answer::search;
 use second::requests::random::Random;
-use second::requests::request::{Set, Slot, Value};
+use second::requests::request::{Set, Value};
 use second::{Answer, Profile, Refusal};
+use std::ops::Range;
 
-/// A random set, a template within the rules, and a quorum.
-type Over = fn(&mut Random) -> (Set, Value);
+mod linked;
 
-/// One in the exact profile, with allowances that it does not look at.
-fn exact(random: &mut Random) -> (Set, Value) {
+use linked::{allowances, shape};
+
+/// A random set, a template within the rules, and a quorum: in the exact profile
+/// with allowances that it does not look at, and in the mixed one with fewer
+/// letters, so that it comes to an end.
+fn any_search(profile: Profile, random: &mut Random) -> (Set, Value) {
+    let (most, longest, letters) = match profile {
+        Profile::Exact => (12, [8, 30, 120], 7),
+        Profile::Mixed => (9, [8, 20, 70], 5),
+    };
     let (most, longest, alphabet) = (
-        random.within(1, 12),
-        random.pick(&[8, 30, 120]),
+        random.within(1, most),
+        random.pick(&longest),
         random.within(1, 4),
     );
     let set = random.set(most, longest, alphabet);
-    let (most, widest) = (random.within(1, 7), random.pick(&[0, 3, 20, 255]));
+    let (most, widest) = (random.within(1, letters), random.pick(&[0, 3, 20, 255]));
     let quorum = random
         .within(1, set.lengths.len() as u64)
         .min(random.within(1, 12));
     let value = random.template(most, widest).with_quorum(quorum);
+    if profile == Profile::Mixed {
+        let most = random.pick(&[1, 1, 2, 12]);
+        return (set, random.mixed(value, most));
+    }
     if !random.once_in(3) {
         return (set, value);
     }
@@ -32,34 +44,6 @@ fn exact(random: &mut Random) -> (Set, Value) {
     let allowance = random.pick(&[1, 12, 13, 255, 65_535, any]);
     let slots = value.slots.map(|slot| slot.allowing(allowance));
     (set, Value { slots, ..value })
-}
-
-/// One in the mixed profile, with fewer letters, so that it comes to an end.
-fn mixed(random: &mut Random) -> (Set, Value) {
-    let (most, longest, alphabet) = (
-        random.within(1, 9),
-        random.pick(&[8, 20, 70]),
-        random.within(1, 4),
-    );
-    let set = random.set(most, longest, alphabet);
-    let (most, widest) = (random.within(1, 5), random.pick(&[0, 3, 20, 255]));
-    let quorum = random.within(1, set.lengths.len() as u64);
-    let value = random.template(most, widest).with_quorum(quorum);
-    let most = random.pick(&[1, 1, 2, 12]);
-    let allowances = value.slots.map(|slot| {
-        let most = most.min(u64::from(slot.length));
-        random.below(most + 1) as u16
-    });
-    (set, value.mixed(&allowances))
-}
-
-fn shape(value: &Value) -> Vec<u16> {
-    let numbers = |slot: &Slot| [slot.length, slot.low, slot.high];
-    value.slots.iter().flat_map(numbers).collect()
-}
-
-fn allowances(value: &Value) -> Vec<u16> {
-    value.slots.iter().map(|slot| slot.allowance).collect()
 }
 
 fn template<'a>(value: &Value, shape: &'a [u16], allowances: &'a [u16]) -> Template<'a> {
@@ -92,8 +76,8 @@ impl Tables {
     }
 }
 
-fn relay(over: Over, random: &mut Random) {
-    let (set, value) = over(random);
+fn relay(profile: Profile, random: &mut Random) {
+    let (set, value) = any_search(profile, random);
     let (letters, lengths) = (&set.letters[..], &set.lengths[..]);
     let (shape, allowances) = (shape(&value), allowances(&value));
     let mut saved = random.bytes(128);
@@ -169,8 +153,8 @@ fn motif(value: &Value, random: &mut Random) -> u64 {
     number
 }
 
-fn pages(over: Over, random: &mut Random) {
-    let (set, value) = over(random);
+fn pages(profile: Profile, random: &mut Random) {
+    let (set, value) = any_search(profile, random);
     let (letters, lengths) = (&set.letters[..], &set.lengths[..]);
     let (shape, allowances) = (shape(&value), allowances(&value));
     let template_there = search(&value).template;
@@ -256,57 +240,47 @@ fn rows_beside_lists(set: &Set, value: &Value, random: &mut Random) -> usize {
     leg.rows
 }
 
-fn weights(over: Over, random: &mut Random) -> usize {
-    let (set, value) = over(random);
+fn weights(profile: Profile, random: &mut Random) -> usize {
+    let (set, value) = any_search(profile, random);
     rows_beside_lists(&set, &value, random)
 }
 
-/// Runs it from one seed after another, over searches of one profile, and names
-/// the seed at which it fails. Gives what each run answers.
+/// Runs it from one seed after another, over exact and over mixed searches, and
+/// names the seed at which it fails. Gives what each run answers, for each
+/// profile.
 fn from_seeds<T>(
-    seeds: std::ops::Range<u64>,
-    over: Over,
-    what: fn(Over, &mut Random) -> T,
-) -> Vec<T> {
-    let run = |seed| {
-        std::panic::catch_unwind(|| what(over, &mut Random::new(seed))).unwrap_or_else(|cause| {
-            println!("seed {seed}");
-            std::panic::resume_unwind(cause)
-        })
-    };
-    seeds.map(run).collect()
+    exact: Range<u64>,
+    mixed: Range<u64>,
+    what: fn(Profile, &mut Random) -> T,
+) -> [Vec<T>; 2] {
+    [(Profile::Exact, exact), (Profile::Mixed, mixed)].map(|(profile, seeds)| {
+        let run = |seed| {
+            let run = || what(profile, &mut Random::new(seed));
+            std::panic::catch_unwind(run).unwrap_or_else(|cause| {
+                println!("{profile:?}, seed {seed}");
+                std::panic::resume_unwind(cause)
+            })
+        };
+        seeds.map(run).collect()
+    })
 }
 
 #[test]
 fn legs_pass_on_their_bytes() {
-    from_seeds(1_000..4_000, exact, relay);
+    from_seeds(1_000..4_000, 11_000..12_000, relay);
 }
 
 #[test]
 fn pages_laid_end_to_end_are_the_list() {
-    from_seeds(4_000..8_000, exact, pages);
+    from_seeds(4_000..8_000, 14_000..16_000, pages);
 }
 
 #[test]
 fn weights_are_the_lengths_of_lists() {
-    let rows: usize = from_seeds(8_000..10_000, exact, weights).iter().sum();
-    assert!(rows > 10_000, "{rows} rows");
-}
-
-#[test]
-fn mixed_legs_pass_on_their_bytes() {
-    from_seeds(11_000..12_000, mixed, relay);
-}
-
-#[test]
-fn pages_of_mixed_motifs_are_their_lists() {
-    from_seeds(14_000..16_000, mixed, pages);
-}
-
-#[test]
-fn weights_of_mixed_motifs_are_the_lengths_of_lists() {
-    let rows: usize = from_seeds(18_000..19_000, mixed, weights).iter().sum();
-    assert!(rows > 10_000, "{rows} rows");
+    for rows in from_seeds(8_000..10_000, 18_000..19_000, weights) {
+        let rows: usize = rows.iter().sum();
+        assert!(rows > 10_000, "{rows} rows");
+    }
 }
 
 #[test]
