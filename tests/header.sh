@@ -1,5 +1,5 @@
 #!/bin/sh
-# The header, from C: its functions are declared as the proved source has them; header.c, header_mixed.c and header_fasta.c compare
+# The header, from C: its functions are declared as the proved source has them; header.c, header_search.c and header_fasta.c compare
 # each of its numbers, and what each function answers and leaves. A name that is in no CHECK of theirs is not tested, and fails too.
 set -eu
 cd "$(dirname "$0")/.."
@@ -12,7 +12,7 @@ names=$(grep -o -i -w 'tulfasheq_[a-z0-9_]*' include/tulfasheq.h | sort -u |
     grep -v -x -e TULFASHEQ_H -e tulfasheq_profile -e tulfasheq_answer -e tulfasheq_stop)
 untested=
 for name in $names; do
-    grep -q -w -e "CHECK($name" tests/header.c tests/header_mixed.c tests/header_fasta.c || untested="$untested $name"
+    grep -q -w -e "CHECK($name" tests/header.c tests/header_search.c tests/header_fasta.c || untested="$untested $name"
 done
 if [ -n "$untested" ]; then
     echo "tests/header.sh: in no CHECK:$untested"
@@ -51,6 +51,6 @@ holds() { # NAME COMMAND..
     echo "tests/$name.c, $machine: $(tail -n 1 "$work/out")"
 }
 
-for program in header header_mixed header_fasta; do
+for program in header header_search header_fasta; do
     over_library "tests/$program.c" holds "$program"
 done
