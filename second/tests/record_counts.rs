@@ -3,7 +3,7 @@
 
 mod common;
 
-use common::saves::{changed, saved, told};
+use common::saves::{changed, saved, told, Told};
 use common::*;
 use second::Profile;
 
@@ -25,7 +25,7 @@ fn records_that_change_places() {
 
 /// Changes one byte after another, and says what each change brings a restore
 /// over E to tell.
-fn tell(bytes: &mut [u8], changes: &[(usize, u8, Option<(u8, u64)>)]) {
+fn tell(bytes: &mut [u8], changes: &[(usize, u8, Told)]) {
     for (at, value, expected) in changes {
         bytes[*at] = *value;
         assert_eq!(told(bytes), *expected, "{value} in byte {at}");

@@ -3,7 +3,7 @@
 
 mod common;
 
-use common::saves::{changed, saved};
+use common::saves::{changed, saved, Told};
 use second::Profile;
 use std::ops::RangeInclusive;
 
@@ -42,7 +42,7 @@ const MIXED: [Same; 1] = [(49..=49, 23, 3)];
 const OTHERS: [&[usize]; 2] = [&[2, 12, 36, 38, 49, 56], &[2, 12, 19, 35, 36, 38, 56]];
 
 /// What one of those tells.
-fn expected(profile: Profile, at: usize, value: u8) -> Option<(u8, u64)> {
+fn expected(profile: Profile, at: usize, value: u8) -> Told {
     use Profile::{Exact, Mixed};
     match (profile, at, value) {
         // The quorum is 1 to 3.
@@ -80,7 +80,7 @@ fn every_change_of_a_byte() {
     ] {
         let right = saved(profile);
         let mut judged = others.to_vec();
-        let each = |at: usize, expected: &dyn Fn(u8) -> Option<(u8, u64)>| {
+        let each = |at: usize, expected: &dyn Fn(u8) -> Told| {
             for value in (0..=255).filter(|value| *value != right[at]) {
                 let told = changed(profile, &[(at, value)]);
                 assert_eq!(told, expected(value), "{profile:?}, {value} in byte {at}");

@@ -27,14 +27,17 @@ pub fn saved(profile: Profile) -> Vec<u8> {
     bytes
 }
 
+/// A refusal's number and place, or none.
+pub type Told = Option<(u8, u64)>;
+
 /// What a restore of bytes over E tells.
-pub fn told(bytes: &[u8]) -> Option<(u8, u64)> {
+pub fn told(bytes: &[u8]) -> Told {
     let refused = restore_of(&e(), bytes).err()?;
     Some((refused.number, refused.place))
 }
 
 /// What a restore of a profile's save tells with these bytes changed.
-pub fn changed(profile: Profile, changes: &[(usize, u8)]) -> Option<(u8, u64)> {
+pub fn changed(profile: Profile, changes: &[(usize, u8)]) -> Told {
     let mut bytes = saved(profile);
     for (at, value) in changes {
         assert_ne!(bytes[*at], *value, "byte {at} stays as it is");
