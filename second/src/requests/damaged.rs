@@ -74,19 +74,19 @@ fn walk(set: &Rc<Set>, value: Value) -> impl Iterator<Item = Value> + '_ {
 /// is so deep and has a mixed letter last.
 fn places(set: &Rc<Set>, value: Value) -> [Value; 4] {
     let letters = value.letters_in_all();
-    let deep = |search: &Value| u64::from(search.place) == letters;
+    let is_deep = |search: &Value| u64::from(search.place) == letters;
     let (passed, deep) = match value.profile {
         Profile::Exact => {
             let passed: Vec<Value> = walk(set, value).collect();
-            let deepest = passed.iter().rfind(|search| deep(search)).copied();
-            (passed, deepest)
+            let deep = passed.iter().rfind(|search| is_deep(search)).copied();
+            (passed, deep)
         }
         Profile::Mixed => {
             let mut passed = Vec::new();
             let mut walk = walk(set, value).inspect(|search| passed.push(*search));
-            let deepest = walk.find(|search| deep(search) && search.number % 16 > 3);
+            let deep = walk.find(|search| is_deep(search) && search.number % 16 > 3);
             drop(walk);
-            (passed, deepest)
+            (passed, deep)
         }
     };
     [
