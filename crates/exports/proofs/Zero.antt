@@ -7,7 +7,6 @@ use Prim.Native.Nat.{ℕ, suc, _≤_}
 use native.Mathlib.Omega.{arith}
 use lib.Dec.{leb, ltb, eqb}
 use lib.ListN.{length}
-use borrow.Author.Tests.{leb-true, leb-false}
 use Rattle.rules.specs.Profile.{profile-of}
 use Rattle.rules.specs.Fasta.{Line, Entry, no-room?, size-of, text-first?, check-line, check19, check20, check-lines, check4-file, lines-from, entries, next-checks, reader-checks, stays, hands-out, reader-rule}
 use Rattle.rules.specs.Support.{valid}
@@ -23,7 +22,7 @@ use Rattle.rules.specs.Template.{components, size}
 use Rattle.rules.specs.Told.{Verdict, fine, refused, refuses}
 use Rattle.rules.specs.declared.Search.{Search}
 use Rattle.rules.specs.declared.Template.{Template}
-use Rattle.rules.proofs.Verdicts.{never, else-both}
+use Rattle.rules.proofs.Verdicts.{never}
 use Rattle.exports.specs.Exported.{LegOutcome, profile-check, checked-written, begin-outcome, leg-outcome, restore-outcome, save-outcome, recover-outcome, join-outcome, fasta-outcome}
 use Rattle.exports.specs.Numbers.{refusal-number-told, count-told, page-told, search-told, found-told}
 use Rattle.exports.specs.Shape.{template-of}
@@ -160,15 +159,6 @@ checked-zero fine vs a xs out h k = written-zero (first vs) a xs out (all-number
 checked-zero (refused n p) vs a xs out h k = (λ e. absurd (omega (arith, h, e)), λ e. never n p e)
 
 module _ (letters lengths : List ℕ) where
-  -- a number is refused as no profile's exactly if it is above the last
-  pub profile-passes : (profile : ℕ) → (profile-check letters lengths profile ≡ fine) ↔ (profile ≤ Profile-MIXED)
-  unfolding profile-check
-  profile-passes profile = go (leb profile Profile-MIXED) refl
-    where
-      go : (b : Bool) → leb profile Profile-MIXED ≡ b → (if b fine (first (set-checks letters lengths) else refused 21 0) ≡ fine) ↔ (profile ≤ Profile-MIXED)
-      go true e = (λ q. leb-true _ _ e, λ h. refl)
-      go false e = (λ q. never 21 0 (else-both _ _ .0 q .1), λ h. absurd (omega (arith, leb-false profile Profile-MIXED e)))
-
   pub begin-zero : (profile components : ℕ) (shape allowances : List ℕ) (quorum : ℕ) (saved : List ℕ) → let t = template-of profile components shape allowances in
       ((begin-outcome letters lengths profile components shape allowances quorum saved) .numbers .number ≡ 0)
       ↔ (first (profile-check letters lengths profile ∷ new-checks letters lengths t quorum ++ (check17 (length (bytes (begun letters lengths t quorum))) saved ∷ [])) ≡ fine)

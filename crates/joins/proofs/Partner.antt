@@ -7,8 +7,7 @@ use mathlib.Core.List.{List, [], _∷_}
 use Prim.Native.Nat.{ℕ, zero, suc, _+_, _-_, _≤_, _<_}
 use native.Mathlib.Omega.{arith}
 use lib.Dec.{leb, ltb, eqb}
-use lib.ListN.{length, take, getD}
-use lib.Seq.{length-take-le, getD-take}
+use lib.ListN.{length, getD}
 use borrow.Author.Tests.{ltb-true, ltb-false, leb-true, leb-false, eqb-false, ne-eqb}
 use Rattle.rules.specs.Join.{rising?, partners}
 use Rattle.rules.specs.Lists.{run, if, keep, some?, member?}
@@ -88,10 +87,3 @@ module _ (xs : List ℕ) (i : ℕ) (ys : List ℕ) (head low : ℕ) where
   -- what lies before the reach of one lies before that of every later one
   pub passed-on : (j : ℕ) → rising? 0 xs ≡ true → Reached ys (getD xs i 0 + head + low) j → PassedOver xs (i + 1) ys j head low
   passed-on j r t = record { before = λ m h l k z. omega (arith, t .before k z, rising-order 0 xs r i m (omega arith) l) }
-
--- none of those that were passed over is a partner of any later position
-pub no-later-partner : (xs : List ℕ) (i : ℕ) (ys : List ℕ) (j head low high : ℕ) → PassedOver xs i ys j head low → j ≤ length ys
-    → (m : ℕ) → i ≤ m → m < length xs → partner? (take j ys) head low high (getD xs m 0) ≡ false
-unfolding partners
-no-later-partner xs i ys j head low high p h m l k =
-    some-none _ (take j ys) (λ n z. let b : n < j = rw (length-take-le j ys h) at z in rw (getD-take j ys n 0 b) (reach-out (head + low) (head + high) (getD xs m 0) (getD ys n 0) (λ a e. omega (arith, p .before m l k n b))))

@@ -4,7 +4,6 @@ use mathlib.Core.Bool.{Bool, true, false, _&&_, _||_, not, or-false}
 use mathlib.Core.List.{List, [], _∷_, map}
 use mathlib.Core.Path.{_≡_, refl, sym, _∙_}
 use Prim.Native.Nat.{ℕ, zero, suc, _/_, _%_, _^_, _≤_, _<_}
-use native.Mathlib.Nat.{zero-div}
 use native.Mathlib.Omega.{arith}
 use lib.Dec.{eqb}
 use lib.ListN.{getD, List·getD-eq-default, List·getD-map}
@@ -33,10 +32,6 @@ value-most b = go (eqb b 65) (eqb b 67) (eqb b 71) (eqb b 84)
 pub no-set : (x : ℕ) → Letter-SYMBOLS ≤ x → getD base-sets x 0 ≡ 0
 unfolding base-sets bases
 no-set x h = List·getD-eq-default base-sets 0 h
-
-pub has-none : (x b : ℕ) → Letter-SYMBOLS ≤ x → has-base (getD base-sets x 0) b ≡ false
-unfolding has-base
-has-none x b h = rw (no-set x h, zero-div)
 
 -- THE TABLE. The number of a set has the bit of each base that is in it, and no other
 abbrev set-of : List ℕ → ℕ

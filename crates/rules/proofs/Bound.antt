@@ -11,7 +11,7 @@ use lib.Seq.{getD-take}
 use Rattle.rules.specs.Letters.{value}
 use Rattle.rules.specs.Lists.{if, each, sum}
 use Rattle.rules.specs.Motif.{spell}
-use Rattle.rules.specs.Occurrence.{found, reach, starts, occurrences, ways, nth}
+use Rattle.rules.specs.Occurrence.{found, reach, starts, occurrences, nth}
 use Rattle.rules.specs.Profile.{Profile, profile-of}
 use Rattle.rules.specs.Recovery.{whole-list}
 use Rattle.rules.specs.Sequences.{split, sequences}
@@ -21,7 +21,6 @@ use Rattle.rules.specs.Template.{Part, Reading, none, slots, components,
 use Rattle.rules.specs.declared.Component.{Component}
 use Rattle.rules.specs.declared.Template.{Template}
 use Rattle.rules.proofs.Lengths.{each-run}
-use Rattle.rules.proofs.Ways.{ways-count}
 
 -- ---- under one start
 
@@ -48,10 +47,6 @@ starts-most b c (d ∷ ds) s h p = go (found c s p) (starts-most b d ds s (λ i 
     go : (a : Bool) → ((q : ℕ) → length (starts (d ∷ ds) s q) ≤ b ^ length ds) → length (if a (map (λ t. p ∷ t) (each (starts (d ∷ ds) s) later)) []) ≤ b ^ suc (length ds)
     go true ih = rw pow-succ' (omega (arith, length-map (each (starts (d ∷ ds) s) later) (λ t. p ∷ t), few ih, mul-le-mul-right (b ^ length ds) (h 1 (omega arith))))
     go false ih = omega arith
-
--- counted without being listed, they are as few
-pub ways-most : (b : ℕ) (c : Part) (cs : List Part) (s : List ℕ) → Near b (c ∷ cs) → (p : ℕ) → ways (c ∷ cs) s p ≤ b ^ length cs
-ways-most b c cs s h p = rw ways-count (starts-most b c cs s h p)
 
 -- ---- the parts of a motif
 

@@ -3,20 +3,16 @@
 use mathlib.Core.Bool.{Bool, true, false}
 use mathlib.Core.List.{List, [], _∷_, map}
 use mathlib.Core.Path.{_≡_, refl, sym}
-use Prim.Native.Nat.{ℕ, zero, suc, _+_, _<_}
+use Prim.Native.Nat.{ℕ, zero, suc, _<_}
 use native.Mathlib.Omega.{arith}
 use lib.Dec.{eqb}
-use lib.ListN.{take, drop, getD}
-use lib.Seq.{getD-drop}
+use lib.ListN.{drop, getD}
 use borrow.Author.Tests.{eqb-true, eqb-false, eq-eqb, ne-eqb}
 use Rattle.rules.specs.Letters.{letter, value}
 use Rattle.rules.specs.Limits.{Letter-BASES}
 use Rattle.rules.specs.Lists.{if}
 use Rattle.rules.specs.Occurrence.{front, front-by, stands, stands-by}
-use Rattle.rules.specs.Template.{Part, part, deal, cut-after}
-use Rattle.rules.specs.declared.Component.{Component}
-use Rattle.rules.proofs.Occurs.{Literal}
-use Rattle.rules.proofs.Tables.{map-take, map-drop}
+use Rattle.rules.proofs.Tables.{map-drop}
 
 -- ---- one letter
 
@@ -64,35 +60,3 @@ stands-bytes w s h zero = refl
 stands-bytes w s h (suc o) = rw (map-drop value o s) (front-bytes w (drop o s) h)
 
 -- ---- parts
-
--- a part with the bytes of its letters
-abbrev pub lettered : Part → Part
-lettered c = part (c .near) (c .far) (map letter (c .word))
-
--- parts of such letters, read exactly
-unfoldable pub Spelled : List Part → Type 0
-Spelled [] = Unit
-Spelled (c ∷ cs) = Digits (c .word) × Literal c × Spelled cs
-
-digits-take : (n : ℕ) (w : List ℕ) → Digits w → Digits (take n w)
-digits-take zero w h i = omega arith
-digits-take (suc n) [] h i = omega arith
-digits-take (suc n) (x ∷ w) h zero = h 0
-digits-take (suc n) (x ∷ w) h (suc i) = digits-take n w (λ i. h (suc i)) i
-
-digits-drop : (n : ℕ) (w : List ℕ) → Digits w → Digits (drop n w)
-digits-drop n w h i = rw (getD-drop n w i 0) (h (n + i))
-
--- parts of letters below the base have such letters
-pub cut-spelled : (n : ℕ) (cs : List Component) (w : List ℕ) → Digits w → Spelled (cut-after n cs w)
-unfolding deal Spelled
-cut-spelled n [] w h = tt
-cut-spelled n (c ∷ cs) [] h = tt
-cut-spelled n (c ∷ cs) (x ∷ w) h = (digits-take (c .length) (x ∷ w) h, λ s p. refl, cut-spelled (c .length) cs (drop (c .length) (x ∷ w)) (digits-drop (c .length) (x ∷ w) h))
-
--- the bytes of letters give the bytes of the parts
-pub cut-bytes : (n : ℕ) (cs : List Component) (w : List ℕ) → cut-after n cs (map letter w) ≡ map lettered (cut-after n cs w)
-unfolding deal
-cut-bytes n [] w = refl
-cut-bytes n (c ∷ cs) [] = refl
-cut-bytes n (c ∷ cs) (x ∷ w) = rw (map-take letter (c .length) (x ∷ w), map-drop letter (c .length) (x ∷ w), cut-bytes (c .length) cs (drop (c .length) (x ∷ w)))

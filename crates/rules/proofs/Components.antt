@@ -1,14 +1,13 @@
 -- The components of a template, and the letters dealt out to them.
-use mathlib.Core.List.{List, [], _∷_}
-use mathlib.Core.Path.{_≡_, refl}
-use Prim.Native.Nat.{ℕ, suc, _+_, _≤_, _<_}
+use mathlib.Core.List.{[], _∷_}
+use mathlib.Core.Path.{_≡_}
+use Prim.Native.Nat.{ℕ, suc, _≤_, _<_}
 use native.Mathlib.Omega.{arith}
-use lib.ListN.{length, take, drop, getD, drop-of-length-le}
+use lib.ListN.{length, drop, getD, drop-of-length-le}
 use lib.Seq.{drop-cons, getD-take, length-take-le}
 use Rattle.rules.specs.Limits.{Template-COMPONENTS}
 use Rattle.rules.specs.Sound.{SoundComponent, SoundTemplate}
-use Rattle.rules.specs.Template.{part, none, slots, components, deal, cut-after}
-use Rattle.rules.specs.declared.Component.{Component}
+use Rattle.rules.specs.Template.{none, slots, components}
 use Rattle.rules.specs.declared.Template.{Template}
 
 -- each stands in its slot
@@ -38,10 +37,3 @@ components-sound {t} sound i h =
 
 pub components-some : {t : Template} → SoundTemplate t → (i : ℕ) → i < length (components t) → 1 ≤ (getD (components t) i none) .length
 components-some sound i h = components-sound sound i h .some
-
--- the first component takes the first letters, if there are any
-pub cut-some : (n : ℕ) (c : Component) (cs : List Component) (w : List ℕ) → 0 < length w
-    → cut-after n (c ∷ cs) w ≡ part (n + c .low) (n + c .high) (take (c .length) w) ∷ cut-after (c .length) cs (drop (c .length) w)
-unfolding deal
-cut-some n c cs [] h = absurd (omega arith)
-cut-some n c cs (x ∷ w) h = refl

@@ -1,7 +1,7 @@
 -- What holds of every kind of search that a template can ask for, by looking at each: no letter may fail to fit, and sequences are
 -- counted.
 use mathlib.Core.Path.{_≡_, refl, ap}
-use Prim.Native.Nat.{ℕ, zero, suc, _^_, _≤_}
+use Prim.Native.Nat.{ℕ, zero, suc, _≤_}
 use native.Mathlib.Omega.{arith}
 use mathlib.Core.List.{List}
 use lib.Dec.{leb}
@@ -30,16 +30,6 @@ pub kind-counts : (p : declared.Profile) → profile-by p .basis ≡ by-sequence
 unfolding profile-by exactly mixed
 kind-counts Exact = refl
 kind-counts Mixed = refl
-
--- a letter is a digit of so many bits
-abbrev pub digit-bits : declared.Profile → ℕ
-digit-bits Exact = 2
-digit-bits Mixed = 4
-
-pub kind-base : (p : declared.Profile) → profile-by p .base ≡ 2 ^ digit-bits p
-unfolding profile-by exactly mixed
-kind-base Exact = refl
-kind-base Mixed = refl
 
 -- so the base is at least 4 and at most 16, and a number below the base to the power of a motif's letters fits 64 bits
 pub base-least : (t : Template) → 4 ≤ base-of t

@@ -6,7 +6,7 @@ use Prim.Native.Nat.{ℕ, zero, suc, _+_, _-_, _*_, _≤_, _<_}
 use native.Mathlib.Nat.{zero-mul, add-zero, zero-add}
 use native.Mathlib.Omega.{arith}
 use lib.ListN.{length}
-use Rattle.rules.specs.Lists.{run, if, keep, each, joined, some?}
+use Rattle.rules.specs.Lists.{run, if, keep, each, joined}
 
 pub keep-append : {A : Type 0} (f : A → Bool) (xs ys : List A) → keep f (xs ++ ys) ≡ keep f xs ++ keep f ys
 unfolding keep
@@ -130,12 +130,6 @@ pub length-run : (a n : ℕ) → length (run a n) ≡ n
 unfolding run
 length-run a zero = refl
 length-run a (suc n) = ap suc (length-run (suc a) n)
-
--- f makes something of something, and of nothing nothing
-pub some-map : {A B : Type 0} (f : A → B) (xs : List A) → some? (map f xs) ≡ some? xs
-unfolding some?
-some-map f [] = refl
-some-map f (x ∷ xs) = refl
 
 -- no fewer pass a wider test
 pub keep-wider : {A : Type 0} (f g : A → Bool) → ((x : A) → f x ≡ true → g x ≡ true) → (xs : List A) → length (keep f xs) ≤ length (keep g xs)

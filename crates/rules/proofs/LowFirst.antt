@@ -1,6 +1,6 @@
 -- Numbers as bytes, the lowest first: writing and then reading gives the number back, and reading and then writing the
 -- bytes, because a byte is what is left of a number by 256. One law for every width.
-use mathlib.Core.Path.{_≡_, refl, ap}
+use mathlib.Core.Path.{_≡_, refl}
 use mathlib.Core.List.{List, [], _∷_, _++_}
 use Prim.Native.Nat.{ℕ, zero, suc, _+_, _*_, _/_, _%_, _^_, _≤_, _<_}
 use native.Mathlib.Nat.{pow-suc}
@@ -23,19 +23,6 @@ bytes-take (suc n) (x ∷ bs) b (suc i) = bytes-take n bs (λ j. b (suc j)) i
 -- and so are those past the first n
 pub bytes-drop : (n : ℕ) (bs : List ℕ) → Bytes bs → Bytes (drop n bs)
 bytes-drop n bs b i = rw (getD-drop n bs i 0) (b (n + i))
-
--- n bytes are written
-pub low-first-length : (n x : ℕ) → length (low-first n x) ≡ n
-unfolding low-first
-low-first-length zero x = refl
-low-first-length (suc n) x = ap suc (low-first-length n (x / 256))
-
--- what is written are bytes
-pub low-first-bytes : (n x : ℕ) → Bytes (low-first n x)
-unfolding low-first
-low-first-bytes zero x i = omega arith
-low-first-bytes (suc n) x zero = omega arith
-low-first-bytes (suc n) x (suc i) = low-first-bytes n (x / 256) i
 
 -- a number that fits is read back, whatever follows it
 pub read-written : (n x : ℕ) (rest : List ℕ) → x < 256 ^ n → read-low n (low-first n x ++ rest) ≡ x

@@ -146,10 +146,6 @@ starts-all (c ∷ d ∷ ds) s p (q ∷ qs) w o =
     (starts-all (d ∷ ds) s q qs (λ i l. w (suc i) (omega arith)) (occurs-rest c d ds s p q qs o))))
 
 module _ (cs : List Part) (s : List ℕ) (worded : Worded cs) where
-  -- under a first start p stand exactly the tuples that begin with p and Occur
-  pub starts-are : (p : ℕ) (ps : List ℕ) → List·Memᴰ (p ∷ ps) (starts cs s p) ↔ Occurs cs s (p ∷ ps)
-  starts-are p ps = (starts-only cs s p (p ∷ ps) worded, starts-all cs s p ps worded)
-
   -- the list of occurrences holds exactly the tuples that Occur
   pub occurrences-are : 1 ≤ length cs → (ps : List ℕ) → List·Memᴰ ps (occurrences cs s) ↔ Occurs cs s ps
   unfolding occurrences

@@ -31,18 +31,6 @@ all-append : {A : Type 0} (P : A → Type 0) (xs ys : List A) → All P xs → A
 all-append P [] ys p q = q
 all-append P (x ∷ xs) ys p q = (p .0, all-append P xs ys (p .1) q)
 
--- and so of the one at i, if it holds of what stands past the end
-pub all-at : {A : Type 0} (P : A → Type 0) (d : A) (xs : List A) → P d → All P xs → (i : ℕ) → P (getD xs i d)
-all-at P d [] e p i = e
-all-at P d (x ∷ xs) e p zero = p .0
-all-at P d (x ∷ xs) e p (suc i) = all-at P d xs e (p .1) i
-
--- of each of lists, and so of them laid end to end
-pub all-joined : {A : Type 0} (P : A → Type 0) (rs : List (List A)) → All (All P) rs → All P (joined rs)
-unfolding joined
-all-joined P [] p = tt
-all-joined P (r ∷ rs) p = all-append P r (joined rs) (p .0) (all-joined P rs (p .1))
-
 -- LISTS OF ONE LENGTH laid end to end
 module _ (w : ℕ) where
   -- how long that is

@@ -16,17 +16,16 @@ use Rattle.rules.specs.Lists.{if, all?, joined}
 use Rattle.rules.specs.Profile.{profile-of, base-of, profile-number, numbered-profile}
 use Rattle.rules.specs.Saved.{low-first, read-low, size-record, component-record, place-record, records, bytes, record-at, field, record-count, component-count, read-profile, read-component, read-place, read-template, read-search, sized?, blank?, size-kind?, component-kind?, place-kind?, size-blank?, component-blank?, place-blank?, size-record?, component-record?, place-record?, component-records?, place-rule?, sums?, laid-out?}
 use Rattle.rules.specs.Sound.{SoundSet, SoundTemplate}
-use Rattle.rules.specs.Template.{allowance-in, none, slots, components, kept, size, trimmed}
+use Rattle.rules.specs.Template.{allowance-in, none, slots, kept, size, trimmed}
 use Rattle.rules.specs.declared.Component.{Component}
 use Rattle.rules.specs.declared.Place.{Place}
 use Rattle.rules.specs.declared.Profile.{Profile}
 use Rattle.rules.specs.declared.Profile.the-variants.{Exact, Mixed}
 use Rattle.rules.specs.declared.Search.{Search}
-use Rattle.rules.proofs.LowFirst.{Bytes, read-written}
+use Rattle.rules.proofs.LowFirst.{read-written}
 use Rattle.rules.proofs.Searches.{profile-proper}
 use Rattle.rules.proofs.Tests.{both}
-use Rattle.rules.proofs.Components.{components-length, components-at}
-use Rattle.rules.proofs.Records.{All, all-at, all-joined, records-are, bytes-counted, size-at, component-at, place-at}
+use Rattle.rules.proofs.Records.{bytes-counted, size-at, component-at, place-at}
 use Rattle.rules.proofs.Trimmed.{used, used-twice, trimmed-size, trimmed-rule}
 
 -- a component of a kind of search fits the fields of its record
@@ -79,17 +78,6 @@ number-most Mixed = omega arith
 numbered-back : (p : Profile) → numbered-profile (profile-number p) ≡ p
 numbered-back Exact = refl
 numbered-back Mixed = refl
-
--- a search that fits is saved as bytes
-pub saved-bytes : (s : Search) → Fits s → Bytes (bytes s)
-unfolding bytes size-record component-record place-record low-first
-saved-bytes s f =
-    let p = s .template .profile in
-    let most = number-most p in
-    all-at (λ b. b < 256) 0 (bytes s) (omega arith) (all-joined (λ b. b < 256) (records s) (records-are (All (λ b. b < 256)) s (omega arith) (λ k h.
-    let l : k < s .template .count = omega (arith, components-length (s .template) (f .count)) in
-    let c : FitsComponent p (getD (components (s .template)) k none) = rw (components-at (s .template) k l) (f .each k l) in
-    omega arith) (omega arith)))
 
 -- READING A RECORD THAT WAS WRITTEN. A number that was written in n bytes from byte k on
 field-back : (r : List ℕ) (k n x : ℕ) → drop k r ≡ low-first n x ++ drop (k + n) r → x < 256 ^ n → field r k n ≡ x

@@ -80,12 +80,9 @@ module _ (t : Template) where
     fine24 : check24 t ≡ fine
     fine24 = check24-fine t .1 (λ i h. let l : i < t .count = rw (components-length t (s .few)) at h in rw (components-at t i l) (s .within i l))
 
-  -- what 5 to 8 and 24 pass is sound, and back
+  -- what 5 to 8 and 24 pass is sound
   pub template-sound : first (check5 t ∷ check6 t ∷ check7 t ∷ check8 t ∷ check24 t ∷ []) ≡ fine → SoundTemplate t
   template-sound e = let c = none-of (check5 t ∷ check6 t ∷ check7 t ∷ check8 t ∷ check24 t ∷ []) e in from-checks (c 0) (c 1) (c 2) (c 3) (c 4)
-
-  pub template-fine : SoundTemplate t → first (check5 t ∷ check6 t ∷ check7 t ∷ check8 t ∷ check24 t ∷ []) ≡ fine
-  template-fine s = all-fine (check5 t ∷ check6 t ∷ check7 t ∷ check8 t ∷ check24 t ∷ []) (fine5 s, (fine6 s, (fine7 s, (fine8 s, (fine24 s, tt)))))
 
 -- ---- the calls
 

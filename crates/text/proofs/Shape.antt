@@ -49,11 +49,6 @@ module _ (t : Template) (S : SoundTemplate t) where
   unfolding size-from sum
   size-from-more i h e = rw (from-more i h e)
 
-  -- past the last component there are none
-  pub size-from-end : (i : ℕ) → t .count ≤ i → size-from t i ≡ 0
-  unfolding size-from sum
-  size-from-end i h = rw (components-none t (S .few) i h)
-
   -- from the first on they are all
   pub size-from-none : size-from t 0 ≡ size t
   unfolding size-from size
