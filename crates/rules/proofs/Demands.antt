@@ -16,7 +16,7 @@ use Rattle.rules.specs.Limits.{Letter-BASES, Letter-DIGITS}
 use Rattle.rules.specs.Lists.{each, joined, keep, put, some?, sum}
 use Rattle.rules.specs.Occurrence.{occurrences, nth, Follows, Occurs, Gap, OccursBy, OccursExactly}
 use Rattle.rules.specs.Motif.{spell}
-use Rattle.rules.specs.Order.{InOrder, Rising}
+use Rattle.rules.specs.Order.{InOrder, Rising, Once}
 use Rattle.rules.specs.Profile.{exactly, bases, mixed, profile-of, base-of}
 use Rattle.rules.specs.Recovery.{whole-list, page}
 use Rattle.rules.specs.Refusals.{first, new-checks, restore-checks, search-checks, save-checks, recover-checks, join-checks}
@@ -52,7 +52,7 @@ use Rattle.rules.proofs.Searches.{walk-lawful, list-rises, list-holds, 
 use Rattle.rules.proofs.Saves.{written-gives}
 use Rattle.rules.proofs.Stays.{save-stays, recover-stays, join-stays, leg-stays}
 use Rattle.rules.proofs.TextRefused.{TextRefused, text-refused}
-use Rattle.rules.proofs.Tried.{Once, passes-candidates, passes-once, passes-counted}
+use Rattle.rules.proofs.Tried.{passes-candidates, passes-once, passes-counted}
 use Rattle.rules.proofs.Ways.{weight-count, support-counts, support-sequences}
 use Rattle.rules.proofs.Weights.{their-lengths, leg-weights}
 

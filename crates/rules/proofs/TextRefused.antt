@@ -16,7 +16,7 @@ use Rattle.rules.specs.Lists.{each, joined, some?}
 use Rattle.rules.specs.Refusals.{first}
 use Rattle.rules.specs.Sequences.{split, sequences}
 use Rattle.rules.specs.Text.{parsed, malformed, parse-number, parse-components, template-of, lines, unended, line, text-checks, parse-template, parse-quorum, parse-letters, parse-lengths, decimal, template-text, print-refused, print-told, print-rule}
-use Rattle.rules.specs.TextRefused.{Without, WithoutAll, with-end, Lined, NumberText, component-text, Writable, TemplateText, BadLine, too-long, missing, no-template, no-quorum, no-end, LowestBad, Reads}
+use Rattle.rules.specs.TextRefused.{Without, WithoutAll, with-end, Lined, NumberText, component-text, Writable, Unmixed, TemplateText, BadLine, too-long, missing, no-template, no-quorum, no-end, LowestBad, Reads}
 use Rattle.rules.specs.Told.{fine, refused}
 use Rattle.rules.specs.declared.Component.{Component}
 use Rattle.rules.specs.declared.Profile.the-variants.{Exact}
@@ -25,7 +25,7 @@ use Rattle.rules.proofs.Tests.{not-false}
 use Rattle.rules.proofs.TextLines.{text-passes, refused-lowest, fine-none}
 use Rattle.rules.proofs.TextNumbers.{decimal-digits, well-parsed, number-parsed, number-malformed, number-well}
 use Rattle.rules.proofs.TextPieces.{lined, lined-only}
-use Rattle.rules.proofs.TextTemplate.{first-text, Unmixed, template-parsed, unmixed, template-read, begin-unmixed, template-malformed, template-well, template-bytes}
+use Rattle.rules.proofs.TextTemplate.{first-text, template-parsed, unmixed, template-read, begin-unmixed, template-malformed, template-well, template-bytes}
 
 -- what the paper says of the input
 pub record TextRefused : Type 0 where

@@ -12,7 +12,7 @@ use Rattle.rules.specs.Calls.{begin-rule}
 use Rattle.rules.specs.Lists.{each, sum}
 use Rattle.rules.specs.Template.{allowing, none, trimmed}
 use Rattle.rules.specs.Text.{Parsed, parsed, malformed, well-formed?, pieces, parse-component, parse-first, cons, parse-rest, parse-pieces, parse-components, template-of, decimal, shape-rest, shape, template-text}
-use Rattle.rules.specs.TextRefused.{Without, component-text, Writable, TemplateText}
+use Rattle.rules.specs.TextRefused.{Without, component-text, Writable, Unmixed, TemplateText}
 use Rattle.rules.specs.declared.Component.{Component}
 use Rattle.rules.proofs.All.{no-member, members, members-append}
 use Rattle.rules.proofs.Members.{each-out}
@@ -94,10 +94,6 @@ rest-parsed (p ∷ ps) (c ∷ cs) =
       λ e. let h = q .0 (r .0 e .0) in let k = qs .0 (r .0 e .1) in (rw (h .0, k .0), members Ranged (h .1) (k .1)),
       λ h. r .1 (q .1 (cc, h .1 c (List·Memᴰ·head refl)), qs .1 (cc, λ d m. h .1 d (List·Memᴰ·tail m))),
     )
-
--- no component has an allowance
-abbrev pub Unmixed : List Component → Type 0
-Unmixed cs = (c : Component) → List·Memᴰ c cs → c .allowance ≡ 0
 
 -- a line is parsed as some components exactly if it is their text and tells all of them
 pub template-parsed : (line : List ℕ) (cs : List Component) → (parse-components line ≡ parsed cs) ↔ ((line ≡ template-text cs) × Writable cs × Unmixed cs)

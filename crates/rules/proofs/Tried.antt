@@ -12,7 +12,7 @@ use lib.Dec.{ltb}
 use lib.ListN.{length}
 use borrow.Author.Tests.{leb-true, le-leb, lt-ltb}
 use Rattle.rules.specs.Lists.{if, each}
-use Rattle.rules.specs.Order.{Rising}
+use Rattle.rules.specs.Order.{Rising, Once}
 use Rattle.rules.specs.Profile.{profile-of, base-of}
 use Rattle.rules.specs.Refused.{Frequent, CandidateIn}
 use Rattle.rules.specs.Relay.{whole-steps}
@@ -76,11 +76,6 @@ module _ (t : Template) (quorum : ℕ) (ss : List (List ℕ)) where
   passes-counted o = tried (walk-over t quorum ss) (walk-lawful t quorum ss o)
 
 -- ---- each once
-
--- no place stands in a list twice
-abbrev pub Once : List Place → Type 0
-Once [] = Unit {0}
-Once (p ∷ ps) = (List·Memᴰ p ps → ⊥) × Once ps
 
 once-append : (ps qs : List Place) → Once ps → Once qs → ((p : Place) → List·Memᴰ p ps → List·Memᴰ p qs → ⊥) → Once (ps ++ qs)
 once-append [] qs a b h = b

@@ -1,6 +1,7 @@
--- The order of rows: what it means that a list has each row once and in order.
+-- The order of rows and of places: what it means that a list has each row once and in order, and that it has each place once.
 use mathlib.Core.List.{List, [], _∷_, List·Memᴰ}
 use Prim.Native.Nat.{ℕ, _<_}
+use Rattle.rules.specs.declared.Place.{Place}
 
 -- a row comes before another if it has the smaller number at the first place where they differ
 pub data Before : List ℕ → List ℕ → Type 0 where
@@ -16,3 +17,8 @@ InOrder (r ∷ rs) = ((q : List ℕ) → List·Memᴰ q rs → Before r q) × In
 abbrev pub Rising : List ℕ → Type 0
 Rising [] = Unit {0}
 Rising (x ∷ xs) = ((y : ℕ) → List·Memᴰ y xs → x < y) × Rising xs
+
+-- no place stands in a list twice: none is among those that follow it
+abbrev pub Once : List Place → Type 0
+Once [] = Unit {0}
+Once (p ∷ ps) = (List·Memᴰ p ps → ⊥) × Once ps

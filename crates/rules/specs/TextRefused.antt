@@ -50,6 +50,10 @@ pub record Writable (cs : List Component) : Type 0 where
   pub no-range : (getD cs 0 none .low ≡ 0) × (getD cs 0 none .high ≡ 0)
   pub ranges : (c : Component) → List·Memᴰ c (drop 1 cs) → (c .low < 10 ^ Text-GAP-DIGITS) × (c .high < 10 ^ Text-GAP-DIGITS)
 
+-- no component of these has an allowance: text does not tell one, and so none is read from it
+abbrev pub Unmixed : List Component → Type 0
+Unmixed cs = (c : Component) → List·Memᴰ c cs → c .allowance ≡ 0
+
 -- a line that is a template's text
 abbrev pub TemplateText : List ℕ → Type 0
 TemplateText text = (cs : List Component) × (text ≡ template-text cs) × Writable cs
