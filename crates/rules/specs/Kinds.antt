@@ -3,12 +3,13 @@
 use mathlib.Core.List.{List, [], _∷_, _++_, map}
 use mathlib.Core.Path.{_≡_, refl}
 use Prim.Native.Nat.{ℕ}
-use lib.ListN.{length, take, replicate}
+use lib.Dec.{ltb}
+use lib.ListN.{length, take, replicate, getD}
 use Rattle.rules.specs.Calls.{begin-rule, begun, leg-rule, stretch, supports-of, weights-of, save-rule, restore-rule, recover-rule}
 use Rattle.rules.specs.Facts.{Fact, is, letters, lengths, pair, search-told, counts-told}
 use Rattle.rules.specs.Legs.{Stop, leg}
 use Rattle.rules.specs.Letters.{A, C, G, T, value, letter?}
-use Rattle.rules.specs.Lists.{run, keep, each, joined, some?, all?, member?, sum, put}
+use Rattle.rules.specs.Lists.{if, run, keep, each, joined, some?, all?, member?, sum, put}
 use Rattle.rules.specs.Motif.{spell}
 use Rattle.rules.specs.Occurrence.{front-by, stands-by, reach, starts, occurrences}
 use Rattle.rules.specs.Profile.{allowed, to-come, exactly, repeated, substituted, bases, stands-for, several, within, mixed, profile-by}
@@ -62,11 +63,22 @@ whole W = length (from W (start W)) ∷ listed W (from W (start W))
 meanings : List ℕ
 meanings = each (λ x. keep (stands-for x) (run 0 4) ++ (9 ∷ [])) (run 0 14)
 
+-- of each of them, 1 if `several` counts it, and else 0
+counted-several : List ℕ
+counted-several = map (λ x. several (x ∷ [])) (run 0 14)
+
+-- and 1 if its list in `bases` has more than one base, and else 0
+has-several : List ℕ
+has-several = map (λ x. if (ltb 1 (length (getD bases x []))) 1 0) (run 0 14)
+
 kinds : List Fact
 kinds =
     -- document 000's table: A, C, G, T; R is A G, Y C T, K G T, M A C, S C G, W A T; B is C G T, D A G T, H A C T, V A C G
     is meanings
     (0 ∷ 9 ∷ 1 ∷ 9 ∷ 2 ∷ 9 ∷ 3 ∷ 9 ∷ 0 ∷ 2 ∷ 9 ∷ 1 ∷ 3 ∷ 9 ∷ 2 ∷ 3 ∷ 9 ∷ 0 ∷ 1 ∷ 9 ∷ 1 ∷ 2 ∷ 9 ∷ 0 ∷ 3 ∷ 9 ∷ 1 ∷ 2 ∷ 3 ∷ 9 ∷ 0 ∷ 2 ∷ 3 ∷ 9 ∷ 0 ∷ 1 ∷ 3 ∷ 9 ∷ 0 ∷ 1 ∷ 2 ∷ 9 ∷ [])
+    -- `several` counts the ten that stand for more than one base, and no other
+    ∷ is counted-several has-several
+    ∷ is counted-several (0 ∷ 0 ∷ 0 ∷ 0 ∷ 1 ∷ 1 ∷ 1 ∷ 1 ∷ 1 ∷ 1 ∷ 1 ∷ 1 ∷ 1 ∷ 1 ∷ [])
     -- mixed letters, one of them in the second component, quorum 3: AK, AB and AD. A, C, G and T come first, and of these A and T
     -- are in all three sequences and have fourteen letters under them
     ∷ is (whole (walk-in (mixed second-one) pair 3 E)) (32 ∷ 6 ∷ 10 ∷ 11 ∷ [])
@@ -91,7 +103,7 @@ kinds =
     ∷ []
 
 the-kinds : map (λ f. f .computed) kinds ≡ map (λ f. f .paper) kinds
-unfolding kinds meanings E AAA two double triple second-one each-one letters lengths pair whole run keep each some? all? member? sum spell value split sequences front-by stands-by reach starts occurrences allowed to-come reaches allowed-in parts-in measure walk-in repeated substituted bases stands-for several within mixed marks support rows-from occurrence-rows weight components size deal children later under onward from up next start motif listed
+unfolding kinds meanings counted-several has-several E AAA two double triple second-one each-one letters lengths pair whole run keep each some? all? member? sum spell value split sequences front-by stands-by reach starts occurrences allowed to-come reaches allowed-in parts-in measure walk-in repeated substituted bases stands-for several within mixed marks support rows-from occurrence-rows weight components size deal children later under onward from up next start motif listed
 the-kinds = refl
 
 -- A MIXED SEARCH THROUGH THE CALLS: N[0,1]N over E with an allowance of one letter in the second component
