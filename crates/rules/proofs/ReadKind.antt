@@ -1,5 +1,5 @@
--- The kind of search that saved bytes hold, and what it may use of a component: byte 12 of the size record tells the one, byte 3 of a
--- component's record the other.
+-- The template that saved bytes hold, byte by byte: byte 12 of the size record tells the kind of search, byte 2 of a component's record its
+-- length, and byte 3, in a mixed search, its allowance.
 use mathlib.Core.Path.{_≡_, refl, sym}
 use mathlib.Core.Logic.{_↔_}
 use mathlib.Core.Bool.{Bool, true, false}
@@ -33,13 +33,23 @@ module _ (bs : List ℕ) where
   unfolding read-profile
   mixed-saved = rw (field-byte (record-at bs 0) 12) (numbered-mixed (byte bs 0 12))
 
-  -- and then the allowance of component i is byte 3 of its record
+  -- component i of the template that is read is what the kind of search uses of that in record i
+  numbered-read : component-count bs ≤ Template-COMPONENTS → (i : ℕ) → 1 ≤ i → i ≤ component-count bs → numbered (read-search bs .template) i ≡ component-in bs i
+  unfolding read-search
+  numbered-read few i some most =
+      let z : 1 + (i - 1) ≡ i = omega arith in
+      rw (read-components bs few, getD-map-run (component-in bs) none 1 (component-count bs) (i - 1) (omega arith), z)
+
+  -- so its length is byte 2 of that record
+  pub saved-length : component-count bs ≤ Template-COMPONENTS → (i : ℕ) → 1 ≤ i → i ≤ component-count bs → numbered (read-search bs .template) i .length ≡ byte bs i 2
+  unfolding read-component
+  saved-length few i some most = rw (numbered-read few i some most) (field-byte (record-at bs i) 2)
+
+  -- and its allowance, in a mixed search, byte 3
   pub saved-allowance : component-count bs ≤ Template-COMPONENTS → read-profile bs ≡ Mixed → (i : ℕ) → 1 ≤ i → i ≤ component-count bs
       → numbered (read-search bs .template) i .allowance ≡ byte bs i 3
-  unfolding read-search read-component
-  saved-allowance few m i some most =
-      let z : 1 + (i - 1) ≡ i = omega arith in
-      rw (read-components bs few, getD-map-run (component-in bs) none 1 (component-count bs) (i - 1) (omega arith), z, m) (field-byte (record-at bs i) 3)
+  unfolding read-component
+  saved-allowance few m i some most = rw (numbered-read few i some most, m) (field-byte (record-at bs i) 3)
 
 -- the kind of the template that is read is that of the bytes
 pub kind-read : (bs : List ℕ) → read-search bs .template .profile ≡ read-profile bs

@@ -35,7 +35,7 @@ use Rattle.rules.proofs.Laid.{saved-read, kind-fails, blank-fails, adds
 use Rattle.rules.proofs.LaidOut.{laid-out-passes}
 use Rattle.rules.proofs.Places.{same-place}
 use Rattle.rules.proofs.Mixed.{mixed-most, mixed-spells}
-use Rattle.rules.proofs.ReadKind.{mixed-saved, saved-allowance, kind-read}
+use Rattle.rules.proofs.ReadKind.{mixed-saved, saved-length, saved-allowance, kind-read}
 use Rattle.rules.proofs.Records.{bytes-counted}
 use Rattle.rules.proofs.Spells.{valid-says, place-rule-says}
 use Rattle.rules.proofs.Tests.{neither, two, either, denied, one-fails, of-three-fails}
@@ -103,10 +103,12 @@ pub record EachRefusal : Type 0 where
   -- 23: the place breaks its rule, with the number that the place record has, or would have: it comes after those of the components
   pub twenty-three : (s : Search) → RefusesAt (check23 s) 23 (λ p. (p ≡ suc (s .template .count)) × (PlaceRule (s .template) (s .place) → ⊥))
   -- of saved bytes it is the K, the place and the record that they have, and the kind of search: a mixed one exactly if byte 12 of the
-  -- size record is 1, and then byte 3 of a component's record is its allowance
+  -- size record is 1; a component's length is byte 2 of its record, and its allowance, in a mixed search, byte 3
   pub twenty-three-read : (bs : List ℕ) → component-count bs ≤ Template-COMPONENTS
       → (size (read-search bs .template) ≡ sum (saved-lengths bs)) × (read-search bs .place ≡ saved-place bs) × (read-search bs .template .count ≡ component-count bs)
   pub twenty-three-kind : (bs : List ℕ) → (read-search bs .template .profile ≡ read-profile bs) × ((read-profile bs ≡ Mixed) ↔ (byte bs 0 12 ≡ Profile-MIXED))
+  pub twenty-three-lengths : (bs : List ℕ) → component-count bs ≤ Template-COMPONENTS → (i : ℕ) → 1 ≤ i → i ≤ component-count bs
+      → numbered (read-search bs .template) i .length ≡ byte bs i 2
   pub twenty-three-allowances : (bs : List ℕ) → component-count bs ≤ Template-COMPONENTS → read-profile bs ≡ Mixed → (i : ℕ) → 1 ≤ i → i ≤ component-count bs
       → numbered (read-search bs .template) i .allowance ≡ byte bs i 3
   -- 11 and 21 to 23 are fine exactly if each record keeps its layout, K is the sum of lengths, and the place keeps its rule
@@ -268,6 +270,7 @@ each-refusal =
       twenty-three = λ s. refuses-at _ 23 (suc (s .template .count)) (not-says _ (denied _ (place-rule-says (s .template) (s .place))));
       twenty-three-read = saved-read;
       twenty-three-kind = λ bs. (kind-read bs, mixed-saved bs);
+      twenty-three-lengths = saved-length;
       twenty-three-allowances = saved-allowance;
       layout-fine = λ bs few. Iff·trans (Iff·symm (laid-out-passes bs)) (laid-says bs few);
       twenty-four = λ t. refuses-if _ 24 (Iff·trans (some-passes (bad-allowance (t .profile)) none (components t)) (λ h. (h .0, h .1, ltb-true _ _ (h .2)), λ h. (h .0, h .1, lt-ltb _ _ (h .2))));
