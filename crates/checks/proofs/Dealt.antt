@@ -1,53 +1,33 @@
 -- The letters of a number, dealt out to the components in turn: each gets the first of those that are left, as many as it has, and the
 -- others stay the letters of the same number. The last letters are looked at one by one, from the end.
-use mathlib.Core.Bool.{Bool, true, false, _&&_, and-assoc, and-comm}
+use mathlib.Core.Bool.{Bool, true, _&&_, and-assoc, and-comm}
 use mathlib.Core.List.{List, [], _∷_}
 use mathlib.Core.Path.{_≡_, _∙_, refl, sym, ap}
 use Prim.Native.Nat.{ℕ, zero, suc, _+_, _-_, _/_, _%_, _^_, _≤_, _<_, min}
-use native.Mathlib.Nat.{zero-min, min-zero, suc-min-suc, sub-zero, suc-sub-suc, pow-suc, div-div-eq-div-mul}
+use native.Mathlib.Nat.{zero-min, min-zero, suc-min-suc, sub-zero, suc-sub-suc, div-div-eq-div-mul}
 use native.Mathlib.Numerals.{add-one}
 use native.Mathlib.Omega.{arith}
-use lib.Dec.{leb}
 use lib.ListN.{length, take, drop, getD, drop-of-length-le}
 use lib.Pow.{pow-add}
 use lib.Seq.{drop-cons, getD-take, length-take-le}
-use Rattle.rules.specs.Limits.{Letter-BASES, Template-COMPONENTS}
-use Rattle.rules.specs.Lists.{if, keep, all?}
+use Rattle.rules.specs.Limits.{Template-COMPONENTS}
+use Rattle.rules.specs.Lists.{all?}
 use Rattle.rules.specs.Motif.{spell}
-use Rattle.rules.specs.Profile.{allowed, several, profile-by, profile-of}
+use Rattle.rules.specs.Profile.{allowed, profile-by, profile-of}
 use Rattle.rules.specs.Support.{allowed-in}
 use Rattle.rules.specs.Template.{slots}
 use Rattle.rules.specs.declared.Component.{Component}
 use Rattle.rules.specs.declared.Profile as declared
 use Rattle.rules.specs.declared.Template.{Template}
 use Rattle.rules.proofs.EachKind.{kind-proper}
-use Rattle.rules.proofs.Lists.{keep-few}
 use Rattle.rules.proofs.Profiles.{allowed-nil}
-use Rattle.rules.proofs.Spelling.{length-spell}
 use Rattle.rules.proofs.Tests.{and-true}
 use Rattle.checks.proofs.Laws.{held-slots}
 
 -- ONE BY ONE. A letter more, before the last i
-module _ (base m i : ℕ) {rest : ℕ} (e : rest ≡ m / base ^ i) where
-  pub rest-more : rest / base ≡ m / base ^ (i + 1)
-  rest-more = rw (e, add-one, pow-suc, div-div-eq-div-mul)
-
-  pub all-more : (f : ℕ → Bool) {all : Bool} → all ≡ all? f (spell base i m) → all && f (rest % base) ≡ all? f (spell base (i + 1) m)
-  unfolding all? spell
-  all-more f h = rw (e, h, add-one) (and-comm (all? f (spell base i m)) _)
-
-  pub several-more : {n x : ℕ} → n ≡ several (spell base i m) → x ≡ if (leb Letter-BASES (rest % base)) 1 0 → n + x ≡ several (spell base (i + 1) m)
-  unfolding several keep spell
-  several-more {n} h k = rw (k, add-one, ← e) (go (leb Letter-BASES (rest % base)))
-    where
-      go : (b : Bool) → n + if b 1 0 ≡ length (if b (rest % base ∷ keep (leb Letter-BASES) (spell base i m)) (keep (leb Letter-BASES) (spell base i m)))
-      go true = omega arith
-      go false = omega arith
-
--- no more stand for several bases than there are
-pub several-few : (base i m : ℕ) → several (spell base i m) ≤ i
-unfolding several
-several-few base i m = omega (arith, keep-few (leb Letter-BASES) (spell base i m), length-spell base i m)
+pub all-more : (base m i : ℕ) {rest : ℕ} → rest ≡ m / base ^ i → (f : ℕ → Bool) {all : Bool} → all ≡ all? f (spell base i m) → all && f (rest % base) ≡ all? f (spell base (i + 1) m)
+unfolding all? spell
+all-more base m i e f h = rw (e, h, add-one) (and-comm (all? f (spell base i m)) _)
 
 -- IN TURN. The first n letters of j, or all of them if there are fewer; and the others
 module _ (base m : ℕ) where

@@ -3,11 +3,11 @@ use rules::Component;
 use rules::Letter;
 use rules::Profile;
 use rules::Template;
+use rules::least;
 ghost use mathlib.Core.Path.{_≡_};
 ghost use Prim.Native.Nat.{_^_, min};
 ghost use lib.Dec.{ltb};
 ghost use Rattle.rules.specs.Limits.{Letter-DIGITS};
-ghost use Rattle.rules.specs.Lists.{if};
 ghost use Rattle.rules.specs.Motif.{spell};
 ghost use Rattle.rules.specs.Profile.{within, profile-by, profile-of};
 ghost use Rattle.rules.specs.Support.{allowed-in, valid};
@@ -26,13 +26,6 @@ fn spelled_by(profile: Profile, number: u64, letters: u32) -> bool
     x == 0
 }
 
-// 1 where a test holds, and else 0.
-fn one_if(holds: bool) -> u32
-    ensures { λ r. ⌜ r ≡ if holds 1 0 ⌝ }
-{
-    if holds { 1 } else { 0 }
-}
-
 // Whether the last n letters of a number may be a component's, in a mixed search: each is one of the fourteen, and no more of them than the
 // allowance stand for several bases.
 fn mixed_allows(c: Component, number: u64, n: u32) -> bool
@@ -40,17 +33,14 @@ fn mixed_allows(c: Component, number: u64, n: u32) -> bool
 {
     let mut rest = number;
     let mut all = true;
-    let mut several: u32 = 0;
     let mut i: u32 = 0;
     while i < n {
-        let x = rest % Letter::DIGITS;
-        all = all & (x < Letter::SYMBOLS);
-        several += one_if(Letter::BASES <= x);
+        all = all & (rest % Letter::DIGITS < Letter::SYMBOLS);
         rest = rest / Letter::DIGITS;
         i += 1;
     }
     let most = c.allowance as u32;
-    all & (several <= most)
+    all & (Letter::several(number, n) <= most)
 }
 
 // The same by the kind of search: an exact one allows every letter.
@@ -63,11 +53,11 @@ fn component_allows(profile: Profile, c: Component, number: u64, n: u32) -> bool
     }
 }
 
-// The smaller of two numbers.
-fn least(a: u32, b: u32) -> u32
-    ensures { λ r. ⌜ r ≡ min a b ⌝ }
+// How many of the letters that are left a component gets: as many as it has, or all of them if there are fewer.
+fn share(c: Component, left: u32) -> u32
+    ensures { λ r. ⌜ r ≡ min (c .length) left ⌝ }
 {
-    if a < b { a } else { b }
+    least(c.length as usize, left as usize) as u32
 }
 
 // Whether so many letters of a number are allowed: dealt out to the components in turn, the last one cut short, they may be theirs.
@@ -82,7 +72,7 @@ fn allowed(t: Template, letters: u32, number: u64) -> bool
     let mut c: usize = 0;
     while c < count {
         let here = cs[c];
-        let n = least(here.length as u32, left);
+        let n = share(here, left);
         left -= n;
         let word = profile.prefix(number, left);
         all = all & component_allows(profile, here, word, n);

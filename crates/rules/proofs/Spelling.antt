@@ -15,6 +15,10 @@ unfolding spell
 spell-more base zero m = rw (pow-zero, div-one)
 spell-more base (suc j) m = rw (pow-succ', ← (div-div-eq-div-mul m base (base ^ j))) (ap (λ w. (m / base / base ^ j) % base ∷ w) (spell-more base j m))
 
+-- the number without its last letters, taken off one by one
+pub rest-more : (base m i : ℕ) {rest : ℕ} → rest ≡ m / base ^ i → rest / base ≡ m / base ^ (i + 1)
+rest-more base m i e = rw (e, add-one, pow-suc, div-div-eq-div-mul)
+
 -- a number is spelt in as many letters as are asked for
 pub length-spell : (base j m : ℕ) → length (spell base j m) ≡ j
 unfolding spell

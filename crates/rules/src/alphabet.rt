@@ -1,10 +1,12 @@
-// The letters: the value of each, by four comparisons, and back; and the bases that a mixed letter stands for.
+// The letters: the value of each, by four comparisons, and back; and the bases that a mixed letter stands for, one or several.
 ghost use mathlib.Core.Path.{_≡_};
 ghost use Prim.Native.Nat.{_<_};
 ghost use lib.ListN.{getD};
 ghost use Rattle.rules.specs.Letters.{letter, letter?, value};
+ghost use Rattle.rules.specs.Limits.{Letter-DIGITS};
 ghost use Rattle.rules.specs.Lists.{if};
-ghost use Rattle.rules.specs.Profile.{base-sets, has-base};
+ghost use Rattle.rules.specs.Motif.{spell};
+ghost use Rattle.rules.specs.Profile.{base-sets, has-base, several};
 use crate::Letter;
 
 // A C G T, R Y K M S W, B D H V.
@@ -91,5 +93,20 @@ impl Letter {
         ensures { λ r. ⌜ r ≡ has-base set value ⌝ }
     {
         (set >> value) % 2 == 1
+    }
+
+    // How many of the last n letters of a mixed motif's number stand for several bases.
+    pub fn several(number: u64, n: u32) -> u32
+        ensures { λ r. ⌜ r ≡ several (spell Letter-DIGITS n number) ⌝ }
+    {
+        let mut rest = number;
+        let mut found: u32 = 0;
+        let mut i: u32 = 0;
+        while i < n {
+            found += when(Letter::BASES <= rest % Letter::DIGITS, 1, 0) as u32;
+            rest = rest / Letter::DIGITS;
+            i += 1;
+        }
+        found
     }
 }

@@ -4,14 +4,13 @@ use mathlib.Core.Path.{_≡_, refl, ap}
 use mathlib.Core.Bool.{Bool, true, false, _&&_}
 use mathlib.Core.List.{List, [], _∷_}
 use Prim.Native.Nat.{ℕ, zero, suc, _+_, _-_, _*_, _/_, _%_, _^_, _≤_, _<_}
-use native.Mathlib.Nat.{pow-suc, div-div-eq-div-mul}
 use native.Mathlib.Numerals.{add-one}
 use native.Mathlib.Omega.{arith}
 use borrow.Author.Tests.{lt-ltb, le-ltb, eq-eqb, ne-eqb}
-use lib.Dec.{leb, ltb, eqb}
+use lib.Dec.{ltb, eqb}
 use lib.ListN.{length, getD}
 use Rattle.rules.specs.Limits.{Letter-BASES, Letter-DIGITS}
-use Rattle.rules.specs.Lists.{if, keep, sum}
+use Rattle.rules.specs.Lists.{if, sum}
 use Rattle.rules.specs.Motif.{spell}
 use Rattle.rules.specs.Profile.{several, base-of}
 use Rattle.rules.specs.Sound.{SoundTemplate}
@@ -22,46 +21,11 @@ use Rattle.rules.specs.declared.Component.{Component}
 use Rattle.rules.specs.declared.Profile.the-variants.{Exact, Mixed}
 use Rattle.rules.specs.declared.Template.{Template}
 use Rattle.rules.proofs.Components.{components-at, components-length}
-use Rattle.rules.proofs.Lists.{keep-few}
 use Rattle.rules.proofs.Rises.{letters-to, shorter-valid, child-valid, valid-fits, first-child, risen-valid, exact-rises, rises-past-t, rises-not-t}
-use Rattle.rules.proofs.Spelling.{length-spell}
 use Rattle.rows.specs.Prefix.{At, letters-before}
 use Rattle.matching.specs.Path.{Inside}
 use Rattle.matching.proofs.Extend.{letter-at, inside-letter, inside-component}
 use Rattle.search.specs.Kind.{walk-by, Rises}
-
--- ---- how many of the last letters stand for several bases
-
-pub several-few : (i m : ℕ) → several (spell Letter-DIGITS i m) ≤ i
-unfolding several
-several-few i m = omega (arith, keep-few (leb Letter-BASES) (spell Letter-DIGITS i m), length-spell Letter-DIGITS i m)
-
-pub several-none : (m : ℕ) → 0 ≡ several (spell Letter-DIGITS 0 m)
-unfolding several spell keep
-several-none m = refl
-
-pub rest-none : (m : ℕ) → m ≡ m / Letter-DIGITS ^ 0
-rest-none m = omega arith
-
-pub one-most : (b : Bool) {n : ℕ} → n ≡ if b 1 0 → n ≤ 1
-one-most true e = omega arith
-one-most false e = omega arith
-
--- one letter more
-module _ (m i : ℕ) {rest : ℕ} (left : rest ≡ m / Letter-DIGITS ^ i) where
-  pub rest-more : rest / Letter-DIGITS ≡ m / Letter-DIGITS ^ (i + 1)
-  rest-more = rw (left, add-one, pow-suc) (div-div-eq-div-mul m (Letter-DIGITS ^ i) Letter-DIGITS)
-
-  pub several-more : {found one : ℕ} → found ≡ several (spell Letter-DIGITS i m) → one ≡ if (leb Letter-BASES (rest % Letter-DIGITS)) 1 0 → found + one ≡ several (spell Letter-DIGITS (i + 1) m)
-  unfolding several spell keep
-  several-more {found} {one} e o = rw (add-one, ← left) (go (leb Letter-BASES (rest % Letter-DIGITS)) o)
-    where
-      w : List ℕ
-      w = keep (leb Letter-BASES) (spell Letter-DIGITS i m)
-
-      go : (b : Bool) → one ≡ if b 1 0 → found + one ≡ length (if b (rest % Letter-DIGITS ∷ w) w)
-      go true o = omega arith
-      go false o = omega arith
 
 -- ---- which letter of which component the last one is, by the number that `inside` has for it
 

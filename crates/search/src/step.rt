@@ -12,7 +12,6 @@ ghost use Prim.Native.Nat.{ℕ, _-_, _/_, _≤_};
 ghost use Rattle.matching.specs.Path.{Inside};
 ghost use Rattle.rows.specs.Prefix.{At};
 ghost use Rattle.rules.specs.Limits.{Letter-DIGITS};
-ghost use Rattle.rules.specs.Lists.{if};
 ghost use Rattle.rules.specs.Motif.{spell};
 ghost use Rattle.rules.specs.Profile.{several};
 ghost use Rattle.rules.specs.Sound.{SoundTemplate};
@@ -27,28 +26,6 @@ const LAST_BASE: u64 = Letter::BASES - 1;
 
 const LAST_SYMBOL: u64 = Letter::SYMBOLS - 1;
 
-// How many of the last n letters of a mixed motif's number stand for several bases.
-fn several(number: u64, n: u8) -> u16
-    ensures { λ r. ⌜ r ≡ several (spell Letter-DIGITS n number) ⌝ }
-{
-    let mut rest = number;
-    let mut found: u16 = 0;
-    let mut i: u8 = 0;
-    while i < n {
-        found += one_if(Letter::BASES <= rest % Letter::DIGITS);
-        rest = rest / Letter::DIGITS;
-        i += 1;
-    }
-    found
-}
-
-// 1 where a test holds, and else 0.
-fn one_if(holds: bool) -> u16
-    ensures { λ r. ⌜ r ≡ if holds 1 0 ⌝ }
-{
-    if holds { 1 } else { 0 }
-}
-
 // Whether another letter that stands for several bases may follow those of its component that come before the last of a mixed candidate.
 fn room_left(template: Template, inside: &[u8], letters: u8, number: u64) -> bool
     requires { ⌜ SoundTemplate template ⌝ }
@@ -59,10 +36,11 @@ fn room_left(template: Template, inside: &[u8], letters: u8, number: u64) -> boo
     let at = letters as usize - 1;
     let code = inside[at];
     let k = (code / PLACES) as usize;
-    let i = code % PLACES;
+    let i = (code % PLACES) as u32;
     let components = template.components();
     let component = components[k];
-    several(number / Letter::DIGITS, i) < component.allowance
+    let most = component.allowance as u32;
+    Letter::several(number / Letter::DIGITS, i) < most
 }
 
 // Whether the last letter of a mixed candidate goes up by one: past T only if one more letter that stands for several bases may stand

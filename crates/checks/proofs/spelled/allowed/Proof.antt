@@ -30,11 +30,8 @@ mul-here c = search needs
 array-copy-out-here : tie.Need-array-copy-out-here Inv-loop μ-loop
 array-copy-out-here c = search needs
 
-cast-least : tie.Need-cast-least Inv-loop μ-loop
-cast-least c = search needs
-
-least-requires : tie.Need-least-requires Inv-loop μ-loop
-least-requires c κs = search needs
+share-requires : tie.Need-share-requires Inv-loop μ-loop
+share-requires c κs = search needs
 
 sub-left : tie.Need-sub-left Inv-loop μ-loop
 sub-left c = search needs
@@ -54,10 +51,10 @@ loop-less c = search needs
 loop-again : tie.Need-loop-again Inv-loop μ-loop
 loop-again c =
     let d = c .before .before in
-    let e = d .before .before .before in
+    let e = d .before .before in
     let l = e .before .loop in
     let a = e .before .before .before .before .args in
-    one-given (a .t .profile) (a .number) (a .letters) _ (l .inv) (e .loop-test .taken) (d .least .ensures) (c .before .prefix .ensures) (c .component-allows .ensures)
+    one-given (a .t .profile) (a .number) (a .letters) _ (l .inv) (e .loop-test .taken) (d .share .ensures) (c .before .prefix .ensures) (c .component-allows .ensures)
 
 returns : tie.Need-returns Inv-loop μ-loop
 returns c =
@@ -77,8 +74,7 @@ allowed-spec =
     loop-holds
     mul-here
     array-copy-out-here
-    cast-least
-    least-requires
+    share-requires
     sub-left
     prefix-requires
     component-allows-requires

@@ -22,6 +22,9 @@ code c =
 cast-k : tie.Need-cast-k
 cast-k c = omega (arith, code c)
 
+cast-i : tie.Need-cast-i
+cast-i c = search needs
+
 components-requires : tie.Need-components-requires
 components-requires c κs = search needs
 
@@ -31,15 +34,18 @@ mul-component c = omega (arith, code (c .before))
 array-copy-out-component : tie.Need-array-copy-out-component
 array-copy-out-component c = code (c .before)
 
+cast-most : tie.Need-cast-most
+cast-most c = search needs
+
 several-requires : tie.Need-several-requires
 several-requires c κs = search needs
 
 returns : tie.Need-returns
 returns c =
     let s = c .before .before .before .before .before .before in
-    room-is (s .args .template) (s .pre .0) (s .args .inside .now) (s .pre .1 .0) (s .args .letters) (s .args .number) (c .before .before .before .components .ensures) (c .before .several .ensures)
+    room-is (s .args .template) (s .pre .0) (s .args .inside .now) (s .pre .1 .0) (s .args .letters) (s .args .number) (c .before .before .before .components .ensures) (c .several .ensures)
 
 pub room-left-spec : {M : Type 1} → statement M
 room-left-spec =
     tie.close
-    (tie.spec sub-at shared-slice-read-code cast-k components-requires mul-component array-copy-out-component several-requires returns)
+    (tie.spec sub-at shared-slice-read-code cast-k cast-i components-requires mul-component array-copy-out-component cast-most several-requires returns)
