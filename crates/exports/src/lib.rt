@@ -1,7 +1,7 @@
 // The seven public calls for C and Rust, as numbers and slices; include/tulfasheq.h says how a caller sees them. A search is passed
 // as its saved bytes, and a template as its profile, 0 or 1, its number of components, its shape: length, low and high of each slot in
-// turn, of which there are six, and the allowance of each; what is past the end of a shape or of the allowances is 0. Each answers 0, or the number of the refusal with its place in
-// `place`; in a refusal all counts are 0, and numbers that a call moves on stay.
+// turn, of which there are six, and the allowance of each; what is past the end of a shape or of the allowances is 0. Each answers 0, or
+// the number of the refusal with its place in `place`; in a refusal all counts are 0, and numbers that a call moves on stay.
 mod chain;
 mod shape;
 mod told;
@@ -79,7 +79,8 @@ pub extern "C" fn tulfasheq_leg(
     told.number
 }
 
-// The search that `saved` holds: its template, with its profile and allowances, its quorum, the size of its set, and the letters and number of its next candidate.
+// The search that `saved` holds: its template, with its profile and allowances, its quorum, the size of its set, and the letters and
+// number of its next candidate.
 #[no_mangle]
 pub extern "C" fn tulfasheq_restore(
     letters: &[u8],
