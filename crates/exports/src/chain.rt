@@ -21,8 +21,7 @@ ghost use Rattle.rules.specs.Told.{gives, refuses, toldChecked, toldBegun, told
 pub fn check_profile(letters: &[u8], lengths: &[u32], profile: u16) -> Checked
     ensures { λ r. ⌜ toldChecked r ≡ profile-check (now (letters .entry)) (now (lengths .entry)) profile ⌝ }
 {
-    let last = Profile::MIXED as u16;
-    if profile <= last {
+    if Profile::is_number(profile as u64) {
         return Checked::Fine;
     }
     check_set(letters, lengths).then(Checked::Refused(Refusal::SavedBlank(RecordNumber(0))))

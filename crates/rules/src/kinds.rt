@@ -1,9 +1,11 @@
-// The kinds of search: what the code must know of each. A motif's number has its letters for digits, and every use of a digit goes
-// through here.
+// The kinds of search: the number of each, the base and the most letters of its motifs, and how a motif's number, whose digits are its
+// letters, is taken apart. Code that is for one kind alone takes its digits by itself.
 ghost use mathlib.Core.List.{map};
 ghost use mathlib.Core.Path.{_≡_};
 ghost use Prim.Native.Nat.{_/_, _%_, _^_, _≤_};
+ghost use lib.Dec.{leb};
 ghost use lib.ListN.{length, getD};
+ghost use Rattle.rules.specs.Limits.{Profile-MIXED};
 ghost use Rattle.rules.specs.Motif.{spell};
 ghost use Rattle.rules.specs.Profile.{base-sets, profile-by, profile-number, numbered-profile};
 use crate::Letter;
@@ -23,6 +25,14 @@ impl Profile {
             Profile::Exact => Profile::EXACT,
             Profile::Mixed => Profile::MIXED,
         }
+    }
+
+    // Whether a number is that of one.
+    pub fn is_number(number: u64) -> bool
+        ensures { λ r. ⌜ r ≡ leb number Profile-MIXED ⌝ }
+    {
+        let last = Profile::MIXED as u64;
+        number <= last
     }
 
     // The one that has a number; every number but 1 is taken for the exact one.

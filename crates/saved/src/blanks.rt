@@ -26,9 +26,7 @@ fn blank(bytes: &[u8], i: RecordNumber, k: usize, n: usize) -> bool
 fn has_profile(bytes: &[u8], i: RecordNumber) -> bool
     ensures { λ r. ⌜ r ≡ leb (field (record-at (now (bytes .entry)) (i .0)) 12 1) Profile-MIXED ⌝ }
 {
-    let number = field(bytes, i, 12, 1);
-    let last = Profile::MIXED as u64;
-    number <= last
+    Profile::is_number(field(bytes, i, 12, 1))
 }
 
 // Byte 3 of a component's record is 0 in a kind of search that has no allowances.
