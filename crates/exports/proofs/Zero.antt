@@ -12,7 +12,7 @@ use Rattle.rules.specs.Fasta.{Line, Entry, no-room?, size-of, text-first?, chec
 use Rattle.rules.specs.Support.{valid}
 use Rattle.rules.specs.Calls.{on-refusal, begun, unless, written-unless, save-rule, restore-rule, recover-rule, join-rule}
 use Rattle.rules.specs.Join.{rising?}
-use Rattle.rules.specs.Limits.{Profile-MIXED, Template-COMPONENTS, Template-LENGTH, SequenceSet-SEQUENCES, SequenceSet-LETTERS}
+use Rattle.rules.specs.Limits.{Profile-LAST, Template-COMPONENTS, Template-LENGTH, SequenceSet-SEQUENCES, SequenceSet-LETTERS}
 use Rattle.rules.specs.Lists.{if, keep, some?, sum}
 use Rattle.rules.specs.Recovery.{whole-list}
 use Rattle.rules.specs.Refusals.{_else_, first, first-bad, outside, bad-range, bad-allowance, passes?, check1, check2, check3, check4, check5, check6, check7, check8, check9, check10, check11, check12, check13, check14, check15, check6-head, check8-range, check16, check17, check21, check22, check23, check24, set-checks, new-checks, restore-checks, value-checks, search-checks, save-checks, recover-checks, join-checks}
@@ -87,7 +87,7 @@ room-numbered n out = if-numbered (ltb (length out) n) 17 0 (omega arith)
 module _ (letters lengths : List ℕ) where
   profile-numbered : (profile : ℕ) → Numbered (profile-check letters lengths profile)
   unfolding profile-check Numbered
-  profile-numbered profile = fine-numbered (leb profile Profile-MIXED) _ (two-numbered (first (set-checks letters lengths)) (refused 21 0) (all-numbered _ (set-numbered letters lengths)) (omega arith))
+  profile-numbered profile = fine-numbered (leb profile Profile-LAST) _ (two-numbered (first (set-checks letters lengths)) (refused 21 0) (all-numbered _ (set-numbered letters lengths)) (omega arith))
 
   new-numbered : (t : Template) (quorum : ℕ) → AllNumbered (new-checks letters lengths t quorum)
   unfolding new-checks check9

@@ -5,7 +5,7 @@ use Prim.Native.Nat.{ℕ, _+_}
 use lib.Dec.{leb}
 use Rattle.rules.specs.Calls.{on-refusal, Written, begin-rule, leg-rule, save-rule, restore-rule, recover-rule, join-rule}
 use Rattle.rules.specs.Fasta.{reader-rule}
-use Rattle.rules.specs.Limits.{Profile-MIXED}
+use Rattle.rules.specs.Limits.{Profile-LAST}
 use Rattle.rules.specs.Lists.{if}
 use Rattle.rules.specs.Refusals.{_else_, first, set-checks}
 use Rattle.rules.specs.Saved.{bytes}
@@ -43,7 +43,7 @@ search-of profile components shape allowances quorum sequences total letters num
 
 -- THE PROFILE is a number here: one that is none is refused, with 21 and place 0, where 1 to 4 pass
 unfoldable pub profile-check : List ℕ → List ℕ → ℕ → Verdict
-profile-check letters lengths profile = if (leb profile Profile-MIXED) fine (first (set-checks letters lengths) else refused 21 0)
+profile-check letters lengths profile = if (leb profile Profile-LAST) fine (first (set-checks letters lengths) else refused 21 0)
 
 -- what a save or a recovery comes to, unless it is
 abbrev pub checked-written : {A : Type 0} → Verdict → Written A → List ℕ → Written A

@@ -31,7 +31,8 @@ ghost use Rattle.rows.specs.Bits.{held};
 ghost use Rattle.rows.specs.Rows.{lettered};
 ghost use Rattle.rows.specs.Set.{Row-WORDS, first-word, between, Firsts, Offsets, shifted-at, Filled};
 
-// For how many of the first places of a component the letters' rows are kept shifted: as many as the table has room for.
+// For how many of the first places of a component the letters' rows are kept shifted: as many as the table has room for. It is asked for at
+// every candidate, so each kind divides by a number that the compiler knows.
 pub fn kept(template: Template, standing: &[u64]) -> usize
     ensures { λ r. ⌜ r ≡ kept-places template (now (standing .entry)) ⌝ }
 {

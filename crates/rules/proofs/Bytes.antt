@@ -58,5 +58,3 @@ pub stands-bytes : (w s : List ℕ) → Digits w → (p : ℕ) → stands (map l
 unfolding stands-by
 stands-bytes w s h zero = refl
 stands-bytes w s h (suc o) = rw (map-drop value o s) (front-bytes w (drop o s) h)
-
--- ---- parts

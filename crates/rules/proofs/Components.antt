@@ -1,4 +1,4 @@
--- The components of a template, and the letters dealt out to them.
+-- The components of a template: each stands in its slot, and there are as many as it counts.
 use mathlib.Core.List.{[], _∷_}
 use mathlib.Core.Path.{_≡_}
 use Prim.Native.Nat.{ℕ, suc, _≤_, _<_}

@@ -31,7 +31,7 @@ unfolding profile-by exactly mixed
 kind-counts Exact = refl
 kind-counts Mixed = refl
 
--- so the base is at least 4 and at most 16, and a number below the base to the power of a motif's letters fits 64 bits
+-- the base is at least 4 and at most 16, and a number below the base to the power of a motif's letters fits 64 bits
 pub base-least : (t : Template) → 4 ≤ base-of t
 unfolding profile-by exactly mixed
 base-least t = go (t .profile)

@@ -11,7 +11,7 @@ use lib.Dec.{eqb, leb}
 use lib.ListN.{getD, take, drop}
 use lib.Seq.{getD-drop, drop-drop}
 use borrow.Author.Tests.{leb-true, leb-false, le-leb, lt-leb}
-use Rattle.rules.specs.Limits.{Profile-MIXED, Record-EXTRA, Record-SIZE, Record-COMPONENT, Record-PLACE, Template-COMPONENTS}
+use Rattle.rules.specs.Limits.{Profile-LAST, Record-EXTRA, Record-SIZE, Record-COMPONENT, Record-PLACE, Template-COMPONENTS}
 use Rattle.rules.specs.Lists.{all?, run, sum}
 use Rattle.rules.specs.Refused.{byte, Blank, NotZero, OfRecord, WrongKind, NotBlank, SizeLaid, ComponentLaid, PlaceLaid, RecordsLaid, saved-size, saved-lengths, saved-place, PlaceRule}
 use Rattle.rules.specs.Saved.{read-low, record-at, field, component-count, read-profile, read-component, read-place, read-template, read-search, blank?, size-kind?, component-kind?, place-kind?, size-blank?, allowance-blank?, component-blank?, place-blank?, size-record?, component-record?, place-record?, component-records?, sums?, place-rule?, laid-out?, by-record, kind?, unnamed-blank?}
@@ -89,7 +89,7 @@ module _ (bs : List ℕ) where
   size-says : (size-record? (record-at bs 0) ≡ true) ↔ SizeLaid bs
   unfolding size-record? size-kind? size-blank?
   size-says =
-      Iff·trans (two _ _ (byte-says 0 0 Record-SIZE) (two _ _ (byte-most 0 12 Profile-MIXED) (blank-says bs 0 13 3 15 refl)))
+      Iff·trans (two _ _ (byte-says 0 0 Record-SIZE) (two _ _ (byte-most 0 12 Profile-LAST) (blank-says bs 0 13 3 15 refl)))
       (λ h. record { kind = h .0; profile = h .1 .0; blank = h .1 .1 }, λ h. (h .kind, (h .profile, h .blank)))
 
   -- the byte of an allowance is 0 in an exact search
@@ -172,7 +172,7 @@ module _ (bs : List ℕ) (i : ℕ) (h : i < component-count bs + Record-EXTRA) w
   unfolding unnamed-blank? size-blank? component-blank? place-blank?
   blank-fails =
       of-record (component-count bs) i _ _ _
-      (one-fails _ _ (byte-above 12 Profile-MIXED) (not-blank bs i 13 3 15 refl))
+      (one-fails _ _ (byte-above 12 Profile-LAST) (not-blank bs i 13 3 15 refl))
       (one-fails _ _ (allowance-fails (read-profile bs)) (not-blank bs i 8 8 15 refl))
       (not-blank bs i 2 6 7 refl)
       h

@@ -9,7 +9,7 @@ use lib.Dec.{eqb, leb}
 use lib.ListN.{length, getD, take, drop, replicate, length-drop}
 use lib.Seq.{take-all, take-add, drop-drop, drop-cons, getD-drop, getD-take, length-take-le}
 use borrow.Author.Tests.{le-leb, leb-true, eqb-true}
-use Rattle.rules.specs.Limits.{Profile-MIXED, Record-BYTES, Record-SIZE, Record-COMPONENT, Record-PLACE, Record-EXTRA, Template-COMPONENTS}
+use Rattle.rules.specs.Limits.{Profile-LAST, Record-BYTES, Record-SIZE, Record-COMPONENT, Record-PLACE, Record-EXTRA, Template-COMPONENTS}
 use Rattle.rules.specs.Lists.{run, sum}
 use Rattle.rules.specs.Profile.{profile-number, numbered-profile}
 use Rattle.rules.specs.Saved.{low-first, read-low, size-record, component-record, place-record, component-records, records, bytes, record-at, field, record-count, component-count, read-profile, read-component, read-place, read-template, read-search, sized?, blank?, size-kind?, component-kind?, place-kind?, size-blank?, allowance-blank?, component-blank?, place-blank?, size-record?, component-record?, place-record?, component-records?, laid-out?}
@@ -97,7 +97,7 @@ module _ (r : List ℕ) (w : length r ≡ Record-BYTES) (b : Bytes r) where
   unfolding size-record? size-kind? size-blank? size-record low-first sum
   size-again s e n q m k l y =
       let p = both (size-kind? r) (size-blank? r) .0 e in
-      let z = both (leb (field r 12 1) Profile-MIXED) (blank? r 13 3) .0 (p .1) in
+      let z = both (leb (field r 12 1) Profile-LAST) (blank? r 13 3) .0 (p .1) in
       rw (n, q, m, k, l, y)
       (rw (
         piece-fixed r 0 Record-SIZE (omega arith) (p .0),
@@ -114,9 +114,9 @@ module _ (r : List ℕ) (w : length r ≡ Record-BYTES) (b : Bytes r) where
   -- a size record that keeps its layout has the number of a kind of search
   number-again : size-record? r ≡ true → profile-number (numbered-profile (field r 12 1)) ≡ field r 12 1
   unfolding size-record? size-blank?
-  number-again e = go (field r 12 1) (leb-true _ _ (both (leb (field r 12 1) Profile-MIXED) (blank? r 13 3) .0 (both (size-kind? r) (size-blank? r) .0 e .1) .0))
+  number-again e = go (field r 12 1) (leb-true _ _ (both (leb (field r 12 1) Profile-LAST) (blank? r 13 3) .0 (both (size-kind? r) (size-blank? r) .0 e .1) .0))
     where
-      go : (n : ℕ) → n ≤ Profile-MIXED → profile-number (numbered-profile n) ≡ n
+      go : (n : ℕ) → n ≤ Profile-LAST → profile-number (numbered-profile n) ≡ n
       go zero h = refl
       go (suc zero) h = refl
       go (suc (suc n)) h = absurd (omega arith)

@@ -11,7 +11,7 @@ use lib.Dec.{leb, ltb}
 use lib.ListN.{length, getD, drop}
 use borrow.Author.Tests.{leb-true, ltb-true, le-leb, eq-eqb}
 use Rattle.rules.specs.Calls.{trimmed-search}
-use Rattle.rules.specs.Limits.{Profile-MIXED, Record-BYTES, Record-EXTRA, Template-COMPONENTS, Template-LETTERS}
+use Rattle.rules.specs.Limits.{Profile-LAST, Record-BYTES, Record-EXTRA, Template-COMPONENTS, Template-LETTERS}
 use Rattle.rules.specs.Lists.{if, all?, joined}
 use Rattle.rules.specs.Profile.{profile-of, base-of, profile-number, numbered-profile}
 use Rattle.rules.specs.Saved.{low-first, read-low, size-record, component-record, place-record, records, bytes, record-at, field, record-count, component-count, read-profile, read-component, read-place, read-template, read-search, sized?, blank?, size-kind?, component-kind?, place-kind?, size-blank?, component-blank?, place-blank?, size-record?, component-record?, place-record?, component-records?, place-rule?, sums?, laid-out?}
@@ -71,7 +71,7 @@ sound-fits letters lengths s set t n m q rule =
     }
 
 -- the number of a kind of search is 0 or 1, and tells the kind
-number-most : (p : Profile) → profile-number p ≤ Profile-MIXED
+number-most : (p : Profile) → profile-number p ≤ Profile-LAST
 number-most Exact = omega arith
 number-most Mixed = omega arith
 
@@ -127,7 +127,7 @@ kept-same p n i x y h = go (leb i n) (λ e. h (leb-true i n e))
 -- each kind of record, as written, keeps its layout
 size-laid-out : (s : Search) → size-record? (size-record s) ≡ true
 unfolding size-record? size-kind? size-blank? size-record field low-first read-low blank? all?
-size-laid-out s = let most = number-most (s .template .profile) in rw (le-leb (profile-number (s .template .profile) + 256 * 0) Profile-MIXED (omega arith))
+size-laid-out s = let most = number-most (s .template .profile) in rw (le-leb (profile-number (s .template .profile) + 256 * 0) Profile-LAST (omega arith))
 
 component-laid-out : (p : Profile) (i : ℕ) (c : Component) → component-record? p i (component-record p i c) ≡ true
 unfolding component-record? component-kind? component-blank? component-record field low-first read-low blank? all?

@@ -26,6 +26,10 @@ Profile-EXACT = 0
 abbrev pub Profile-MIXED : ℕ
 Profile-MIXED = 1
 
+-- and the last of them: each number up to it is that of a kind
+abbrev pub Profile-LAST : ℕ
+Profile-LAST = Profile-MIXED
+
 -- a template's components, the letters of one, the letters in all (K), and the longest gap
 abbrev pub Template-COMPONENTS : ℕ
 Template-COMPONENTS = 6

@@ -5,7 +5,7 @@ use mathlib.Core.List.{List, map}
 use mathlib.Core.Path.{_≡_}
 use Prim.Native.Nat.{ℕ, suc, _+_, _-_, _*_, _/_, _^_, _≤_, _<_}
 use lib.ListN.{length, take, drop, getD}
-use Rattle.rules.specs.Limits.{Letter-SYMBOLS, Profile-MIXED, Record-SIZE, Record-COMPONENT, Record-PLACE, SequenceSet-LETTERS, Template-GAP}
+use Rattle.rules.specs.Limits.{Letter-SYMBOLS, Profile-LAST, Record-SIZE, Record-COMPONENT, Record-PLACE, SequenceSet-LETTERS, Template-GAP}
 use Rattle.rules.specs.Lists.{run, sum}
 use Rattle.rules.specs.Motif.{spell}
 use Rattle.rules.specs.Profile.{base-of, several}
@@ -90,14 +90,14 @@ WrongKind bs i =
 abbrev pub NotBlank : List ℕ → ℕ → Type 0
 NotBlank bs i =
     OfRecord (component-count bs) i
-    ((Profile-MIXED < byte bs i 12) ⊎ NotZero bs i 13 15)
+    ((Profile-LAST < byte bs i 12) ⊎ NotZero bs i 13 15)
     (((read-profile bs ≡ Exact) × NotZero bs i 3 3) ⊎ NotZero bs i 8 15)
     (NotZero bs i 2 7)
 
 -- a record keeps its layout: its kind, a component's number, and 0 in the bytes that the papers do not name
 pub record SizeLaid (bs : List ℕ) : Type 0 where
   pub kind : byte bs 0 0 ≡ Record-SIZE
-  pub profile : byte bs 0 12 ≤ Profile-MIXED
+  pub profile : byte bs 0 12 ≤ Profile-LAST
   pub blank : Blank bs 0 13 15
 
 pub record ComponentLaid (bs : List ℕ) (i : ℕ) : Type 0 where

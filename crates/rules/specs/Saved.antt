@@ -5,7 +5,7 @@ use mathlib.Core.List.{List, [], _∷_, _++_, map}
 use Prim.Native.Nat.{ℕ, zero, suc, _+_, _-_, _*_, _/_, _%_}
 use lib.Dec.{eqb, leb}
 use lib.ListN.{length, take, drop, getD, replicate}
-use Rattle.rules.specs.Limits.{Profile-MIXED, Record-BYTES, Record-SIZE, Record-COMPONENT, Record-PLACE, Record-EXTRA}
+use Rattle.rules.specs.Limits.{Profile-LAST, Record-BYTES, Record-SIZE, Record-COMPONENT, Record-PLACE, Record-EXTRA}
 use Rattle.rules.specs.Lists.{if, all?, joined, run}
 use Rattle.rules.specs.Profile.{profile-number, numbered-profile}
 use Rattle.rules.specs.Support.{valid}
@@ -121,7 +121,7 @@ place-kind? r = eqb (field r 0 1) Record-PLACE
 -- and 0 in the bytes that the papers do not name. The size record's byte 12 is the number of a kind of search; a component's byte 3 is its
 -- allowance, and 0 in a kind of search that has none
 unfoldable pub size-blank? : List ℕ → Bool
-size-blank? r = leb (field r 12 1) Profile-MIXED && blank? r 13 3
+size-blank? r = leb (field r 12 1) Profile-LAST && blank? r 13 3
 
 abbrev pub allowance-blank? : declared.Profile → List ℕ → Bool
 allowance-blank? Exact r = blank? r 3 1

@@ -5,12 +5,17 @@ ghost use mathlib.Core.Path.{_≡_};
 ghost use Prim.Native.Nat.{_/_, _%_, _^_, _≤_};
 ghost use lib.Dec.{leb};
 ghost use lib.ListN.{length, getD};
-ghost use Rattle.rules.specs.Limits.{Profile-MIXED};
+ghost use Rattle.rules.specs.Limits.{Profile-LAST};
 ghost use Rattle.rules.specs.Motif.{spell};
 ghost use Rattle.rules.specs.Profile.{base-sets, profile-by, profile-number, numbered-profile};
 use crate::Letter;
 use crate::Profile;
 use crate::Template;
+
+// The bits of a digit: of an exact motif's number, where it is a letter's value, and of a mixed one's.
+const EXACT_BITS: u8 = Letter::BITS as u8;
+
+const MIXED_BITS: u8 = 4;
 
 impl Profile {
     // The number of each, as it is saved.
@@ -29,7 +34,7 @@ impl Profile {
 
     // Whether a number is that of one.
     pub fn is_number(number: u64) -> bool
-        ensures { λ r. ⌜ r ≡ leb number Profile-MIXED ⌝ }
+        ensures { λ r. ⌜ r ≡ leb number Profile-LAST ⌝ }
     {
         let last = Profile::MIXED as u64;
         number <= last
@@ -91,8 +96,8 @@ impl Profile {
         ensures { λ r. ⌜ r ≡ number / profile-by self .base ^ n ⌝ }
     {
         match self {
-            Profile::Exact => cut(number, n, 2),
-            Profile::Mixed => cut(number, n, 4),
+            Profile::Exact => cut(number, n, EXACT_BITS),
+            Profile::Mixed => cut(number, n, MIXED_BITS),
         }
     }
 

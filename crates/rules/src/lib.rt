@@ -26,8 +26,8 @@ pub struct FileOffset(pub usize);
 // comes after them.
 pub struct RecordNumber(pub u32);
 
-// The letters A, C, G, T of a sequence: how many there are, the bits that a value takes, and the mark that every other byte has for a value. And those of a motif: the
-// same, or in a mixed search fourteen, each of which stands for some of the four.
+// The letters A, C, G, T of a sequence: how many there are, the bits that a value takes, and the mark that every other byte has for a
+// value. And those of a motif: the same, or in a mixed search fourteen, each of which stands for some of the four.
 pub struct Letter {}
 
 // The kind of search that a template asks for: over the letters A, C, G, T, or over mixed ones.

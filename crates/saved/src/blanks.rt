@@ -2,7 +2,7 @@
 ghost use mathlib.Core.Path.{_≡_};
 ghost use Prim.Native.Nat.{_+_, _≤_};
 ghost use lib.Dec.{leb};
-ghost use Rattle.rules.specs.Limits.{Profile-MIXED, Record-BYTES};
+ghost use Rattle.rules.specs.Limits.{Profile-LAST, Record-BYTES};
 ghost use Rattle.rules.specs.Refusals.{check21};
 ghost use Rattle.rules.specs.Saved.{field, record-at, blank?, allowance-blank?, unnamed-blank?};
 ghost use Rattle.rules.specs.Told.{toldChecked};
@@ -24,7 +24,7 @@ fn blank(bytes: &[u8], i: RecordNumber, k: usize, n: usize) -> bool
 
 // Byte 12 of the size record is the number of a kind of search.
 fn has_profile(bytes: &[u8], i: RecordNumber) -> bool
-    ensures { λ r. ⌜ r ≡ leb (field (record-at (now (bytes .entry)) (i .0)) 12 1) Profile-MIXED ⌝ }
+    ensures { λ r. ⌜ r ≡ leb (field (record-at (now (bytes .entry)) (i .0)) 12 1) Profile-LAST ⌝ }
 {
     Profile::is_number(field(bytes, i, 12, 1))
 }
