@@ -109,8 +109,9 @@ enum tulfasheq_answer {
     TULFASHEQ_SAVED_SUM = 22,       /* a saved number of letters of a motif that is not the sum of the components' lengths; place: 0,
                                        the record that holds it */
     TULFASHEQ_PLACE_RULE = 23,      /* a next candidate with more letters than a motif has, or a number that its letters do not spell,
-                                       in the mixed profile also one with more letters for several bases in a component than it
-                                       allows; place: the number that the place record has, or would have in a save, components + 1 */
+                                       in the mixed profile also one with a digit of 14 or 15, or with more letters for several
+                                       bases in a component than it allows; place: the number that the place record has, or would
+                                       have in a save, components + 1 */
     TULFASHEQ_ALLOWANCE = 24        /* an allowance above the component's length, in the mixed profile */
 };
 
