@@ -1,6 +1,6 @@
 #!/bin/sh
 # Measures the proved library beside Rust programs on the same inputs (src/bin/bench; docs/BENCHMARKS.md says how it is
-# meant). Not a part of the gate. It takes half a minute, and more where the library is still to be proved. A measure's name
+# meant). Not a part of the gate. It takes a minute, and more where the library is still to be proved. A measure's name
 # (checks, legs, walk, searches, mixed, recovery, reading) after the command takes that one alone.
 set -eu
 cd "$(dirname "$0")/.."

@@ -4,7 +4,7 @@
 
 use crate::inputs;
 use crate::linked;
-use crate::timing::{in_turn, ratio, row, title, Work};
+use crate::timing::{in_turn, row, title, Times, Work};
 use crate::walk::{Place, Rows, Search, Went};
 
 /// The steps that are taken of a search over random letters.
@@ -13,6 +13,9 @@ const STEPS: u64 = 20_000;
 const ROOM: usize = 20_000;
 /// The steps of a mixed search that the second program takes too.
 const HELD: u64 = 150;
+
+/// How often each leg is timed.
+const ROUNDS: usize = 20;
 
 /// What a mixed candidate may take, in times of an exact one.
 const TARGET: f64 = 1.3;
@@ -95,8 +98,9 @@ fn held(search: &Search) {
     assert!(tables == beside, "the programs differ");
 }
 
-/// A row of a table: what a candidate takes in each profile, the first steps
-/// less a leg that takes none. Gives the ratio.
+/// A row of a table: what a candidate takes in each profile, the least time of
+/// the first steps less that of a leg that takes none. Gives the ratio, that of
+/// the middle times being in brackets.
 fn measured(name: &str, exact: &Search, allowance: u16, budget: u64) -> f64 {
     let mixed = exact.mixed(allowance);
     held(&mixed);
@@ -110,19 +114,23 @@ fn measured(name: &str, exact: &Search, allowance: u16, budget: u64) -> f64 {
             works.push(Box::new(move || run(&mut tables).steps));
         }
     }
-    let times = in_turn(10, &mut works);
-    let each = [0, 1].map(|at| {
-        let steps = went[at].steps as f64;
-        times[2 * at + 1].on_top_of(&times[2 * at]) / steps
-    });
+    let times = in_turn(ROUNDS, &mut works);
+    let each = |of: fn(&Times) -> f64| {
+        [0, 1].map(|at| {
+            let [none, all] = [0, 1].map(|with| of(&times[2 * at + with]));
+            (all - none) / went[at].steps as f64
+        })
+    };
+    let (least, middle) = (each(Times::least), each(Times::middle));
     let mut cells = vec![name.to_string(), allowance.to_string()];
-    for (went, time) in went.iter().zip(each) {
+    for (went, time) in went.iter().zip(least) {
         cells.extend([went.steps.to_string(), went.rows.to_string()]);
         cells.push(format!("{:.3}", time * 1e6));
     }
-    cells.push(ratio(each[1], each[0]));
+    let [least, middle] = [least, middle].map(|[exact, mixed]| mixed / exact);
+    cells.push(format!("{least:.2} ({middle:.2})"));
     row(&cells);
-    each[1] / each[0]
+    least
 }
 
 /// A table of such rows, and which of them are above the target.
