@@ -248,7 +248,7 @@ fn marks_of(n: usize) -> usize
     (n + 63) / BITS
 }
 
-// Clears the words of marks from `n` on.
+// Clears the words of marks from `n` on, those that a set of fewer sequences does not have.
 fn clear_marks(n: usize, row: &mut [u64])
     requires { ⌜ (n ≤ Row-MARKS) × (Row-MARKS ≤ length (now row)) ⌝ }
     ensures { λ _. ⌜ ((q : ℕ) → q < n → getD (now (row .exit)) q 0 ≡ getD (now (row .entry)) q 0) × ((q : ℕ) → n ≤ q → q < Row-MARKS → getD (now (row .exit)) q 0 ≡ 0) ⌝ }
@@ -259,7 +259,8 @@ fn clear_marks(n: usize, row: &mut [u64])
 
 // One letter more, the i-th of its component, in every sequence that has a mark: its words, and its new mark. It answers how many have a
 // mark then, the sum of the counts of ones of the new marks: the support. Or, as soon as fewer than `quorum` can have one, it answers so
-// many as still can, and the rest is not written.
+// many as still can, and the rest is not written. A short set has a loop of its own, of which the compiler makes one without a shift where
+// it is called with 0; in any other only the words of marks that the set has are gone over.
 pub fn keep_all(
     lengths: &[u32],
     firsts: &[u32],
