@@ -70,7 +70,7 @@ impl Grants {
     }
 }
 
-/// The most that a leg of a search may use, in steps and in rows.
+/// The most that the last leg of a search may use, in steps and in rows.
 pub type Most = (u64, u64);
 
 /// As much as there is.
@@ -109,7 +109,7 @@ pub fn relay(
             true => grants.next(random),
             false => (most.0, [most.1; 3]),
         };
-        let leg = leg(&set, value, budget.min(most.0), rooms, random);
+        let leg = leg(&set, value, budget, rooms, random);
         let answer = Answer::expected(&leg);
         requests.push(leg);
         requests.extend(save_and_restore(&set, answer.search(), random));
