@@ -2,7 +2,7 @@
 # from the repository's folder.
 # shellcheck shell=sh
 
-second/library.sh
+rust/library.sh
 
 work=$(mktemp -d)
 trap 'rm -rf "$work"' EXIT

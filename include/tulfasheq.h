@@ -1,6 +1,6 @@
 /* Tulfasheq for C and C++: the search for structured motifs in DNA, as numbers and arrays.
  *
- * Link with libtulfasheq.a (second/library.sh makes it for the machine at hand, at target/host/libtulfasheq.a). No call keeps
+ * Link with libtulfasheq.a (rust/library.sh makes it for the machine at hand, at target/host/libtulfasheq.a). No call keeps
  * anything between calls, allocates, or reads or writes anything but what it is passed; a call uses less than 1.5 MiB of stack.
  *
  * Every array is passed as a pointer and the number of its elements. A pointer is never null, also where that number is 0, and is

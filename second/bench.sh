@@ -5,7 +5,7 @@
 set -eu
 cd "$(dirname "$0")/.."
 
-second/library.sh >/dev/null
+rust/library.sh >/dev/null
 cargo build --profile bench-honest --offline --quiet --manifest-path second/Cargo.toml --features library --bin bench
 memory=$(awk '/^MemTotal/ { printf "%.0f", $2 / 1048576 }' /proc/meminfo)
 echo "$(nproc) cores, $memory GiB, $(uname -m)"

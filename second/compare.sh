@@ -1,7 +1,8 @@
 #!/bin/sh
 # Compares the proved library, the printing program and the program that cuts FASTA to lines with the second program, on thousands
 # of inputs (src/requests, src/bin/compare). The library is called in two ways: through the program `calls`, and through the
-# exports, linked as any program would link them (library.sh, src/library.rs, tests/library*.rs).
+# exports, linked as any program would link them (../rust, tests/library*.rs);
+# before that, the limits in ../rust are held to the header's.
 set -eu
 cd "$(dirname "$0")/.."
 
@@ -20,5 +21,6 @@ lines=$(./run --words lines)
 )
 
 echo "== the exports, linked"
-second/library.sh
+rust/library.sh
+cargo test --release --offline --quiet --manifest-path rust/Cargo.toml
 cargo test --release --offline --quiet --manifest-path second/Cargo.toml --features library --test 'library*' -- --nocapture

@@ -6,8 +6,7 @@
 //! Each function quotes the sentence of the paper that it follows, or of the
 //! request that came after it.
 
-#![cfg_attr(not(feature = "library"), forbid(unsafe_code))]
-#![deny(unsafe_code)]
+#![forbid(unsafe_code)]
 #![warn(missing_docs)]
 
 mod ask;
@@ -29,10 +28,6 @@ mod text;
 // Names that say it all.
 #[allow(missing_docs)]
 pub mod requests;
-
-#[cfg(feature = "library")]
-#[allow(unsafe_code)]
-pub mod library;
 
 pub use ask::{candidates, support, weighted_support, Candidate, Candidates};
 pub use fasta::{lines_text, next_record, records, Handed, Record};

@@ -2,8 +2,8 @@
 //! header declares it, with the paper's numbers, a search in both profiles, and
 //! refused calls, which leave every buffer as it was.
 
-use second::library::{begin, join, leg, recover, restore, save};
-use second::library::{Leg, Reader, Recovered, Stop, Template};
+use tulfasheq::{begin, join, leg, recover, restore, save};
+use tulfasheq::{Leg, Reader, Recovered, Stop, Template};
 
 mod linked;
 

@@ -3,22 +3,22 @@
 //! whole of every lent table, refused calls too. A search goes from call to
 //! call as its saved bytes, and one that no call gave comes about by a save.
 //!
-//! What the header says of numbers told is held to in `second::library`; what
+//! What the header says of numbers told is held to in `tulfasheq`; what
 //! is told is laid out here as the second program's answers are.
 
-use second::library::{self, Reader, Stop, Template};
 use second::requests::answer::{self, told, told_handed, told_refusal};
 use second::requests::answer::{Answer, DONE, FULL, REFUSED, SPENT};
 use second::requests::request::{Kind, Request, Slot, Value};
 use second::requests::{groups, Group, Seen};
-use second::{Handed, Profile, Refusal};
+use second::{Handed, Profile};
+use tulfasheq::{Reader, Refusal, Stop, Template};
 
 mod linked;
 
-use linked::{allowances, shape};
+use linked::{allowances, as_second, shape};
 
-fn told_search(value: &Value) -> library::Search {
-    library::Search {
+fn told_search(value: &Value) -> tulfasheq::Search {
+    tulfasheq::Search {
         profile: value.profile.number(),
         components: value.count,
         quorum: value.quorum,
@@ -33,7 +33,7 @@ fn told_search(value: &Value) -> library::Search {
 fn restored(request: &Request, saved: &[u8]) -> Result<Value, Refusal> {
     let (letters, lengths) = (&request.set.letters[..], &request.set.lengths[..]);
     let (mut shape, mut allowances) = ([7; 18], [7; 6]);
-    let told = library::restore(letters, lengths, saved, &mut shape, &mut allowances);
+    let told = tulfasheq::restore(letters, lengths, saved, &mut shape, &mut allowances);
     let told = told.inspect_err(|_| {
         assert_eq!(shape, [7; 18], "a refused restore wrote a shape");
         assert_eq!(allowances, [7; 6], "a refused restore wrote allowances");
@@ -77,7 +77,7 @@ fn trimmed(value: &Value) -> Value {
 /// A leg from saved bytes on, which are then those of the new place.
 fn leg(request: &Request, saved: &mut [u8], answer: &mut Answer) -> Result<(), Refusal> {
     let before = saved.to_vec();
-    let leg = library::leg(
+    let leg = tulfasheq::leg(
         &request.set.letters,
         &request.set.lengths,
         saved,
@@ -105,7 +105,7 @@ fn leg_of_value(request: &Request, answer: &mut Answer) -> Result<(), Refusal> {
     let mut saved = [0; 128];
     let search = told_search(value);
     let (shape, allowances) = (shape(value), allowances(value));
-    let size = library::save(letters, lengths, &search, &shape, &allowances, &mut saved)?;
+    let size = tulfasheq::save(letters, lengths, &search, &shape, &allowances, &mut saved)?;
     leg(request, &mut saved[..size], answer)
 }
 
@@ -123,7 +123,7 @@ fn call(request: &Request, answer: &mut Answer) -> Result<(), Refusal> {
     match request.kind {
         Kind::Begin => {
             let mut saved = [7; 140];
-            let begun = library::begin(letters, lengths, template, value.quorum, &mut saved);
+            let begun = tulfasheq::begin(letters, lengths, template, value.quorum, &mut saved);
             let size = begun.unwrap_or(0);
             assert!(
                 saved[size..].iter().all(|byte| *byte == 7),
@@ -137,7 +137,7 @@ fn call(request: &Request, answer: &mut Answer) -> Result<(), Refusal> {
         Kind::Save => {
             let search = told_search(value);
             let out = &mut answer.saved;
-            let size = library::save(letters, lengths, &search, &shape, &allowances, out)?;
+            let size = tulfasheq::save(letters, lengths, &search, &shape, &allowances, out)?;
             answer.told = told(DONE, size as u64, 0, &none);
         }
         Kind::Restore => {
@@ -147,19 +147,19 @@ fn call(request: &Request, answer: &mut Answer) -> Result<(), Refusal> {
         Kind::Recover => {
             let (motif, first) = (request.motif, request.first_row);
             let rows = &mut answer.rows;
-            let found = library::recover(letters, lengths, template, motif, first, rows)?;
+            let found = tulfasheq::recover(letters, lengths, template, motif, first, rows)?;
             answer.told = told(DONE, found.rows as u64, found.length, &none);
         }
         Kind::Join => {
             let (head, low, high) = (request.head, request.low, request.high);
             let partners = &request.partners;
-            let kept = library::join(lengths, partners, head, low, high, &mut answer.rows)?;
+            let kept = tulfasheq::join(lengths, partners, head, low, high, &mut answer.rows)?;
             answer.told = told(DONE, kept as u64, 0, &none);
         }
         Kind::Fasta => {
             let mut reader = Reader::from(letters, request.at);
             let handed = next_record(&mut reader, letters, request, answer);
-            answer.told = told_handed(reader.at(), handed);
+            answer.told = told_handed(reader.at(), handed.map_err(as_second));
         }
     }
     Ok(())
@@ -197,7 +197,7 @@ fn answered(request: &Request) -> Answer {
             Kind::Leg => request.value,
             _ => Value::default(),
         };
-        answer.told = told_refusal(refusal, &value);
+        answer.told = told_refusal(as_second(refusal), &value);
     }
     answer
 }
@@ -241,7 +241,7 @@ fn leg_from_bytes(restore: &Request) -> Option<String> {
     found.weights.fill(7);
     let mut saved = request.saved.clone();
     if let Err(refusal) = leg(&request, &mut saved, &mut found) {
-        found.told = told_refusal(refusal, &Value::default());
+        found.told = told_refusal(as_second(refusal), &Value::default());
     }
     found.saved = saved;
     found.difference(&expected)

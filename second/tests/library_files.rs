@@ -2,10 +2,14 @@
 //! files beside the second program: every record, one after another, and then
 //! a search over them.
 
-use second::library::{self, Reader, Stop, Template};
 use second::requests::files;
 use second::requests::random::Random;
 use second::Refusal;
+use tulfasheq::{Reader, Stop, Template};
+
+mod linked;
+
+use linked::{as_second, refused};
 
 /// Two records, ACGTA and TT.
 const FILE: &[u8] = b"\n>e1 first\nACG\nTA\n>e2\r\nTT";
@@ -20,16 +24,16 @@ fn refused_records_leave_the_reader_and_its_tables() {
         assert_eq!(reader.next(l, &mut u, n, &mut c), Err(refusal));
         assert_eq!((reader.at(), u, c), (at, used, count));
     };
-    refuses(b"ACG\n>e1\n", 0, (0, 0), (5, 2), Refusal::at(19, 0));
-    refuses(FILE, 2, (0, 0), (0, 0), Refusal::at(19, 0));
-    refuses(FILE, 0, (0, 0), (4, 2), Refusal::at(20, 0));
-    refuses(FILE, 0, (1, 0), (5, 2), Refusal::at(20, 0));
-    refuses(FILE, 0, (u64::MAX, 0), (5, 2), Refusal::at(20, 0));
-    refuses(FILE, 0, (0, 2), (5, 2), Refusal::at(20, 0));
-    refuses(FILE, 0, (0, u64::MAX), (5, 2), Refusal::at(20, 0));
-    refuses(b">e1\nACN\n", 0, (0, 0), (2, 2), Refusal::at(20, 0));
-    refuses(b">e1\nAC\nN", 0, (0, 0), (3, 2), Refusal::at(4, 7));
-    refuses(b"\n>e1\nac", 1, (0, 0), (5, 2), Refusal::at(4, 5));
+    refuses(b"ACG\n>e1\n", 0, (0, 0), (5, 2), refused(19, 0));
+    refuses(FILE, 2, (0, 0), (0, 0), refused(19, 0));
+    refuses(FILE, 0, (0, 0), (4, 2), refused(20, 0));
+    refuses(FILE, 0, (1, 0), (5, 2), refused(20, 0));
+    refuses(FILE, 0, (u64::MAX, 0), (5, 2), refused(20, 0));
+    refuses(FILE, 0, (0, 2), (5, 2), refused(20, 0));
+    refuses(FILE, 0, (0, u64::MAX), (5, 2), refused(20, 0));
+    refuses(b">e1\nACN\n", 0, (0, 0), (2, 2), refused(20, 0));
+    refuses(b">e1\nAC\nN", 0, (0, 0), (3, 2), refused(4, 7));
+    refuses(b"\n>e1\nac", 1, (0, 0), (5, 2), refused(4, 5));
     assert_eq!((letters, lengths), ([7; 5], [7; 2]));
 }
 
@@ -67,8 +71,9 @@ fn read(file: &[u8], letters: usize, lengths: usize) -> Result<Held, Refusal> {
     };
     let mut reader = Reader::new(file);
     let (mut used, mut count) = (0, 0);
-    while let Some(name) =
-        reader.next(&mut held.letters, &mut used, &mut held.lengths, &mut count)?
+    while let Some(name) = reader
+        .next(&mut held.letters, &mut used, &mut held.lengths, &mut count)
+        .map_err(as_second)?
     {
         held.names.push(name.to_vec());
     }
@@ -101,7 +106,7 @@ fn search(held: &Held, random: &mut Random) {
     let template = Template::exact(value.count, &shape);
     let quorum = random.within(1, lengths.len().max(1) as u64);
     let mut saved = [7; 128];
-    let begun = library::begin(letters, lengths, template, quorum, &mut saved);
+    let begun = tulfasheq::begin(letters, lengths, template, quorum, &mut saved).map_err(as_second);
     let template = second::requests::answer::search(&value).template;
     let there = match second::begin(letters, lengths, &template, quorum) {
         Ok(there) => there,
@@ -118,7 +123,7 @@ fn search(held: &Held, random: &mut Random) {
     let (mut motifs, mut supports, mut weights) = (vec![0; 64], vec![0; 64], vec![0; 64]);
     let (m, s, w) = (&mut motifs, &mut supports, &mut weights);
     let saved = &mut saved[..size.unwrap()];
-    let leg = library::leg(letters, lengths, saved, u64::MAX, m, s, w).expect("a search");
+    let leg = tulfasheq::leg(letters, lengths, saved, u64::MAX, m, s, w).expect("a search");
     assert_eq!(leg.stop, Stop::Ended);
     let (mut motifs_there, mut supports_there, mut weights_there) =
         (vec![0; 64], vec![0; 64], vec![0; 64]);

@@ -2,8 +2,8 @@
 //! one: occurrences of a mixed motif, numbers of a profile that there is not, and
 //! arrays of allowances that end early or late.
 
-use second::library::{begin, leg, recover, restore, save};
-use second::library::{Leg, Recovered, Search, Stop, Template};
+use tulfasheq::{begin, leg, recover, restore, save};
+use tulfasheq::{Leg, Recovered, Search, Stop, Template};
 
 mod linked;
 

@@ -2,7 +2,7 @@
 //! and which record it tells. A leg from such bytes has to say the same, and
 //! nothing may be written.
 
-use second::library::{leg, restore, save, Search};
+use tulfasheq::{leg, restore, save, Search};
 
 mod linked;
 

@@ -3,16 +3,16 @@
 //! second program; and the rows of a leg beside the lists of their motifs,
 //! both the library's. In both profiles.
 
-use second::library::{self, Recovered, Stop, Template};
 use second::requests::answer::search;
 use second::requests::random::Random;
 use second::requests::request::{Set, Value};
 use second::{Answer, Profile, Refusal};
 use std::ops::Range;
+use tulfasheq::{Recovered, Stop, Template};
 
 mod linked;
 
-use linked::{allowances, shape};
+use linked::{allowances, refused, shape};
 
 /// A random set, a template within the rules, and a quorum: in the exact profile
 /// with allowances that it does not look at, and in the mixed one with fewer
@@ -82,7 +82,7 @@ fn relay(profile: Profile, random: &mut Random) {
     let (shape, allowances) = (shape(&value), allowances(&value));
     let mut saved = random.bytes(128);
     let mut beside = saved.clone();
-    let begun = library::begin(
+    let begun = tulfasheq::begin(
         letters,
         lengths,
         template(&value, &shape, &allowances),
@@ -107,7 +107,7 @@ fn relay(profile: Profile, random: &mut Random) {
             &mut tables.supports,
             &mut tables.weights,
         );
-        let leg = library::leg(letters, lengths, &mut saved[..size], budget, m, s, w)
+        let leg = tulfasheq::leg(letters, lengths, &mut saved[..size], budget, m, s, w)
             .expect("the bytes of a search");
         let (m, s, w) = (
             &mut tables_there.motifs,
@@ -173,7 +173,7 @@ fn pages(profile: Profile, random: &mut Random) {
         let mut page = random.narrow(room);
         let mut page_there = page.clone();
         let template = template(&value, &shape, &allowances);
-        let told = library::recover(letters, lengths, template, motif, first, &mut page)
+        let told = tulfasheq::recover(letters, lengths, template, motif, first, &mut page)
             .expect("a row of the list");
         let told_there = second::recover(
             letters,
@@ -205,11 +205,11 @@ fn rows_beside_lists(set: &Set, value: &Value, random: &mut Random) -> usize {
     let (shape, mut allowances) = (shape(value), allowances(value));
     let template = template(value, &shape, &allowances);
     let mut saved = [0; 128];
-    let size = library::begin(letters, lengths, template, value.quorum, &mut saved)
+    let size = tulfasheq::begin(letters, lengths, template, value.quorum, &mut saved)
         .expect("a search within the rules");
     let (mut motifs, mut supports, mut weights) = ([0; 60], [0; 60], [0; 60]);
     let (m, s, w) = (&mut motifs[..], &mut supports[..], &mut weights[..]);
-    let leg = library::leg(letters, lengths, &mut saved[..size], 2_000, m, s, w)
+    let leg = tulfasheq::leg(letters, lengths, &mut saved[..size], 2_000, m, s, w)
         .expect("the bytes of a search");
 
     let mut other = shape.clone();
@@ -223,7 +223,7 @@ fn rows_beside_lists(set: &Set, value: &Value, random: &mut Random) -> usize {
     let row = usize::from(value.count) + 1;
     for (motif, length) in motifs.into_iter().zip(weights).take(leg.rows) {
         let recover = |first, out: &mut [u32]| {
-            library::recover(letters, lengths, template, motif, first, out)
+            tulfasheq::recover(letters, lengths, template, motif, first, out)
         };
         let room = random.below(5);
         let mut page = random.narrow(room as usize * row);
@@ -233,7 +233,7 @@ fn rows_beside_lists(set: &Set, value: &Value, random: &mut Random) -> usize {
         let left = page.clone();
         let rows = 0;
         assert_eq!(recover(length, &mut page), Ok(Recovered { rows, length }));
-        let refusal = Refusal::plain(Refusal::FIRST_ROW);
+        let refusal = refused(Refusal::FIRST_ROW, 0);
         assert_eq!(recover(length + 1, &mut page), Err(refusal));
         assert_eq!(page, left);
     }

@@ -3,9 +3,8 @@
 
 #![allow(dead_code)]
 
-use second::library::{begin, leg, Leg, Search, Stop, Template};
 use second::requests::request::{Slot, Value};
-use second::Refusal;
+use tulfasheq::{begin, leg, Leg, Refusal, Search, Stop, Template};
 
 /// ACGTA, CAGGT, AT.
 pub const LETTERS: &[u8] = b"ACGTACAGGTAT";
@@ -35,6 +34,12 @@ pub fn at(template: Template, quorum: u64, next_letters: u8, next_number: u64) -
 
 pub fn refused(number: u8, place: u64) -> Refusal {
     Refusal { number, place }
+}
+
+/// A refusal of the library's, as the second program tells it: the two share no
+/// type.
+pub fn as_second(refusal: Refusal) -> second::Refusal {
+    second::Refusal::at(refusal.number, refusal.place)
 }
 
 /// The bytes of a new search over E, with its length told.

@@ -5,7 +5,6 @@ use crate::inputs;
 use crate::linked;
 use crate::timing::{in_turn, ratios, row, title, Work};
 use crate::walk::Search;
-use second::library;
 
 /// The first byte that is no letter, if there is one: all are looked at first,
 /// with no way out of the loop, and it is then sought by blocks of 64, as the
@@ -42,10 +41,10 @@ fn refused(search: &Search) -> Option<(u64, u64)> {
 /// The same, by the library.
 fn refused_by_library(search: &Search) -> Option<(u64, u64)> {
     let shape = linked::shape(search);
-    let template = library::Template::exact(search.components.len() as u16, &shape);
+    let template = tulfasheq::Template::exact(search.components.len() as u16, &shape);
     let mut saved = [0; 128];
     let (letters, lengths) = (&search.set.letters, &search.set.lengths);
-    let begun = library::begin(letters, lengths, template, search.quorum, &mut saved);
+    let begun = tulfasheq::begin(letters, lengths, template, search.quorum, &mut saved);
     begun.err().map(|why| (u64::from(why.number), why.place))
 }
 

@@ -6,7 +6,7 @@
 use crate::reader::{in_eights, one_by_one, Reader};
 use crate::timing::{in_turn, ratios, row, title, Times, Work};
 use second::requests::random::Random;
-use second::{library, Refusal};
+use second::Refusal;
 
 /// Records of random letters.
 #[derive(Clone, Copy)]
@@ -112,9 +112,11 @@ type Handed<'a> = Result<(&'a [u8], u64), Refusal>;
 
 /// A call of the library's reader.
 fn by_library<'a>(file: &'a [u8]) -> impl FnMut(&mut Tables) -> Option<Handed<'a>> {
-    let mut reader = library::Reader::new(file);
+    let mut reader = tulfasheq::Reader::new(file);
+    // As the other reader tells it.
+    let refusal = |why: tulfasheq::Refusal| Refusal::at(why.number, why.place);
     move |to| {
-        let name = to.lend(|l, u, n, c| reader.next(l, u, n, c))?;
+        let name = to.lend(|l, u, n, c| reader.next(l, u, n, c).map_err(refusal))?;
         Some(name.map(|name| (name, reader.at())))
     }
 }

@@ -1,7 +1,6 @@
 //! The library, called as any Rust program would call it.
 
 use crate::walk::{Place, Rows, Search, Went};
-use second::library;
 
 /// A search's shape, as the library takes it.
 pub fn shape(search: &Search) -> Vec<u16> {
@@ -16,7 +15,7 @@ pub fn allowances(search: &Search) -> Vec<u16> {
 
 /// The saved bytes of a search at a place.
 pub fn saved_at(search: &Search, place: Place) -> Vec<u8> {
-    let told = library::Search {
+    let told = tulfasheq::Search {
         profile: search.profile.number(),
         components: search.components.len() as u16,
         quorum: search.quorum,
@@ -28,7 +27,7 @@ pub fn saved_at(search: &Search, place: Place) -> Vec<u8> {
     let mut saved = vec![0; 16 * (search.components.len() + 2)];
     let (letters, lengths) = (&search.set.letters, &search.set.lengths);
     let (shape, allowances) = (shape(search), allowances(search));
-    let size = library::save(letters, lengths, &told, &shape, &allowances, &mut saved);
+    let size = tulfasheq::save(letters, lengths, &told, &shape, &allowances, &mut saved);
     size.expect("a candidate");
     saved
 }
@@ -37,7 +36,7 @@ pub fn saved_at(search: &Search, place: Place) -> Vec<u8> {
 pub fn leg(search: &Search, saved: &[u8], budget: u64, tables: &mut Rows) -> Went {
     let (letters, lengths) = (&search.set.letters, &search.set.lengths);
     let mut saved = saved.to_vec();
-    let leg = library::leg(
+    let leg = tulfasheq::leg(
         letters,
         lengths,
         &mut saved,
@@ -63,7 +62,7 @@ pub fn leg(search: &Search, saved: &[u8], budget: u64, tables: &mut Rows) -> Wen
 
 /// A recovery from row 0 on.
 pub fn recover(search: &Search, motif: u64, out: &mut [u32]) -> (usize, u64) {
-    let template = library::Template {
+    let template = tulfasheq::Template {
         profile: search.profile.number(),
         components: search.components.len() as u16,
         shape: &shape(search),
@@ -71,6 +70,6 @@ pub fn recover(search: &Search, motif: u64, out: &mut [u32]) -> (usize, u64) {
     };
     let (letters, lengths) = (&search.set.letters, &search.set.lengths);
     let recovered =
-        library::recover(letters, lengths, template, motif, 0, out).expect("a motif's number");
+        tulfasheq::recover(letters, lengths, template, motif, 0, out).expect("a motif's number");
     (recovered.rows, recovered.length)
 }

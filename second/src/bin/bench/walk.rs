@@ -1,8 +1,8 @@
 //! What the programs share: the sequences, the candidates in their order, and
 //! what a leg answers.
 
-use second::library::Stop;
 use second::{Component, Profile};
+use tulfasheq::Stop;
 
 /// Lent sequences.
 #[derive(Clone, Debug)]

@@ -1,7 +1,6 @@
 //! The FASTA reader: a file, and the cursor that the library's calls move on.
 
-use super::{answer, declared, UNTOLD};
-use crate::refusal::Refusal;
+use super::{answer, declared, Refusal, UNTOLD};
 
 /// A reader over a lent file.
 #[derive(Clone, Copy, Debug)]

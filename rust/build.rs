@@ -1,18 +1,14 @@
-//! Where the archive of the proved library stands, for those who link it: the
-//! feature `library`. Without the feature there is nothing to do.
+//! Where the archive of the proved library stands, which this package links.
 
 use std::path::Path;
 
 fn main() {
     println!("cargo:rerun-if-changed=build.rs");
-    if std::env::var_os("CARGO_FEATURE_LIBRARY").is_none() {
-        return;
-    }
     let package = std::env::var("CARGO_MANIFEST_DIR").expect("cargo names the package's folder");
     let folder = Path::new(&package).join("../target/host");
     let archive = folder.join("libtulfasheq.a");
     if !archive.is_file() {
-        panic!("no target/host/libtulfasheq.a: second/library.sh makes it");
+        panic!("no target/host/libtulfasheq.a: rust/library.sh makes it");
     }
     println!("cargo:rerun-if-changed={}", archive.display());
     println!("cargo:rustc-link-search=native={}", folder.display());

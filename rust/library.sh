@@ -28,7 +28,7 @@ quietly() {
     }
 }
 
-[ -f target/stamp/exports ] || echo "second/library.sh: the library is proved first, which takes some minutes" >&2
+[ -f target/stamp/exports ] || echo "rust/library.sh: the library is proved first, which takes some minutes" >&2
 quietly rt check exports
 host=target/host
 mkdir -p "$host"

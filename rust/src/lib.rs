@@ -1,8 +1,7 @@
 //! The proved library, called as C calls it: the seven functions that
 //! `include/tulfasheq.h` declares, and a safe function for each.
 //!
-//! Behind the feature `library`, since it links `target/host/libtulfasheq.a`,
-//! which `second/library.sh` makes.
+//! It links `target/host/libtulfasheq.a`, which `rust/library.sh` makes.
 //!
 //! "A refused call sets *place (0 where the refusal tells no place), sets every
 //! other number that it answers to 0, and leaves every array as it was; numbers
@@ -12,14 +11,16 @@
 //!
 //! "A call uses less than 1.5 MiB of stack", for which a thread's usual 2 MiB do.
 
+#![deny(unsafe_op_in_unsafe_fn)]
+#![warn(missing_docs)]
+
 mod declared;
+pub mod limits;
 mod reader;
 mod told;
 
-use crate::refusal::Refusal;
-
 pub use reader::Reader;
-pub use told::{Leg, Recovered, Search, Stop, Template};
+pub use told::{Leg, Recovered, Refusal, Search, Stop, Template};
 
 /// A number that no call leaves behind, to be told in its place.
 const UNTOLD: u64 = u64::MAX;

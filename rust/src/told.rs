@@ -1,5 +1,15 @@
 //! What a caller passes to the library and what is told back, put together.
 
+/// What a refused call tells: a number of the header's, and a place.
+#[derive(Clone, Copy, Debug, PartialEq, Eq)]
+pub struct Refusal {
+    /// The number, 1 to 24. 18 is the printing program's alone.
+    pub number: u8,
+    /// The place told: an offset, a component's number, a record's number, or
+    /// 0.
+    pub place: u64,
+}
+
 /// A template as the library takes it: its profile, how many components, the
 /// length, l and u of each in turn, and the allowance of each.
 #[derive(Clone, Copy, Debug, PartialEq, Eq)]
