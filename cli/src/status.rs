@@ -1,0 +1,45 @@
+//! `status`: what a job is, and how far.
+
+use crate::failure::Answer;
+use crate::job::About;
+use crate::out::Out;
+use crate::progress::percent;
+use std::path::Path;
+
+/// Tells of a job, a line for each thing: its name, a tab, and what it is.
+pub fn status(folder: &Path) -> Answer<()> {
+    let about = About::read(folder)?;
+    about.check_table()?;
+    let template = &about.template;
+    let (letters, number) = about.next;
+    let next = match letters {
+        0 => "none: the search has ended".to_string(),
+        _ => template.prefix(letters, number),
+    };
+    let mixed = match template.mixed {
+        true => template.allowances(),
+        false => "no".to_string(),
+    };
+    let state = match (about.running(), about.ended()) {
+        (true, _) => "running",
+        (false, true) => "ended",
+        (false, false) => "stopped",
+    };
+    let lines = [
+        ("state", state.to_string()),
+        ("template", template.text.clone()),
+        ("mixed", mixed),
+        ("quorum", about.quorum.to_string()),
+        ("sequences", about.sequences.count().to_string()),
+        ("letters", about.sequences.letters.len().to_string()),
+        ("next", next),
+        ("done", percent(template.share(letters, number))),
+        ("steps", about.steps().to_string()),
+        ("rows", about.rows().to_string()),
+    ];
+    let text: String = lines
+        .iter()
+        .map(|(name, value)| format!("{name}\t{value}\n"))
+        .collect();
+    Out::default().open()?.write(text.as_bytes())
+}

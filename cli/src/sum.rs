@@ -1,0 +1,36 @@
+//! A sum of bytes by which damage shows (FNV-1a, 64 bits). It guards against
+//! accidents, not against someone who wants to deceive.
+
+/// A sum that grows with the bytes.
+#[derive(Clone, Copy, Debug, PartialEq, Eq)]
+pub struct Sum(pub u64);
+
+impl Sum {
+    /// The sum of no bytes.
+    pub const NONE: Sum = Sum(0xcbf2_9ce4_8422_2325);
+
+    /// The sum of the bytes so far and these.
+    pub fn and(self, bytes: &[u8]) -> Sum {
+        Sum(bytes.iter().fold(self.0, |sum, byte| {
+            (sum ^ u64::from(*byte)).wrapping_mul(0x0000_0100_0000_01b3)
+        }))
+    }
+
+    /// The sum of bytes.
+    pub fn of(bytes: &[u8]) -> Sum {
+        Sum::NONE.and(bytes)
+    }
+}
+
+#[cfg(test)]
+mod tests {
+    use super::Sum;
+
+    #[test]
+    fn sums_are_those_of_fnv_1a() {
+        assert_eq!(Sum::of(b"").0, 0xcbf2_9ce4_8422_2325);
+        assert_eq!(Sum::of(b"a").0, 0xaf63_dc4c_8601_ec8c);
+        assert_eq!(Sum::of(b"foobar").0, 0x8594_4171_f739_67e8);
+        assert_eq!(Sum::of(b"foo").and(b"bar"), Sum::of(b"foobar"));
+    }
+}
