@@ -4,7 +4,7 @@ use crate::failure::{Answer, Failure};
 use std::fs::{self, File};
 use std::io::{self, Write};
 use std::os::unix::fs::MetadataExt;
-use std::path::{Path, PathBuf};
+use std::path::{self, Path, PathBuf};
 
 /// A place to write to. Nothing is made or emptied before it is opened.
 #[derive(Clone, Debug, Default)]
@@ -36,6 +36,26 @@ impl Out {
         Ok(())
     }
 
+    /// Whether it could be opened, as far as that shows without changing
+    /// anything: it is written to only when a job has ended, which may be long
+    /// after.
+    pub fn check(&self) -> Answer<()> {
+        let Some(path) = &self.file else {
+            return Ok(());
+        };
+        let found = match fs::metadata(path) {
+            Ok(found) if found.is_dir() => Err(io::ErrorKind::IsADirectory.into()),
+            // To open a pipe would wait for who reads it.
+            Ok(found) if found.is_file() => File::options().write(true).open(path).map(|_| ()),
+            Ok(_) => Ok(()),
+            Err(error) if error.kind() == io::ErrorKind::NotFound => {
+                fs::read_dir(folder_of(path)).map(|_| ())
+            }
+            Err(error) => Err(error),
+        };
+        found.map_err(|error| Failure::io(path.display(), &error))
+    }
+
     pub fn open(&self) -> Answer<Open> {
         let Some(path) = &self.file else {
             return Ok(Open {
@@ -52,10 +72,28 @@ impl Out {
     }
 }
 
-/// Whether two paths lead to one file.
+/// The folder that a file stands in.
+pub fn folder_of(path: &Path) -> &Path {
+    match path.parent() {
+        Some(parent) if parent != Path::new("") => parent,
+        _ => Path::new("."),
+    }
+}
+
+/// Whether two paths lead to one file: one that is there, or one that is to be
+/// made under a name in a folder.
 fn same(one: &Path, other: &Path) -> bool {
-    match (fs::metadata(one), fs::metadata(other)) {
-        (Ok(one), Ok(other)) => (one.dev(), one.ino()) == (other.dev(), other.ino()),
+    let identity = |path: &Path| {
+        fs::metadata(path)
+            .map(|found| (found.dev(), found.ino()))
+            .ok()
+    };
+    match (identity(one), identity(other)) {
+        (Some(one), Some(other)) => one == other,
+        (None, None) => {
+            let folder = |path: &Path| path::absolute(folder_of(path)).ok();
+            one.file_name() == other.file_name() && folder(one) == folder(other)
+        }
         _ => false,
     }
 }

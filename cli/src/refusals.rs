@@ -164,29 +164,29 @@ pub fn of_motif(refusal: Refusal, template: &Template, motif: &str) -> Failure {
     Failure::refused(format!("tulfasheq: {words} (refusal {})", refusal.number))
 }
 
-/// A saved search that the library refuses.
+/// A saved search that the library refuses. Its records count from 0: the size
+/// record, one for each component, and the place.
 pub fn of_save(refusal: Refusal, called: &str) -> Failure {
-    let record = refusal.place;
-    let words = match refusal.number {
-        10 => "the saved search is cut short, or is none".to_string(),
-        11 => format!("record {record} of the saved search is of the wrong kind"),
-        21 => format!("record {record} of the saved search has a byte that must be 0 and is not"),
-        22 => format!(
-            "record {record} of the saved search has a sum that is not the sum of the lengths"
-        ),
-        23 => format!("record {record} of the saved search, its place, is none of this search"),
-        12 => "the saved search is over other sequences than those in the folder".to_string(),
-        13 => {
-            "the saved search stands at a place that the search over these sequences never comes to"
-                .to_string()
-        }
-        5..=9 | 24 => "the saved search has a template or a quorum that no search has".to_string(),
-        _ => "the saved search is refused".to_string(),
+    let number = refusal.number;
+    let place = refusal.place;
+    let record = match number {
+        11 | 21 | 22 | 23 => format!("record {place} of the saved search "),
+        _ => "the saved search ".to_string(),
     };
-    Failure::damaged(format!(
-        "{called}: {words} (refusal {}, place {})",
-        refusal.number, refusal.place
-    ))
+    let words = match number {
+        10 => "is cut short, or is none".to_string(),
+        11 => "is of the wrong kind".to_string(),
+        21 => "has a byte that must be 0 and is not".to_string(),
+        22 => "has a number of letters that is not the sum of the components' lengths".to_string(),
+        23 => "has a place that its template has not".to_string(),
+        12 => "is over other sequences".to_string(),
+        13 => "stands at a place that the search over these sequences never comes to".to_string(),
+        6 | 8 => format!("has a component that no template has: component {place}"),
+        5 | 7 | 24 => "has a template that no search has".to_string(),
+        9 => "has a quorum that no search has".to_string(),
+        _ => "is refused".to_string(),
+    };
+    Failure::damaged(format!("{called}: {record}{words} (refusal {number})"))
 }
 
 /// A refusal that has no words of its own.

@@ -2,12 +2,13 @@
 //! goes on.
 
 use crate::failure::{Answer, Failure};
-use crate::job::{About, Job};
+use crate::job::{self, Job};
 use crate::legs::{self, Search};
 use crate::out::Out;
 use crate::progress::Progress;
 use crate::quorum::Quorum;
 use crate::refusals;
+use crate::say;
 use crate::sequences::{self, Sequences};
 use crate::signals::Asking;
 use crate::table;
@@ -31,13 +32,22 @@ pub fn search(asked: Asked) -> Answer<()> {
     let sequences = sequences::read(&asked.file)?;
     let quorum = asked.quorum.of(sequences.count());
     let saved = begin(&sequences, &asked.template, quorum)?;
-    match &asked.job {
-        None => straight(&sequences, &asked, saved),
-        Some(folder) => {
-            let job = Job::create(folder, sequences, asked.template, quorum, saved)?;
-            go_on(job, &asked.out, asked.quiet)
-        }
-    }
+    let Some(folder) = &asked.job else {
+        return straight(&sequences, &asked, saved);
+    };
+    asked.out.spare(&job::files(folder))?;
+    asked.out.check()?;
+    let asking = Asking::begin();
+    let job = Job::create(folder, sequences, asked.template, quorum, saved)?;
+    go_on(job, asking, &asked.out, asked.quiet)
+}
+
+/// Goes on with a job.
+pub fn resume(folder: &Path, out: &Out, quiet: bool) -> Answer<()> {
+    out.spare(&job::files(folder))?;
+    out.check()?;
+    let asking = Asking::begin();
+    go_on(Job::open(folder)?, asking, out, quiet)
 }
 
 /// A new search, saved.
@@ -106,28 +116,40 @@ fn leg(
 
 /// Goes on with a job until it has ended, and writes out its table; or until a
 /// signal asks to stop.
-fn go_on(mut job: Job, out: &Out, quiet: bool) -> Answer<()> {
-    out.spare(&job.about.files())?;
+fn go_on(mut job: Job, asking: Asking, out: &Out, quiet: bool) -> Answer<()> {
     if !job.about.ended() {
-        run(&mut job, quiet)?;
+        run(&mut job, &asking, quiet)?;
     }
-    write_out(&job.about, out)
+    // All is saved: from here on a signal may end the program at once.
+    drop(asking);
+    let mut table = job.about.table()?;
+    let written = out.open().and_then(|mut out| out.copy(&mut table));
+    written.map_err(|failure| {
+        failure.and(format!(
+            "The search has ended, and its table is kept: {} writes it out again.",
+            how(&job)
+        ))
+    })
 }
 
-fn run(job: &mut Job, quiet: bool) -> Answer<()> {
-    let asking = Asking::begin();
-    let folder = job.about.folder.display().to_string();
-    let how = format!("tulfasheq resume {folder}");
-    let (saved, steps, rows) = (
+/// Runs legs until the search has ended.
+fn run(job: &mut Job, asking: &Asking, quiet: bool) -> Answer<()> {
+    let mut search = Search::new(
         job.about.saved().to_vec(),
         job.about.steps(),
         job.about.rows(),
     );
-    let mut search = Search::new(saved, steps, rows);
     let mut progress = Progress::new(quiet);
     let mut lines = Vec::new();
-    loop {
-        let ended = leg(
+    let mut ended = false;
+    while !ended {
+        if asking.asked() {
+            return Err(Failure::stopped(format!(
+                "stopped, and saved: {} goes on",
+                how(job)
+            )));
+        }
+        ended = leg(
             &mut search,
             &job.about.sequences,
             &job.about.template,
@@ -137,27 +159,15 @@ fn run(job: &mut Job, quiet: bool) -> Answer<()> {
         job.keep(&lines, search.steps, search.rows, &search.saved)
             .map_err(|failure| {
                 failure.and(format!(
-                    "The search is saved up to its last leg: {how} goes on with it."
+                    "The search is saved up to its last leg: {} goes on.",
+                    how(job)
                 ))
             })?;
-        if ended {
-            return Ok(());
-        }
-        if asking.asked() {
-            return Err(Failure::stopped(format!(
-                "stopped, and saved in {folder}: {how} goes on with it"
-            )));
-        }
     }
+    Ok(())
 }
 
-/// Goes on with a job.
-pub fn resume(folder: &Path, out: &Out, quiet: bool) -> Answer<()> {
-    go_on(Job::open(folder)?, out, quiet)
-}
-
-/// Writes out the whole table of a job that has ended.
-fn write_out(about: &About, out: &Out) -> Answer<()> {
-    let mut table = about.table()?;
-    out.open()?.copy(&mut table)
+/// How a job is gone on with, as a shell reads it.
+fn how(job: &Job) -> String {
+    format!("tulfasheq resume {}", say::quoted(&job.about.folder))
 }

@@ -17,7 +17,9 @@ mod state;
 
 use crate::failure::{Answer, Failure};
 use crate::legs;
+use crate::out::folder_of;
 use crate::refusals;
+use crate::say;
 use crate::sequences::{self, Sequences};
 use crate::sum::Sum;
 use crate::table;
@@ -37,6 +39,14 @@ const LOCK: &str = "lock";
 
 /// The most bytes of a state: far more than any has.
 const MOST_STATE: u64 = 65_536;
+
+/// The files of a job's folder.
+pub fn files(folder: &Path) -> Vec<PathBuf> {
+    [SEQUENCES, ROWS, STATE, NEW, LOCK]
+        .iter()
+        .map(|name| folder.join(name))
+        .collect()
+}
 
 /// What a job is about, as its folder says.
 pub struct About {
@@ -73,14 +83,6 @@ impl About {
 
     pub fn saved(&self) -> &[u8] {
         &self.state.saved
-    }
-
-    /// The files of the folder.
-    pub fn files(&self) -> Vec<PathBuf> {
-        [SEQUENCES, ROWS, STATE, NEW, LOCK]
-            .iter()
-            .map(|name| self.folder.join(name))
-            .collect()
     }
 
     /// Reads a folder, and changes nothing in it.
@@ -165,7 +167,7 @@ impl Job {
         saved: Vec<u8>,
     ) -> Answer<Job> {
         match fs::create_dir(folder) {
-            Ok(()) => flush_parent(folder)?,
+            Ok(()) => flush_folder(folder_of(folder))?,
             Err(error) if error.kind() == io::ErrorKind::AlreadyExists => may_begin(folder)?,
             Err(error) => return Err(Failure::io(folder.display(), &error)),
         }
@@ -199,6 +201,8 @@ impl Job {
             _lock: lock,
         };
         job.rows_end()?;
+        // A state never stands there without what it goes with.
+        flush_folder(folder)?;
         job.write_state()?;
         Ok(job)
     }
@@ -300,7 +304,8 @@ fn may_begin(folder: &Path) -> Answer<()> {
         let name = entry.file_name();
         if name == STATE {
             return Err(Failure::usage(format!(
-                "{called} holds a search already: tulfasheq resume {called} goes on with it"
+                "{called} holds a search already: tulfasheq resume {} goes on with it",
+                say::quoted(folder)
             )));
         }
         if ![SEQUENCES, ROWS, NEW, LOCK]
@@ -320,6 +325,9 @@ fn may_begin(folder: &Path) -> Answer<()> {
 /// looks holds it for an instant, so it is tried for a while.
 fn lock(folder: &Path) -> Answer<File> {
     let path = folder.join(LOCK);
+    if path.exists() {
+        regular(&path)?;
+    }
     let file = OpenOptions::new()
         .create(true)
         .truncate(false)
@@ -362,7 +370,24 @@ fn read_state(folder: &Path) -> Answer<State> {
         _ => {}
     }
     let bytes = read_whole(&path, MOST_STATE)?;
-    State::read(&bytes).map_err(|why| Failure::damaged(format!("{}: {why}", path.display())))
+    State::read(&bytes).map_err(|bad| {
+        let failure = Failure::damaged(format!("{}: {}", path.display(), bad.why));
+        match refused(folder, bad.saved) {
+            Some(more) => failure.and(more),
+            None => failure,
+        }
+    })
+}
+
+/// What the library refuses of the saved search in a state that is damaged:
+/// its number and the record tell where the damage is.
+fn refused(folder: &Path, saved: Option<Vec<u8>>) -> Option<String> {
+    let path = folder.join(SEQUENCES);
+    let bytes = read_whole(&path, sequences::MOST_BYTES).ok()?;
+    let sequences = Sequences::new(path.display().to_string(), bytes).ok()?;
+    let refusal = legs::restored(&sequences, &saved?).err()?;
+    let state = folder.join(STATE).display().to_string();
+    Some(refusals::of_save(refusal, &state).words)
 }
 
 /// A file of the job is a plain file: to read another could wait for ever.
@@ -414,12 +439,4 @@ fn flush_folder(folder: &Path) -> Answer<()> {
     File::open(folder)
         .and_then(|folder| folder.sync_all())
         .map_err(|error| Failure::io(folder.display(), &error))
-}
-
-/// Flushes the name of a folder that was made.
-fn flush_parent(folder: &Path) -> Answer<()> {
-    match folder.parent() {
-        Some(parent) if parent != Path::new("") => flush_folder(parent),
-        _ => flush_folder(Path::new(".")),
-    }
 }

@@ -8,6 +8,7 @@ use std::str::{from_utf8, FromStr};
 /// The first line. The number changes with the layout, so that no program
 /// reads a state by another layout than its own.
 const FIRST: &str = "tulfasheq job 1";
+const PROGRAM: &str = "tulfasheq job ";
 
 /// A state.
 #[derive(Clone, Debug, PartialEq, Eq)]
@@ -27,6 +28,14 @@ pub struct State {
     pub saved: Vec<u8>,
 }
 
+/// What is wrong with a state.
+#[derive(Debug, PartialEq, Eq)]
+pub struct Bad {
+    pub why: String,
+    /// The bytes of the saved search, where they can be read all the same.
+    pub saved: Option<Vec<u8>>,
+}
+
 impl State {
     /// The state as text.
     pub fn text(&self) -> String {
@@ -40,20 +49,30 @@ impl State {
 
     /// Reads a state, or says what is wrong with it. Only what `text` writes
     /// is read.
-    pub fn read(bytes: &[u8]) -> Result<State, String> {
-        let text = from_utf8(bytes).map_err(|_| "it is no text".to_string())?;
+    pub fn read(bytes: &[u8]) -> Result<State, Bad> {
+        let bad = |why: &str, saved| {
+            let why = why.to_string();
+            Err(Bad { why, saved })
+        };
+        let Ok(text) = from_utf8(bytes) else {
+            return bad("it is no text", None);
+        };
         let first = text.lines().next().unwrap_or("");
         if first != FIRST {
-            return Err(match first.strip_prefix("tulfasheq job ") {
-                Some(layout) => {
-                    format!("it has layout {layout:?}, and this program reads layout 1")
-                }
-                None => "it is no state of a job".to_string(),
-            });
+            return match first.strip_prefix(PROGRAM) {
+                Some(layout) => bad(
+                    &format!("it has layout {layout:?}, and this program reads layout \"1\""),
+                    None,
+                ),
+                None => bad("it is no state of a job", None),
+            };
         }
-        let state = State::lines(text).ok_or("its lines are not those of a state")?;
+        let Some(state) = State::lines(text) else {
+            return bad("its lines are not those of a state", None);
+        };
         if state.text() != text {
-            return Err("its sum is not that of its lines: it was damaged".to_string());
+            let why = "its sum is not that of its lines: it was damaged";
+            return bad(why, Some(state.saved));
         }
         Ok(state)
     }
@@ -136,7 +155,7 @@ mod tests {
 
     #[test]
     fn another_layout_is_named() {
-        let why = State::read(b"tulfasheq job 2\n").unwrap_err();
+        let why = State::read(b"tulfasheq job 2\n").unwrap_err().why;
         assert!(why.contains("layout \"2\""), "{why}");
     }
 }
