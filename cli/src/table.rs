@@ -1,7 +1,6 @@
 //! The table of a search: tab-separated lines under a header, and last, only
 //! when the search has ended, a comment.
 
-use crate::counted::of;
 use crate::template::Template;
 use std::io::Write;
 
@@ -23,7 +22,7 @@ pub fn rows(
     }
 }
 
-/// The last line of a search that has ended.
+/// The last line of a search that has ended, which a script can read too.
 pub fn end(steps: u64, rows: u64) -> String {
-    format!("# end: {}, {}\n", of(steps, "step"), of(rows, "row"))
+    format!("# end: steps {steps}, rows {rows}\n")
 }
