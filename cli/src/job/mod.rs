@@ -110,10 +110,9 @@ impl About {
 
     /// Whether a program works on it now.
     pub fn running(&self) -> bool {
-        match File::open(self.folder.join(LOCK)) {
-            Ok(lock) => matches!(lock.try_lock_shared(), Err(TryLockError::WouldBlock)),
-            Err(_) => false,
-        }
+        let path = self.folder.join(LOCK);
+        let lock = regular(&path).ok().and_then(|()| File::open(&path).ok());
+        lock.is_some_and(|lock| matches!(lock.try_lock_shared(), Err(TryLockError::WouldBlock)))
     }
 
     /// The part of the table that the state counts.
