@@ -152,8 +152,8 @@ fn past(template: &Template, most: u64) -> Range<usize> {
     0..template.text.len()
 }
 
-/// A refused motif.
-pub fn of_motif(refusal: Refusal, template: &Template, motif: &str) -> Failure {
+/// A refused motif, and where it comes from.
+pub fn of_motif(refusal: Refusal, template: &Template, motif: &str, called: &str) -> Failure {
     let words = match refusal.number {
         14 => format!(
             "{motif} has more letters that stand for several bases than the allowances {} let a component have",
@@ -161,7 +161,7 @@ pub fn of_motif(refusal: Refusal, template: &Template, motif: &str) -> Failure {
         ),
         _ => return other(refusal),
     };
-    Failure::refused(format!("tulfasheq: {words} (refusal {})", refusal.number))
+    Failure::refused(format!("{called}: {words} (refusal {})", refusal.number))
 }
 
 /// A saved search that the library refuses. Its records count from 0: the size

@@ -187,13 +187,15 @@ impl Template {
     }
 
     /// The number of a motif, from its letters: with the template's ranges
-    /// between the components, as it is listed, or without.
-    pub fn number(&self, motif: &str) -> Answer<u64> {
+    /// between the components, as it is listed, or without. Otherwise what is
+    /// wrong with it, with a caret: it may come from the command line or from
+    /// a file.
+    pub fn number(&self, motif: &str) -> Result<u64, String> {
         let wrong = |part: Range<usize>, why: String| {
-            Err(Failure::usage(format!(
+            Err(format!(
                 "the motif cannot be read: {why}\n{}",
                 caret::under(motif, part)
-            )))
+            ))
         };
         let shaped = motif.contains(['[', ']']);
         let mut number: u64 = 0;

@@ -3,7 +3,7 @@
 use crate::failure::{Answer, Failure};
 use crate::help::{self, Of};
 use crate::out::Out;
-use crate::places::{self, Format, What};
+use crate::places::{self, Format, How, What};
 use crate::quorum::Quorum;
 use crate::search;
 use crate::template::Template;
@@ -275,11 +275,11 @@ fn read_places(mut words: Sorted) -> Answer<Command> {
             }
         }
     };
-    Ok(Command::Places(places::Asked {
-        what,
+    let how = How {
         format,
         from,
         rows,
         out,
-    }))
+    };
+    Ok(Command::Places(places::Asked { what, how }))
 }

@@ -1,17 +1,24 @@
 //! `places`: where motifs occur.
 
-use crate::failure::{Answer, Failure};
-use crate::out::Out;
-use crate::template::Template;
-use std::path::PathBuf;
+mod bed;
+mod format;
+mod gff;
+mod list;
+mod occurrences;
+mod tsv;
 
-/// How an occurrence is written.
-#[derive(Clone, Copy, Debug, PartialEq, Eq)]
-pub enum Format {
-    Bed,
-    Gff,
-    Tsv,
-}
+use crate::counted::{grouped, of};
+use crate::failure::{Answer, Failure};
+use crate::job::About;
+use crate::out::Out;
+use crate::refusals;
+use crate::say::say;
+use crate::sequences::{self, Sequences};
+use crate::template::Template;
+pub use format::Format;
+use occurrences::Occurrences;
+use std::io::BufReader;
+use std::path::{Path, PathBuf};
 
 /// Whose occurrences.
 pub enum What {
@@ -28,15 +35,134 @@ pub enum What {
     Job(PathBuf),
 }
 
-/// The occurrences that are asked for.
-pub struct Asked {
-    pub what: What,
+/// Which rows of the list are written, how and where to.
+pub struct How {
     pub format: Format,
     pub from: u64,
     pub rows: Option<u64>,
     pub out: Out,
 }
 
-pub fn places(_asked: Asked) -> Answer<()> {
-    Err(Failure::usage("not yet"))
+/// The occurrences that are asked for.
+pub struct Asked {
+    pub what: What,
+    pub how: How,
+}
+
+/// Lists occurrences. All that is read is checked before anything is written.
+pub fn places(asked: Asked) -> Answer<()> {
+    let how = asked.how;
+    match asked.what {
+        What::Motif {
+            template,
+            motif,
+            file,
+        } => of_motif(&template, &motif, &file, &how),
+        What::List {
+            template,
+            list,
+            file,
+        } => of_list(&template, &list, &file, &how),
+        What::Job(folder) => of_job(&folder, &how),
+    }
+}
+
+/// Of one motif.
+fn of_motif(template: &Template, motif: &str, file: &Path, how: &How) -> Answer<()> {
+    how.out.spare(&[file.to_path_buf()])?;
+    let number = template.number(motif).map_err(Failure::usage)?;
+    let sequences = sequences::read(file)?;
+    let mut all = Occurrences::new(&sequences, template)?;
+    all.add(number)
+        .map_err(|refusal| refusals::of_motif(refusal, template, motif, "tulfasheq"))?;
+    how.write(&mut all, "")
+}
+
+/// Of every motif of a table that a search wrote.
+fn of_list(template: &Template, list: &Path, file: &Path, how: &How) -> Answer<()> {
+    let input = Path::new("-");
+    if list == input && file == input {
+        return Err(Failure::usage(
+            "standard input cannot be both the sequences and the list",
+        ));
+    }
+    how.out.spare(&[list.to_path_buf(), file.to_path_buf()])?;
+    let sequences = sequences::read(file)?;
+    let mut all = Occurrences::new(&sequences, template)?;
+    let whole = list::read_file(list, &mut all)?;
+    let said = if whole {
+        String::new()
+    } else {
+        format!(
+            "tulfasheq: {}: it is not whole, for it does not end with the line that search writes last: {} of it are taken",
+            list.display(),
+            of(all.motifs(), "row")
+        )
+    };
+    how.write(&mut all, &said)
+}
+
+/// Of every motif that a job has listed.
+fn of_job(folder: &Path, how: &How) -> Answer<()> {
+    let about = About::read(folder)?;
+    how.out.spare(&about.files())?;
+    about.check_table()?;
+    let mut all = Occurrences::new(&about.sequences, &about.template)?;
+    let called = folder.join(crate::job::ROWS).display().to_string();
+    list::read(&mut BufReader::new(about.table()?), &called, &mut all)?;
+    let said = if about.ended() {
+        String::new()
+    } else {
+        format!(
+            "tulfasheq: {}: the search has not ended: these are the places of the {} so far",
+            folder.display(),
+            of(all.motifs(), "row")
+        )
+    };
+    how.write(&mut all, &said)
+}
+
+impl How {
+    /// Writes the rows that are asked for, after what there is to say of them.
+    fn write(&self, all: &mut Occurrences, said: &str) -> Answer<()> {
+        // A longer list has every row that can be asked for.
+        let length = u64::try_from(all.length()).unwrap_or(u64::MAX);
+        if self.from > length {
+            return Err(Failure::refused(format!(
+                "tulfasheq: --from {}: the list has {}, and the last of them is before that (refusal 15)",
+                grouped(self.from),
+                of(length, "row")
+            )));
+        }
+        self.check_names(all.sequences)?;
+        if !said.is_empty() {
+            say(said);
+        }
+        let mut out = self.out.open()?;
+        let mut lines = Vec::new();
+        self.format.header(all.template, &mut lines);
+        out.write(&lines)?;
+        all.pages(self.from, self.rows.unwrap_or(u64::MAX), |page| {
+            lines.clear();
+            for occurrence in page {
+                self.format.row(&occurrence, &mut lines);
+            }
+            out.write(&lines)
+        })
+    }
+
+    /// Every record's name must be one that the format can hold, also where no
+    /// motif occurs, so that this does not hang on the motif.
+    fn check_names(&self, sequences: &Sequences) -> Answer<()> {
+        for number in 1..=sequences.lengths.len() as u32 {
+            if let Err(why) = self.format.takes(sequences.name(number)) {
+                return Err(Failure::refused(format!(
+                    "{}: the name of record {number} cannot stand in {}: {why}\nThe names of all records are checked first, also where no motif occurs. --tsv takes any name.",
+                    sequences.called,
+                    self.format.called(),
+                )));
+            }
+        }
+        Ok(())
+    }
 }
