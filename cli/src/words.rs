@@ -255,7 +255,12 @@ fn read_places(mut words: Sorted) -> Answer<Command> {
             if mixed.is_some() {
                 return Err(Failure::usage("a job knows its own --mixed"));
             }
-            let [] = words.plain(["--job DIR and no other word"; 0])?;
+            if !words.plain.is_empty() {
+                return Err(Failure::usage(
+                    "a job knows its own template and sequences: --job DIR takes no other word",
+                ));
+            }
+            let [] = words.plain([])?;
             What::Job(folder)
         }
         (None, Some(list)) => {

@@ -129,7 +129,7 @@ impl How {
         let length = u64::try_from(all.length()).unwrap_or(u64::MAX);
         if self.from > length {
             return Err(Failure::refused(format!(
-                "tulfasheq: --from {}: the list has {}, and the last of them is before that (refusal 15)",
+                "tulfasheq: --from {} is above the list's length: the list has {} (refusal 15)",
                 grouped(self.from),
                 of(length, "row")
             )));

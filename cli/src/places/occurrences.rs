@@ -6,7 +6,7 @@ use crate::failure::Answer;
 use crate::refusals;
 use crate::sequences::Sequences;
 use crate::template::Template;
-use library::Refusal;
+use library::{limits, Refusal};
 
 /// The most rows that are asked of the library at once.
 const PAGE: usize = 8_192;
@@ -30,9 +30,16 @@ impl<'a> Occurrences<'a> {
     /// Of no motif yet. Sequences and a template that the library refuses are
     /// refused here.
     pub fn new(sequences: &'a Sequences, template: &'a Template) -> Answer<Occurrences<'a>> {
-        // Number 0, which is As alone, is a motif of every template.
-        length(sequences, template, 0)
-            .map_err(|refusal| refusals::of_search(refusal, sequences, template, 0))?;
+        // A search refuses the same, and to begin one takes no time.
+        let quorum = 1;
+        library::begin(
+            &sequences.letters,
+            &sequences.lengths,
+            template.lent(),
+            quorum,
+            &mut [0; limits::SAVED_MOST],
+        )
+        .map_err(|refusal| refusals::of_search(refusal, sequences, template, quorum))?;
         Ok(Occurrences {
             sequences,
             template,

@@ -140,6 +140,8 @@ fn what_is_read_is_not_written_over() {
         let said = run(&[vec!["places"], words].concat()).said(2);
         assert!(said.contains("would write over"), "{said}");
     }
+    let more = run(&["places", "NN", "--job", job]).said(2);
+    assert!(more.contains("no other word"), "{more}");
     let both = run(&["places", "NN", "-", "--list", "-"]).said(2);
     assert!(both.contains("standard input"), "{both}");
     for (path, bytes) in kept {
