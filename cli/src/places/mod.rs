@@ -9,7 +9,7 @@ mod tsv;
 
 use crate::counted::{grouped, of};
 use crate::failure::{Answer, Failure};
-use crate::job::About;
+use crate::job::{self, About};
 use crate::out::Out;
 use crate::refusals;
 use crate::say::say;
@@ -104,11 +104,11 @@ fn of_list(template: &Template, list: &Path, file: &Path, how: &How) -> Answer<(
 
 /// Of every motif that a job has listed.
 fn of_job(folder: &Path, how: &How) -> Answer<()> {
+    how.out.spare(&job::files(folder))?;
     let about = About::read(folder)?;
-    how.out.spare(&about.files())?;
     about.check_table()?;
     let mut all = Occurrences::new(&about.sequences, &about.template)?;
-    let called = folder.join(crate::job::ROWS).display().to_string();
+    let called = folder.join(job::ROWS).display().to_string();
     list::read(&mut BufReader::new(about.table()?), &called, &mut all)?;
     let said = if about.ended() {
         String::new()

@@ -8,8 +8,9 @@ use crate::sequences::Sequences;
 use crate::template::Template;
 use library::{limits, Refusal};
 
-/// The most rows that are asked of the library at once.
-const PAGE: usize = 8_192;
+/// The most rows that are asked of the library at once. Each time it counts
+/// all of a motif's occurrences first.
+const PAGE: usize = 65_536;
 
 /// A motif, and how often it occurs.
 struct Listed {
