@@ -80,20 +80,30 @@ pub fn folder_of(path: &Path) -> &Path {
     }
 }
 
-/// Whether two paths lead to one file: one that is there, or one that is to be
-/// made under a name in a folder.
+/// Whether two paths lead to one file, or would if it were there; `-` is what
+/// standard input is.
 fn same(one: &Path, other: &Path) -> bool {
-    let identity = |path: &Path| {
-        fs::metadata(path)
-            .map(|found| (found.dev(), found.ino()))
-            .ok()
+    let other = if other == Path::new("-") {
+        Path::new("/dev/stdin")
+    } else {
+        other
     };
-    match (identity(one), identity(other)) {
-        (Some(one), Some(other)) => one == other,
-        (None, None) => {
-            let folder = |path: &Path| path::absolute(folder_of(path)).ok();
-            one.file_name() == other.file_name() && folder(one) == folder(other)
+    match (fs::metadata(one), fs::metadata(other)) {
+        (Ok(one), Ok(other)) => (one.dev(), one.ino()) == (other.dev(), other.ino()),
+        (Err(_), Err(_)) => {
+            one.file_name().is_some()
+                && one.file_name() == other.file_name()
+                && same_folder(folder_of(one), folder_of(other))
         }
+        _ => false,
+    }
+}
+
+/// Whether two paths are one folder's, or would be if it were there.
+fn same_folder(one: &Path, other: &Path) -> bool {
+    match (fs::canonicalize(one), fs::canonicalize(other)) {
+        (Ok(one), Ok(other)) => one == other,
+        (Err(_), Err(_)) => path::absolute(one).ok() == path::absolute(other).ok(),
         _ => false,
     }
 }
@@ -104,17 +114,8 @@ impl Open {
         self.to
             .write_all(bytes)
             .and_then(|()| self.to.flush())
-            .map_err(|error| self.failed(&error))
-    }
-
-    /// Copies all that is read.
-    pub fn copy(&mut self, from: &mut impl io::Read) -> Answer<()> {
-        io::copy(from, &mut self.to)
-            .and_then(|_| self.to.flush())
-            .map_err(|error| self.failed(&error))
-    }
-
-    fn failed(&self, error: &io::Error) -> Failure {
-        Failure::io(&self.called, error).and("What was written is not whole.")
+            .map_err(|error| {
+                Failure::io(&self.called, &error).and("What was written is not whole.")
+            })
     }
 }

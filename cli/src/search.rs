@@ -28,7 +28,7 @@ pub struct Asked {
 
 /// Runs a new search.
 pub fn search(asked: Asked) -> Answer<()> {
-    asked.out.spare(&[asked.file.clone()])?;
+    asked.out.spare(std::slice::from_ref(&asked.file))?;
     let sequences = sequences::read(&asked.file)?;
     let quorum = asked.quorum.of(sequences.count());
     let saved = begin(&sequences, &asked.template, quorum)?;
@@ -122,8 +122,9 @@ fn go_on(mut job: Job, asking: Asking, out: &Out, quiet: bool) -> Answer<()> {
     }
     // All is saved: from here on a signal may end the program at once.
     drop(asking);
-    let mut table = job.about.table()?;
-    let written = out.open().and_then(|mut out| out.copy(&mut table));
+    let written = out
+        .open()
+        .and_then(|mut out| job.about.hand_on(|piece| out.write(piece)));
     written.map_err(|failure| {
         failure.and(format!(
             "The search has ended, and its table is kept: {} writes it out again.",

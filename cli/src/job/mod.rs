@@ -13,32 +13,30 @@
 //! flushed. So whenever the program is killed, or the machine stops, the state
 //! is a whole one, and the part of the table that it counts is on the disk.
 
+mod about;
+mod begin;
+mod disk;
+mod lock;
 mod state;
 
+pub use about::About;
+
 use crate::failure::{Answer, Failure};
-use crate::legs;
 use crate::out::folder_of;
-use crate::refusals;
-use crate::say;
-use crate::sequences::{self, Sequences};
+use crate::sequences::Sequences;
 use crate::sum::Sum;
 use crate::table;
 use crate::template::Template;
 use state::State;
-use std::fs::{self, File, OpenOptions, TryLockError};
-use std::io::{self, Read, Seek, SeekFrom, Write};
+use std::fs::{self, File};
+use std::io::{self, Seek, SeekFrom, Write};
 use std::path::{Path, PathBuf};
-use std::thread;
-use std::time::Duration;
 
-pub const SEQUENCES: &str = "sequences.fa";
+const SEQUENCES: &str = "sequences.fa";
 pub const ROWS: &str = "rows.tsv";
 const STATE: &str = "state";
 const NEW: &str = "state.new";
 const LOCK: &str = "lock";
-
-/// The most bytes of a state: far more than any has.
-const MOST_STATE: u64 = 65_536;
 
 /// The files of a job's folder.
 pub fn files(folder: &Path) -> Vec<PathBuf> {
@@ -48,110 +46,12 @@ pub fn files(folder: &Path) -> Vec<PathBuf> {
         .collect()
 }
 
-/// What a job is about, as its folder says.
-pub struct About {
-    pub folder: PathBuf,
-    pub sequences: Sequences,
-    pub template: Template,
-    pub quorum: u64,
-    /// The letters and the number of the next candidate; 0 and 0 where the
-    /// search has ended.
-    pub next: (u64, u64),
-    state: State,
-}
-
 /// A job that this program works on.
 pub struct Job {
     pub about: About,
     table: File,
     /// Held as long as the job is.
     _lock: File,
-}
-
-impl About {
-    pub fn ended(&self) -> bool {
-        self.next == (0, 0)
-    }
-
-    pub fn steps(&self) -> u64 {
-        self.state.steps
-    }
-
-    pub fn rows(&self) -> u64 {
-        self.state.rows
-    }
-
-    pub fn saved(&self) -> &[u8] {
-        &self.state.saved
-    }
-
-    /// Reads a folder, and changes nothing in it.
-    pub fn read(folder: &Path) -> Answer<About> {
-        let state = read_state(folder)?;
-        let path = folder.join(SEQUENCES);
-        let bytes = read_whole(&path, sequences::MOST_BYTES)?;
-        if Sum::of(&bytes) != state.sequences {
-            return Err(changed(&path));
-        }
-        let sequences = Sequences::new(path.display().to_string(), bytes)
-            .map_err(|failure| Failure::damaged(failure.words))?;
-        let restored = legs::restored(&sequences, &state.saved).map_err(|refusal| {
-            refusals::of_save(refusal, &folder.join(STATE).display().to_string())
-        })?;
-        Ok(About {
-            folder: folder.to_path_buf(),
-            template: restored.template,
-            quorum: restored.quorum,
-            next: restored.next,
-            sequences,
-            state,
-        })
-    }
-
-    /// Whether a program works on it now.
-    pub fn running(&self) -> bool {
-        let path = self.folder.join(LOCK);
-        let lock = regular(&path).ok().and_then(|()| File::open(&path).ok());
-        lock.is_some_and(|lock| matches!(lock.try_lock_shared(), Err(TryLockError::WouldBlock)))
-    }
-
-    /// The part of the table that the state counts.
-    pub fn table(&self) -> Answer<io::Take<File>> {
-        let path = self.folder.join(ROWS);
-        regular(&path)?;
-        let file = File::open(&path).map_err(|error| Failure::io(path.display(), &error))?;
-        Ok(file.take(self.state.bytes))
-    }
-
-    /// Whether the table still begins with what the state counts.
-    pub fn check_table(&self) -> Answer<()> {
-        let path = self.folder.join(ROWS);
-        let mut table = self.table()?;
-        let mut part = vec![0; 1 << 16];
-        let (mut sum, mut bytes) = (Sum::NONE, 0);
-        loop {
-            match table.read(&mut part) {
-                Ok(0) => break,
-                Ok(n) => {
-                    sum = sum.and(&part[..n]);
-                    bytes += n as u64;
-                }
-                Err(error) if error.kind() == io::ErrorKind::Interrupted => {}
-                Err(error) => return Err(Failure::io(path.display(), &error)),
-            }
-        }
-        if bytes < self.state.bytes {
-            return Err(Failure::damaged(format!(
-                "{}: it has {bytes} bytes, and the search that is saved beside it had written {}: rows are missing (was the folder copied while the job was running?)",
-                path.display(),
-                self.state.bytes
-            )));
-        }
-        if sum != self.state.table {
-            return Err(changed(&path));
-        }
-        Ok(())
-    }
 }
 
 impl Job {
@@ -166,18 +66,23 @@ impl Job {
         saved: Vec<u8>,
     ) -> Answer<Job> {
         match fs::create_dir(folder) {
-            Ok(()) => flush_folder(folder_of(folder))?,
-            Err(error) if error.kind() == io::ErrorKind::AlreadyExists => may_begin(folder)?,
+            // The folder's own name.
+            Ok(()) => disk::flush_folder(folder_of(folder))?,
+            Err(error) if error.kind() == io::ErrorKind::AlreadyExists => {
+                if lock::held(folder) {
+                    return Err(lock::busy(folder));
+                }
+                begin::may_begin(folder)?;
+            }
             Err(error) => return Err(Failure::io(folder.display(), &error)),
         }
-        let lock = lock(folder)?;
+        let lock = lock::take(folder)?;
         // Another one may have begun since.
-        may_begin(folder)?;
-        let path = folder.join(SEQUENCES);
-        write_flushed(&path, &sequences.file)?;
+        begin::may_begin(folder)?;
+        disk::write_flushed(&folder.join(SEQUENCES), &sequences.file)?;
         let path = folder.join(ROWS);
-        write_flushed(&path, table::HEADER.as_bytes())?;
-        let table = open_rows(&path)?;
+        disk::write_flushed(&path, table::HEADER.as_bytes())?;
+        let table = disk::open_to_write(&path)?;
         let state = State {
             steps: 0,
             rows: 0,
@@ -199,9 +104,9 @@ impl Job {
             table,
             _lock: lock,
         };
-        job.rows_end()?;
+        job.to_end()?;
         // A state never stands there without what it goes with.
-        flush_folder(folder)?;
+        disk::flush_folder(folder)?;
         job.write_state()?;
         Ok(job)
     }
@@ -210,12 +115,14 @@ impl Job {
     /// the state counts is cut off. Those rows are the motifs below the saved
     /// place; what is cut is at that place or after it, or an unfinished line.
     pub fn open(folder: &Path) -> Answer<Job> {
-        // Nothing is written in a folder that is no job.
-        read_state(folder)?;
-        let lock = lock(folder)?;
+        // Nothing is made in a folder that is refused, not even a lock.
+        if !folder.join(LOCK).exists() {
+            About::read(folder)?.check_table()?;
+        }
+        let lock = lock::take(folder)?;
         let about = About::read(folder)?;
         about.check_table()?;
-        let table = open_rows(&folder.join(ROWS))?;
+        let table = disk::open_to_write(&folder.join(ROWS))?;
         let mut job = Job {
             about,
             table,
@@ -225,8 +132,8 @@ impl Job {
         Ok(job)
     }
 
-    /// Where the rows of the next leg go.
-    fn rows_end(&mut self) -> Answer<()> {
+    /// Goes to where the rows of the next leg are written.
+    fn to_end(&mut self) -> Answer<()> {
         let bytes = self.about.state.bytes;
         self.table
             .seek(SeekFrom::Start(bytes))
@@ -245,7 +152,7 @@ impl Job {
             Err(error) => Err(error),
         };
         cut.map_err(|error| self.broken(ROWS, &error))?;
-        self.rows_end()
+        self.to_end()
     }
 
     /// Keeps what a leg brought: lines of the table, the steps and rows so
@@ -271,171 +178,16 @@ impl Job {
     /// flushes all of it.
     fn write_state(&mut self) -> Answer<()> {
         let folder = &self.about.folder;
-        let text = self.about.state.text();
-        write_flushed(&folder.join(NEW), text.as_bytes()).inspect_err(|_| {
+        let new = folder.join(NEW);
+        disk::write_flushed(&new, self.about.state.text().as_bytes()).inspect_err(|_| {
             // Half a state is of no use, and where the disk is full its room is.
-            let _ = fs::remove_file(folder.join(NEW));
+            let _ = fs::remove_file(&new);
         })?;
-        fs::rename(folder.join(NEW), folder.join(STATE))
-            .map_err(|error| self.broken(STATE, &error))?;
-        flush_folder(folder)
+        fs::rename(&new, folder.join(STATE)).map_err(|error| self.broken(STATE, &error))?;
+        disk::flush_folder(folder)
     }
 
     fn broken(&self, name: &str, error: &io::Error) -> Failure {
         Failure::io(self.about.folder.join(name).display(), error)
     }
-}
-
-/// A file whose bytes are not those that the state goes with.
-fn changed(path: &Path) -> Failure {
-    Failure::damaged(format!(
-        "{}: it is not what it was when the search was saved: it was changed, or belongs to another job",
-        path.display()
-    ))
-}
-
-/// A folder in which a new job may be begun.
-fn may_begin(folder: &Path) -> Answer<()> {
-    let called = folder.display();
-    let entries = fs::read_dir(folder).map_err(|error| Failure::io(&called, &error))?;
-    for entry in entries {
-        let entry = entry.map_err(|error| Failure::io(&called, &error))?;
-        let name = entry.file_name();
-        if name == STATE {
-            return Err(Failure::usage(format!(
-                "{called} holds a search already: tulfasheq resume {} goes on with it",
-                say::quoted(folder)
-            )));
-        }
-        if ![SEQUENCES, ROWS, NEW, LOCK]
-            .iter()
-            .any(|ours| name == *ours)
-        {
-            return Err(Failure::damaged(format!(
-                "{called} is no job, and holds other files ({}): it is left alone",
-                Path::new(&name).display()
-            )));
-        }
-    }
-    Ok(())
-}
-
-/// Locks a job for this program, as long as the file is held. One that only
-/// looks holds it for an instant, so it is tried for a while.
-fn lock(folder: &Path) -> Answer<File> {
-    let path = folder.join(LOCK);
-    if path.exists() {
-        regular(&path)?;
-    }
-    let file = OpenOptions::new()
-        .create(true)
-        .truncate(false)
-        .write(true)
-        .open(&path)
-        .map_err(|error| Failure::io(path.display(), &error))?;
-    for _ in 0..10 {
-        match file.try_lock() {
-            Ok(()) => return Ok(file),
-            Err(TryLockError::WouldBlock) => thread::sleep(Duration::from_millis(20)),
-            Err(TryLockError::Error(error)) => return Err(Failure::io(path.display(), &error)),
-        }
-    }
-    Err(Failure::busy(format!(
-        "{}: another program works on this job",
-        folder.display()
-    )))
-}
-
-/// The state of a folder.
-fn read_state(folder: &Path) -> Answer<State> {
-    let path = folder.join(STATE);
-    match fs::metadata(folder) {
-        Ok(found) if !found.is_dir() => {
-            return Err(Failure::damaged(format!(
-                "{} is no folder, and so no job",
-                folder.display()
-            )))
-        }
-        Ok(_) => {}
-        Err(error) => return Err(Failure::io(folder.display(), &error)),
-    }
-    match fs::symlink_metadata(&path) {
-        Err(error) if error.kind() == io::ErrorKind::NotFound => {
-            return Err(Failure::damaged(format!(
-                "{} holds no saved search: it is no job, or was stopped before its first save (then the search can be begun again with --job)",
-                folder.display()
-            )))
-        }
-        _ => {}
-    }
-    let bytes = read_whole(&path, MOST_STATE)?;
-    State::read(&bytes).map_err(|bad| {
-        let failure = Failure::damaged(format!("{}: {}", path.display(), bad.why));
-        match refused(folder, bad.saved) {
-            Some(more) => failure.and(more),
-            None => failure,
-        }
-    })
-}
-
-/// What the library refuses of the saved search in a state that is damaged:
-/// its number and the record tell where the damage is.
-fn refused(folder: &Path, saved: Option<Vec<u8>>) -> Option<String> {
-    let path = folder.join(SEQUENCES);
-    let bytes = read_whole(&path, sequences::MOST_BYTES).ok()?;
-    let sequences = Sequences::new(path.display().to_string(), bytes).ok()?;
-    let refusal = legs::restored(&sequences, &saved?).err()?;
-    let state = folder.join(STATE).display().to_string();
-    Some(refusals::of_save(refusal, &state).words)
-}
-
-/// A file of the job is a plain file: to read another could wait for ever.
-fn regular(path: &Path) -> Answer<()> {
-    match fs::metadata(path) {
-        Ok(found) if found.is_file() => Ok(()),
-        Ok(_) => Err(Failure::damaged(format!(
-            "{}: it is no plain file",
-            path.display()
-        ))),
-        Err(error) if error.kind() == io::ErrorKind::NotFound => Err(Failure::damaged(format!(
-            "{}: it is missing",
-            path.display()
-        ))),
-        Err(error) => Err(Failure::io(path.display(), &error)),
-    }
-}
-
-/// A plain file's bytes, of which there are not more than so many.
-fn read_whole(path: &Path, most: u64) -> Answer<Vec<u8>> {
-    regular(path)?;
-    let mut bytes = Vec::new();
-    File::open(path)
-        .and_then(|file| file.take(most).read_to_end(&mut bytes))
-        .map_err(|error| Failure::io(path.display(), &error))?;
-    Ok(bytes)
-}
-
-/// Writes a file whole, to the disk.
-fn write_flushed(path: &Path, bytes: &[u8]) -> Answer<()> {
-    File::create(path)
-        .and_then(|mut file| {
-            file.write_all(bytes)?;
-            file.sync_all()
-        })
-        .map_err(|error| Failure::io(path.display(), &error))
-}
-
-fn open_rows(path: &Path) -> Answer<File> {
-    OpenOptions::new()
-        .read(true)
-        .write(true)
-        .open(path)
-        .map_err(|error| Failure::io(path.display(), &error))
-}
-
-/// Flushes the names of a folder's files to the disk.
-fn flush_folder(folder: &Path) -> Answer<()> {
-    File::open(folder)
-        .and_then(|folder| folder.sync_all())
-        .map_err(|error| Failure::io(folder.display(), &error))
 }

@@ -4,6 +4,8 @@
 // Each test file uses a part of it.
 #![allow(dead_code)]
 
+pub mod jobs;
+
 use std::ffi::OsStr;
 use std::fs;
 use std::io::Write;

@@ -1,0 +1,294 @@
+//! Every call that changes a file goes wrong once: it fails, or the program is
+//! killed there, or the machine stops. After each the job goes on, and its
+//! table is that of a search that nothing stopped. `failing.c` is what makes
+//! the calls go wrong.
+
+mod common;
+
+use common::jobs::{copy, end, start_as, state_value, whole, Search, SHORT};
+use common::{program, word, Ran, Scratch};
+use std::path::{Path, PathBuf};
+use std::process::{Command, Stdio};
+
+/// What happens at a call, as `failing.c` has it, and whether the program lives
+/// on to tell.
+const WAYS: [(&str, bool); 6] = [
+    ("full", true),
+    ("half", true),
+    ("error", true),
+    ("before", false),
+    ("after", false),
+    ("lost", false),
+];
+
+/// `failing.c`, built.
+struct Faults {
+    library: PathBuf,
+}
+
+/// The call that went wrong: its name, and the file.
+#[derive(Debug)]
+struct Hit {
+    call: String,
+    file: String,
+}
+
+impl Faults {
+    fn new(scratch: &Scratch) -> Faults {
+        let library = scratch.path("failing.so");
+        let built = Command::new("cc")
+            .args(["-shared", "-fPIC", "-O1", "-o", word(&library)])
+            .arg(concat!(env!("CARGO_MANIFEST_DIR"), "/tests/failing.c"))
+            .status()
+            .expect("a C compiler");
+        assert!(built.success(), "failing.c is built");
+        Faults { library }
+    }
+
+    /// Runs the program with its call of a number going wrong, if it comes to
+    /// that call. Answers with what was told, too.
+    fn run(&self, words: &[&str], at: u64, how: &str) -> (Ran, Vec<Hit>) {
+        let mut command = program();
+        command
+            .env("LD_PRELOAD", &self.library)
+            .env("FAULT_AT", at.to_string())
+            .env("FAULT_HOW", how);
+        let mut ran = end(start_as(command, words));
+        let (mut hits, mut said) = (Vec::new(), String::new());
+        for line in ran.err.lines() {
+            match line.strip_prefix("fault: ").and_then(|l| l.split_once(' ')) {
+                Some((call, file)) => hits.push(Hit {
+                    call: call.to_string(),
+                    file: file.to_string(),
+                }),
+                None => said.extend([line, "\n"]),
+            }
+        }
+        ran.err = said;
+        (ran, hits)
+    }
+
+    /// Runs it with nothing going wrong.
+    fn well(&self, words: &[&str]) -> Ran {
+        self.run(words, 0, "").0
+    }
+
+    /// Goes through all calls of a run, in one way of going wrong. `prepare`
+    /// makes the folder as it is before the run. Answers with the number of
+    /// calls.
+    fn every_call(
+        &self,
+        search: &Search,
+        expected: &[u8],
+        way: (&str, bool),
+        prepare: impl Fn(&Path),
+    ) -> u64 {
+        let (how, lives) = way;
+        for at in 1.. {
+            let scratch = Scratch::new();
+            let folder = scratch.path("job");
+            prepare(&folder);
+            let out = scratch.path("table.tsv");
+            let mut words = search.further(&folder);
+            words.extend(["--out", word(&out)]);
+            let (ran, hits) = self.run(&words, at, how);
+            let Some(hit) = hits.first() else {
+                assert!(ran.printed().is_empty());
+                assert!(std::fs::read(out).expect("the table") == expected);
+                return at - 1;
+            };
+            let what = format!("{how} at call {at}, {hit:?}");
+            if lives {
+                let said = ran.said(4);
+                assert!(said.contains(&hit.file), "{what}: {said}");
+            } else {
+                assert_eq!(ran.status, None, "{what}: {}", ran.err);
+            }
+            if folder.join("state").exists() {
+                let ran = self.well(&["status", word(&folder)]);
+                assert_eq!(ran.status, Some(0), "{what}: {}", ran.err);
+            }
+            let ran = self.well(&search.further(&folder));
+            assert_eq!(ran.status, Some(0), "{what}: {}", ran.err);
+            whole(ran, &folder, expected);
+        }
+        unreachable!("a run has an end");
+    }
+
+    /// A job that was killed in its second leg, with rows that are not saved.
+    fn killed(&self, search: &Search, scratch: &Scratch) -> PathBuf {
+        for at in 1..200 {
+            let folder = scratch.path(&format!("killed-{at}"));
+            let (_, hits) = self.run(&search.in_job(&folder), at, "after");
+            let hit = hits.first().expect("a call that goes wrong");
+            let rows = hit.call == "write" && hit.file.ends_with("rows.tsv");
+            if rows && state_value(&folder, "rows") > Some(0) {
+                return folder;
+            }
+        }
+        panic!("the search has no second leg with rows");
+    }
+}
+
+#[test]
+fn every_call_of_a_search_may_go_wrong() {
+    let scratch = Scratch::new();
+    let faults = Faults::new(&scratch);
+    let search = SHORT.over(&scratch);
+    let expected = search.table();
+    for way in WAYS {
+        let calls = faults.every_call(&search, &expected, way, |_| {});
+        println!("search, {}: {calls} calls", way.0);
+        assert!(calls > 30, "there are more calls");
+    }
+}
+
+#[test]
+fn every_call_of_a_resume_may_go_wrong() {
+    let scratch = Scratch::new();
+    let faults = Faults::new(&scratch);
+    let search = SHORT.over(&scratch);
+    let expected = search.table();
+    let killed = faults.killed(&search, &scratch);
+    for way in WAYS {
+        let prepare = |folder: &Path| copy(&killed, folder);
+        let calls = faults.every_call(&search, &expected, way, prepare);
+        println!("resume, {}: {calls} calls", way.0);
+        assert!(calls > 20, "there are more calls");
+    }
+}
+
+#[test]
+fn a_leg_is_on_the_disk_before_its_state_is_and_the_state_before_the_next_leg() {
+    let scratch = Scratch::new();
+    let faults = Faults::new(&scratch);
+    let folder = scratch.path("job");
+    let search = SHORT.over(&scratch);
+    let (ran, told) = faults.run(&search.in_job(&folder), 0, "tell");
+    ran.printed();
+    let calls: Vec<String> = told
+        .iter()
+        .filter(|hit| ["write", "fsync", "rename", "mkdir"].contains(&hit.call.as_str()))
+        .map(|hit| {
+            let inside = hit.file.strip_prefix(word(&folder));
+            format!("{} {}", hit.call, inside.unwrap_or("outside"))
+        })
+        .collect();
+    let begin = [
+        "mkdir ",
+        "fsync outside",
+        "write /sequences.fa",
+        "fsync /sequences.fa",
+    ];
+    let leg = [
+        "write /rows.tsv",
+        "fsync /rows.tsv",
+        "write /state.new",
+        "fsync /state.new",
+        "rename /state",
+        "fsync ",
+    ];
+    assert_eq!(calls[..begin.len()], begin);
+    let legs: Vec<_> = calls[begin.len()..].chunks(leg.len()).collect();
+    assert!(legs.len() > 3, "more legs");
+    for calls in legs {
+        assert_eq!(calls, leg);
+    }
+}
+
+/// The program under a limit on the size of its files, in blocks of 512 bytes.
+fn limited(blocks: u64) -> Command {
+    let mut command = Command::new("sh");
+    command
+        .arg("-c")
+        .arg("trap '' XFSZ; ulimit -f \"$0\"; exec \"$@\"")
+        .arg(blocks.to_string())
+        .arg(program().get_program());
+    command
+}
+
+#[test]
+fn a_limit_on_the_size_of_files_stops_a_job_that_goes_on_without_it() {
+    let scratch = Scratch::new();
+    let search = SHORT.over(&scratch);
+    let expected = search.table();
+    let most = expected.len() as u64 / 512 + 1;
+    for blocks in [0, 1, 2, 4, 8, most / 4, most / 2, most - 1] {
+        let folder = scratch.path(&format!("job-{blocks}"));
+        let said = end(start_as(limited(blocks), &search.in_job(&folder))).said(4);
+        assert!(said.contains(word(&folder)), "{said}");
+        assert!(said.contains("file too large"), "{said}");
+        // Without more room it does not get further, and loses nothing.
+        let said = end(start_as(limited(blocks), &search.further(&folder))).said(4);
+        assert!(said.contains("file too large"), "{said}");
+        whole(common::run(&search.further(&folder)), &folder, &expected);
+    }
+    let folder = scratch.path("enough");
+    let ran = end(start_as(limited(most), &search.in_job(&folder)));
+    whole(ran, &folder, &expected);
+}
+
+#[test]
+fn a_table_that_cannot_be_written_out_stays_in_the_job() {
+    let scratch = Scratch::new();
+    let search = SHORT.over(&scratch);
+    let expected = search.table();
+    let folder = scratch.path("job");
+    let nowhere = scratch.path("nowhere/table.tsv");
+    for out in ["/dev/full", word(&nowhere)] {
+        for words in [search.words(), search.further(&folder)] {
+            let words: Vec<&str> = words.into_iter().chain(["--out", out]).collect();
+            let said = end(start_as(program(), &words)).said(4);
+            assert!(said.contains(out), "{said}");
+        }
+    }
+    whole(common::run(&search.further(&folder)), &folder, &expected);
+}
+
+/// Runs the program with a standard output that takes nothing.
+fn into(out: Stdio, words: &[&str]) -> Ran {
+    let child = program()
+        .args(words)
+        .stdin(Stdio::null())
+        .stdout(out)
+        .stderr(Stdio::piped())
+        .spawn()
+        .expect("the program starts");
+    end(child)
+}
+
+/// A full disk, and a pipe that nobody reads.
+fn taking_nothing() -> [Stdio; 2] {
+    let full = std::fs::OpenOptions::new()
+        .write(true)
+        .open("/dev/full")
+        .expect("/dev/full");
+    let (reader, writer) = std::io::pipe().expect("a pipe");
+    drop(reader);
+    [full.into(), writer.into()]
+}
+
+#[test]
+fn an_output_that_takes_nothing_is_told_and_the_job_is_whole() {
+    let scratch = Scratch::new();
+    let search = SHORT.over(&scratch);
+    let expected = search.table();
+    for (i, out) in taking_nothing().into_iter().enumerate() {
+        let folder = scratch.path(&format!("job-{i}"));
+        let said = into(out, &search.in_job(&folder)).said(4);
+        assert!(said.contains("standard output"), "{said}");
+        whole(common::run(&search.further(&folder)), &folder, &expected);
+    }
+    let folder = scratch.path("job-0");
+    for words in [
+        search.words(),
+        vec!["resume", word(&folder)],
+        vec!["status", word(&folder)],
+        vec!["help"],
+    ] {
+        for out in taking_nothing() {
+            let said = into(out, &words).said(4);
+            assert!(said.contains("standard output"), "{words:?}: {said}");
+        }
+    }
+}

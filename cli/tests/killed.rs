@@ -1,0 +1,180 @@
+//! A job that is stopped again and again: by SIGKILL, by signals that ask, and
+//! with its folder copied elsewhere on the way. Its table is that of a search
+//! that nothing stopped, byte for byte, the steps in the last line too.
+
+mod common;
+
+use common::jobs::{
+    copy, end, signal, start, state_value, whole, Search, LONG, SIGHUP, SIGINT, SIGTERM,
+};
+use common::{run, word, Ran, Random, Scratch};
+use std::fs;
+use std::path::Path;
+use std::sync::OnceLock;
+use std::thread;
+use std::time::{Duration, Instant};
+
+/// The table that nothing stopped, and how long it took.
+fn expected() -> &'static (Vec<u8>, Duration) {
+    static EXPECTED: OnceLock<(Vec<u8>, Duration)> = OnceLock::new();
+    EXPECTED.get_or_init(|| {
+        let scratch = Scratch::new();
+        let search = LONG.over(&scratch);
+        let begun = Instant::now();
+        (search.table(), begun.elapsed())
+    })
+}
+
+/// How long the program is left before it is stopped: mostly not for a whole
+/// leg, sometimes for more. It is told in parts of the whole search's time, so
+/// that on a fast machine too the job is not over before all stops.
+fn moment(random: &mut Random, stop: u64) -> Duration {
+    let parts = if stop % 5 == 4 { 16 } else { 50 };
+    let most = expected().1.as_micros() as u64 / parts;
+    Duration::from_micros(random.below(most))
+}
+
+/// The bytes of rows.tsv behind what the state counts.
+fn behind(folder: &Path) -> u64 {
+    let bytes = fs::metadata(folder.join("rows.tsv")).map_or(0, |found| found.len());
+    bytes.saturating_sub(state_value(folder, "bytes").unwrap_or(bytes))
+}
+
+/// A job on its way, and what its stops did.
+struct Stops<'a> {
+    search: &'a Search,
+    stops: u64,
+    /// Stops before any leg of that start was saved.
+    nothing_saved: u64,
+    /// Stops with rows in the table that were not saved.
+    rows_behind: u64,
+}
+
+impl Stops<'_> {
+    fn new(search: &Search) -> Stops<'_> {
+        Stops {
+            search,
+            stops: 0,
+            nothing_saved: 0,
+            rows_behind: 0,
+        }
+    }
+
+    /// Starts the program, and stops it by a signal, or by SIGKILL.
+    fn stop(&mut self, folder: &Path, after: Duration, by: Option<i32>) -> Ran {
+        let before = state_value(folder, "steps");
+        let mut child = start(&self.search.further(folder));
+        thread::sleep(after);
+        match by {
+            Some(number) => signal(&child, number),
+            None => child.kill().expect("it is killed"),
+        }
+        let ran = end(child);
+        assert_ne!(ran.status, Some(0), "the job ended before all stops");
+        self.stops += 1;
+        let moved = state_value(folder, "steps") > before.max(Some(0));
+        let behind = behind(folder);
+        if ran.status == Some(5) {
+            assert!(moved, "the leg before the stop is saved");
+            assert_eq!(behind, 0, "all rows are saved");
+        }
+        self.nothing_saved += u64::from(!moved);
+        self.rows_behind += u64::from(behind > 0);
+        ran
+    }
+
+    /// Lets the job come to its end.
+    fn finish(self, folder: &Path, by: &str) {
+        println!(
+            "{} stops by {by}: {} before a leg was saved, {} with unsaved rows in the table; {:?} steps were saved",
+            self.stops,
+            self.nothing_saved,
+            self.rows_behind,
+            state_value(folder, "steps")
+        );
+        let ran = run(&self.search.further(folder));
+        whole(ran, folder, &expected().0);
+    }
+}
+
+/// That `status` reads a job that was stopped, if it was saved at all.
+fn look(folder: &Path) {
+    if folder.join("state").exists() {
+        let printed = run(&["status", word(folder)]).printed();
+        let text = String::from_utf8(printed).expect("text");
+        assert!(text.starts_with("state\tstopped\n"), "{text}");
+    }
+}
+
+/// That a program which was asked to stop said how to go on, if the signal did
+/// not come before it listened.
+fn asked(ran: Ran, folder: &Path) -> bool {
+    if ran.status.is_none() {
+        return false;
+    }
+    let said = ran.said(5);
+    let how = format!("tulfasheq resume {} goes on with it", word(folder));
+    assert!(said.contains(&how), "{said}");
+    true
+}
+
+#[test]
+fn killed_at_any_moment_no_row_is_lost_or_listed_twice() {
+    let scratch = Scratch::new();
+    let search = LONG.over(&scratch);
+    let folder = scratch.path("job");
+    let mut random = Random::new(11);
+    let mut stops = Stops::new(&search);
+    for stop in 0..60 {
+        let after = moment(&mut random, stop);
+        let ran = stops.stop(&folder, after, None);
+        assert_eq!(ran.status, None, "{}", ran.err);
+        look(&folder);
+    }
+    stops.finish(&folder, "SIGKILL");
+}
+
+#[test]
+fn asked_to_stop_it_is_saved_and_says_how_to_go_on() {
+    let scratch = Scratch::new();
+    let search = LONG.over(&scratch);
+    let folder = scratch.path("job");
+    let mut random = Random::new(12);
+    let mut stops = Stops::new(&search);
+    let mut saved = 0;
+    for stop in 0..15 {
+        let after = moment(&mut random, stop);
+        let number = [SIGTERM, SIGINT, SIGHUP][stop as usize % 3];
+        let ran = stops.stop(&folder, after, Some(number));
+        saved += u64::from(asked(ran, &folder));
+        look(&folder);
+    }
+    assert!(saved > 0, "no signal came while the program listened");
+    println!("{saved} stops were saved");
+    stops.finish(&folder, "SIGTERM, SIGINT and SIGHUP");
+}
+
+#[test]
+fn a_folder_copied_elsewhere_between_two_stops_goes_on_there() {
+    let scratch = Scratch::new();
+    let search = LONG.over(&scratch);
+    let mut folder = scratch.path("job-0");
+    let mut random = Random::new(13);
+    let mut stops = Stops::new(&search);
+    for stop in 0..16 {
+        let after = moment(&mut random, stop);
+        let by = (stop % 2 == 0).then_some(SIGTERM);
+        let ran = stops.stop(&folder, after, by);
+        if by.is_some() {
+            asked(ran, &folder);
+        }
+        if folder.exists() {
+            let next = scratch.path(&format!("job-{}", stop + 1));
+            copy(&folder, &next);
+            fs::remove_dir_all(&folder).expect("the old folder goes");
+            folder = next;
+        }
+        look(&folder);
+    }
+    stops.finish(&folder, "SIGTERM and SIGKILL, and copied each time");
+}
