@@ -3,6 +3,7 @@
 use crate::failure::{Answer, Failure};
 use std::fs::{self, File};
 use std::io::{self, Write};
+use std::os::fd::AsFd;
 use std::os::unix::fs::MetadataExt;
 use std::path::{self, Path, PathBuf};
 
@@ -26,10 +27,14 @@ impl Out {
         };
         for file in files {
             if same(out, file) {
+                let read = if is_input(file) {
+                    "standard input".to_string()
+                } else {
+                    file.display().to_string()
+                };
                 return Err(Failure::usage(format!(
-                    "--out {} would write over {}, which is read",
-                    out.display(),
-                    file.display()
+                    "--out {} would write over {read}, which is read",
+                    out.display()
                 )));
             }
         }
@@ -80,20 +85,26 @@ pub fn folder_of(path: &Path) -> &Path {
     }
 }
 
-/// Whether two paths lead to one file, or would if it were there; `-` is what
-/// standard input is.
-fn same(one: &Path, other: &Path) -> bool {
-    let other = if other == Path::new("-") {
-        Path::new("/dev/stdin")
+/// Whether a path stands for standard input.
+fn is_input(path: &Path) -> bool {
+    path == Path::new("-")
+}
+
+/// Whether a path that is written and one that is read lead to one file, or
+/// would if it were there.
+fn same(written: &Path, read: &Path) -> bool {
+    let found = if is_input(read) {
+        let input = io::stdin().as_fd().try_clone_to_owned();
+        input.and_then(|input| File::from(input).metadata())
     } else {
-        other
+        fs::metadata(read)
     };
-    match (fs::metadata(one), fs::metadata(other)) {
+    match (fs::metadata(written), found) {
         (Ok(one), Ok(other)) => (one.dev(), one.ino()) == (other.dev(), other.ino()),
         (Err(_), Err(_)) => {
-            one.file_name().is_some()
-                && one.file_name() == other.file_name()
-                && same_folder(folder_of(one), folder_of(other))
+            written.file_name().is_some()
+                && written.file_name() == read.file_name()
+                && same_folder(folder_of(written), folder_of(read))
         }
         _ => false,
     }

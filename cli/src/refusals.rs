@@ -38,7 +38,7 @@ pub fn of_search(
         9 if quorum == 0 => "tulfasheq: a quorum of 0: it is at least 1".to_string(),
         9 => format!(
             "tulfasheq: a quorum of {} of {}: {}",
-            grouped(quorum),
+            told(quorum),
             of(count, "sequence"),
             too_many(quorum, count)
         ),
@@ -48,8 +48,18 @@ pub fn of_search(
     Failure::refused(format!("{words} (refusal {})", refusal.number))
 }
 
+/// A number that was read. The largest also stands for all that 64 bits do
+/// not hold.
+fn told(number: u64) -> String {
+    let more = if number == u64::MAX { " or more" } else { "" };
+    format!("{}{more}", grouped(number))
+}
+
 /// By how much a number is above a limit.
 fn too_many(number: u64, most: u64) -> String {
+    if number == u64::MAX {
+        return "far too many".to_string();
+    }
     format!("{} too many", grouped(number.saturating_sub(most)))
 }
 
@@ -103,14 +113,14 @@ fn of_template(refusal: Refusal, template: &Template) -> Failure {
                 format!(
                     "the gap before component {} goes down, from {} to {}",
                     at + 1,
-                    component.low,
-                    component.high
+                    told(component.low),
+                    told(component.high)
                 )
             } else {
                 format!(
                     "the gap before component {} goes up to {}, and {most} is the most: {}",
                     at + 1,
-                    component.high,
+                    told(component.high),
                     too_many(component.high, most)
                 )
             };
@@ -126,7 +136,7 @@ fn of_template(refusal: Refusal, template: &Template) -> Failure {
                 "component {} has {}, and --mixed allows {} of them to stand for several bases: {}",
                 above + 1,
                 of(component.length, "letter"),
-                component.allowance,
+                told(component.allowance),
                 too_many(component.allowance, component.length)
             );
             (component.run.clone(), words)
@@ -192,7 +202,7 @@ pub fn of_save(refusal: Refusal, called: &str) -> Failure {
 /// A refusal that has no words of its own.
 fn other(refusal: Refusal) -> Failure {
     Failure::refused(format!(
-        "tulfasheq: refused by number {}, place {}",
-        refusal.number, refusal.place
+        "tulfasheq: refused, at place {} (refusal {})",
+        refusal.place, refusal.number
     ))
 }

@@ -64,7 +64,7 @@ impl Sequences {
     pub fn new(called: String, file: Vec<u8>) -> Answer<Sequences> {
         let mut letters = vec![0; file.len()];
         // A record has a `>` of its own.
-        let mut lengths = vec![0; file.iter().filter(|b| **b == b'>').count()];
+        let mut lengths = vec![0; file.split(|b| *b == b'>').count() - 1];
         let (mut used, mut count) = (0, 0);
         let mut names = Vec::new();
         let mut reader = Reader::new(&file);
@@ -107,7 +107,7 @@ fn bad(called: &str, file: &[u8], refusal: library::Refusal) -> String {
             refusal.place as usize,
             no_letter(file, refusal.place as usize),
         ),
-        19 => (first_text(file), "text before the first '>'".to_string()),
+        19 => (first_text(file), before_first(file)),
         20 => (0, "a record that is too long to be read".to_string()),
         _ => (0, "refused".to_string()),
     };
@@ -137,10 +137,22 @@ fn no_letter(file: &[u8], offset: usize) -> String {
     }
 }
 
+/// Text before the first record, and what it may be.
+fn before_first(file: &[u8]) -> String {
+    let what = if file.starts_with(&[0x1f, 0x8b]) {
+        " (a compressed file: unpack it first)"
+    } else if file.starts_with("\u{feff}".as_bytes()) {
+        " (a byte order mark: save the file without one)"
+    } else {
+        ""
+    };
+    format!("text before the first '>'{what}")
+}
+
 /// The line and the byte in it, both from 1, of an offset.
 fn place_in(file: &[u8], offset: usize) -> (usize, usize) {
     let before = &file[..offset.min(file.len())];
-    let line = before.iter().filter(|b| **b == b'\n').count() + 1;
+    let line = before.split(|b| *b == b'\n').count();
     let start = before
         .iter()
         .rposition(|b| *b == b'\n')
@@ -151,11 +163,11 @@ fn place_in(file: &[u8], offset: usize) -> (usize, usize) {
 /// The offset of the first line that is not empty.
 fn first_text(file: &[u8]) -> usize {
     let mut at = 0;
-    for line in file.split(|b| *b == b'\n') {
-        if !line.is_empty() && line != b"\r" {
+    for line in file.split_inclusive(|b| *b == b'\n') {
+        if line != b"\n" && line != b"\r\n" {
             return at;
         }
-        at += line.len() + 1;
+        at += line.len();
     }
     0
 }

@@ -16,9 +16,10 @@ pub fn status(folder: &Path) -> Answer<()> {
         0 => "none: the search has ended".to_string(),
         _ => template.prefix(letters, number),
     };
-    let mixed = match template.mixed {
-        true => template.allowances(),
-        false => "no".to_string(),
+    let mixed = if template.mixed {
+        template.allowances()
+    } else {
+        "no".to_string()
     };
     let state = match (about.running(), about.ended()) {
         (true, _) => "running",
@@ -37,9 +38,9 @@ pub fn status(folder: &Path) -> Answer<()> {
         ("steps", about.steps().to_string()),
         ("rows", about.rows().to_string()),
     ];
-    let text: String = lines
-        .iter()
-        .map(|(name, value)| format!("{name}\t{value}\n"))
-        .collect();
+    let mut text = String::new();
+    for (name, value) in lines {
+        text.extend([name, "\t", &value, "\n"]);
+    }
     Out::default().open()?.write(text.as_bytes())
 }

@@ -2,8 +2,10 @@
 //! them. What numbers it may have is for the library to say.
 
 use crate::caret;
+use crate::counted::of;
 use crate::failure::{Answer, Failure};
 use library::limits;
+use std::fmt::Write;
 use std::ops::Range;
 
 /// A component: its letters, the gap range before it, and where both stand in
@@ -46,7 +48,7 @@ impl Template {
     pub fn read(text: &str, mixed: Option<&str>) -> Answer<Template> {
         let mut components = components(text)?;
         if let Some(mixed) = mixed {
-            allow(&mut components, text, mixed)?;
+            allow(&mut components, mixed)?;
         }
         Ok(Template::made(
             text.to_string(),
@@ -78,7 +80,8 @@ impl Template {
             let (length, low, high) = (shape[3 * i], shape[3 * i + 1], shape[3 * i + 2]);
             let start = text.len();
             if i > 0 {
-                text.push_str(&format!("[{low},{high}]"));
+                // To write to memory does not fail.
+                let _ = write!(text, "[{low},{high}]");
             }
             let gap = start..text.len();
             text.push_str(&"N".repeat(length.into()));
@@ -329,7 +332,7 @@ fn digits(bytes: &[u8]) -> usize {
 }
 
 /// Gives the components their allowances.
-fn allow(components: &mut [Component], text: &str, mixed: &str) -> Answer<()> {
+fn allow(components: &mut [Component], mixed: &str) -> Answer<()> {
     let parts: Vec<&str> = mixed.split(',').collect();
     let mut at = 0;
     let mut numbers = Vec::new();
@@ -351,9 +354,9 @@ fn allow(components: &mut [Component], text: &str, mixed: &str) -> Answer<()> {
     }
     if numbers.len() != 1 && numbers.len() != components.len() {
         return Err(Failure::usage(format!(
-            "--mixed {mixed} has {} numbers, and {text} has {} components: it takes one for each, or one for all",
-            numbers.len(),
-            components.len()
+            "--mixed has {}, and the template has {}: it takes one for each, or one for all",
+            of(numbers.len() as u64, "number"),
+            of(components.len() as u64, "component")
         )));
     }
     for (i, component) in components.iter_mut().enumerate() {
