@@ -133,7 +133,8 @@ fn go_on(mut job: Job, asking: Asking, out: &Out, quiet: bool) -> Answer<()> {
     })
 }
 
-/// Runs legs until the search has ended.
+/// Runs legs until the search has ended, or until a signal has come: one leg at
+/// least, so that a job gets on however often it is stopped.
 fn run(job: &mut Job, asking: &Asking, quiet: bool) -> Answer<()> {
     let mut search = Search::new(
         job.about.saved().to_vec(),
@@ -142,15 +143,8 @@ fn run(job: &mut Job, asking: &Asking, quiet: bool) -> Answer<()> {
     );
     let mut progress = Progress::new(quiet);
     let mut lines = Vec::new();
-    let mut ended = false;
-    while !ended {
-        if asking.asked() {
-            return Err(Failure::stopped(format!(
-                "stopped, and saved: {} goes on",
-                how(job)
-            )));
-        }
-        ended = leg(
+    loop {
+        let ended = leg(
             &mut search,
             &job.about.sequences,
             &job.about.template,
@@ -160,12 +154,20 @@ fn run(job: &mut Job, asking: &Asking, quiet: bool) -> Answer<()> {
         job.keep(&lines, search.steps, search.rows, &search.saved)
             .map_err(|failure| {
                 failure.and(format!(
-                    "The search is saved up to its last leg: {} goes on.",
+                    "The search is saved up to its last leg: {} goes on with it.",
                     how(job)
                 ))
             })?;
+        if ended {
+            return Ok(());
+        }
+        if asking.asked() {
+            return Err(Failure::stopped(format!(
+                "stopped, and saved: {} goes on with it",
+                how(job)
+            )));
+        }
     }
-    Ok(())
 }
 
 /// How a job is gone on with, as a shell reads it.

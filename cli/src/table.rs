@@ -26,3 +26,29 @@ pub fn rows(
 pub fn end(steps: u64, rows: u64) -> String {
     format!("# end: steps {steps}, rows {rows}\n")
 }
+
+/// Whether a line is the last one of a table of so many rows.
+pub fn ends(line: &str, rows: u64) -> bool {
+    let counts = line.strip_prefix("# end: steps ");
+    counts.is_some_and(|counts| {
+        let steps = counts.strip_suffix(&format!(", rows {rows}"));
+        steps.is_some_and(|steps| steps.bytes().all(|b| b.is_ascii_digit()))
+    })
+}
+
+#[cfg(test)]
+mod tests {
+    use super::{end, ends};
+
+    #[test]
+    fn the_last_line_counts_the_rows() {
+        for rows in [0, 1, 3, 1_003] {
+            let last = end(1_003, rows);
+            for other in [0, 1, 3, 13, 1_003] {
+                assert_eq!(ends(last.trim_end(), other), rows == other, "{last}");
+            }
+        }
+        assert!(!ends("# end: steps 1, row 3", 3));
+        assert!(!ends("# steps 1, rows 3", 3));
+    }
+}

@@ -179,6 +179,13 @@ fn a_leg_is_on_the_disk_before_its_state_is_and_the_state_before_the_next_leg() 
         "fsync outside",
         "write /sequences.fa",
         "fsync /sequences.fa",
+        "write /rows.tsv",
+        "fsync /rows.tsv",
+        "fsync ",
+        "write /state.new",
+        "fsync /state.new",
+        "rename /state",
+        "fsync ",
     ];
     let leg = [
         "write /rows.tsv",
@@ -190,7 +197,7 @@ fn a_leg_is_on_the_disk_before_its_state_is_and_the_state_before_the_next_leg() 
     ];
     assert_eq!(calls[..begin.len()], begin);
     let legs: Vec<_> = calls[begin.len()..].chunks(leg.len()).collect();
-    assert!(legs.len() > 3, "more legs");
+    assert!(legs.len() > 2, "more legs");
     for calls in legs {
         assert_eq!(calls, leg);
     }

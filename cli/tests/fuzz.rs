@@ -271,8 +271,8 @@ fn other_random_command_lines_end_in_a_known_way() {
 
 #[test]
 fn a_whole_table_is_known_by_its_last_line() {
-    assert!(whole(b"motif\n# end: 4 steps, 0 rows\n"));
-    assert!(!whole(b"motif\n# end: 4 steps, 0 rows"));
-    assert!(!whole(b"# end: 4 steps, 0 rows\nAC\t1\t1\n"));
+    assert!(whole(b"motif\n# end: steps 4, rows 0\n"));
+    assert!(!whole(b"motif\n# end: steps 4, rows 0"));
+    assert!(!whole(b"# end: steps 4, rows 0\nAC\t1\t1\n"));
     assert!(!whole(b""));
 }

@@ -29,7 +29,7 @@ fn expected() -> &'static (Vec<u8>, Duration) {
 /// leg, sometimes for more. It is told in parts of the whole search's time, so
 /// that on a fast machine too the job is not over before all stops.
 fn moment(random: &mut Random, stop: u64) -> Duration {
-    let parts = if stop % 5 == 4 { 16 } else { 50 };
+    let parts = if stop % 5 == 4 { 24 } else { 75 };
     let most = expected().1.as_micros() as u64 / parts;
     Duration::from_micros(random.below(most))
 }

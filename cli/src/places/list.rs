@@ -4,6 +4,7 @@ use super::occurrences::Occurrences;
 use crate::counted::{grouped, of};
 use crate::failure::{Answer, Failure};
 use crate::refusals;
+use crate::table;
 use std::fs::File;
 use std::io::{self, BufRead, BufReader, Read};
 use std::path::Path;
@@ -12,9 +13,6 @@ use std::str::from_utf8;
 /// The most bytes of a line: far more than a search writes in one. A file may
 /// have no line ends, or never end.
 const MOST_LINE: u64 = 65_536;
-
-/// How the last line of a table begins.
-const END: &str = "# end: ";
 
 /// Adds the motifs of a file, or of standard input for `-`: whether the table
 /// is whole.
@@ -30,13 +28,13 @@ pub fn read_file(path: &Path, all: &mut Occurrences) -> Answer<bool> {
 /// Adds the motifs of a table: whether it is whole, which is so where its last
 /// line says how many rows there are, and there are so many. A line that
 /// cannot be read is refused.
-pub fn read(table: &mut dyn BufRead, called: &str, all: &mut Occurrences) -> Answer<bool> {
+pub fn read(lines: &mut dyn BufRead, called: &str, all: &mut Occurrences) -> Answer<bool> {
     let mut columns = None;
     let mut whole = false;
     let mut bytes = Vec::new();
     for number in 1u64.. {
         bytes.clear();
-        let read = table
+        let read = lines
             .take(MOST_LINE + 1)
             .read_until(b'\n', &mut bytes)
             .map_err(|error| Failure::io(called, &error))?;
@@ -53,7 +51,7 @@ pub fn read(table: &mut dyn BufRead, called: &str, all: &mut Occurrences) -> Ans
         let line = from_utf8(&bytes).map_err(|_| wrong("the line is no text"))?;
         let line = line.strip_suffix('\n').unwrap_or(line);
         let line = line.strip_suffix('\r').unwrap_or(line);
-        whole = ends(line, all.motifs());
+        whole = table::ends(line, all.motifs());
         if line.starts_with('#') {
             continue;
         }
@@ -84,28 +82,5 @@ pub fn read(table: &mut dyn BufRead, called: &str, all: &mut Occurrences) -> Ans
     match columns {
         Some(_) => Ok(whole),
         None => Err(Failure::refused(format!("{called}: it holds no table"))),
-    }
-}
-
-/// Whether a line is the last one of a table of so many rows.
-fn ends(line: &str, rows: u64) -> bool {
-    line.starts_with(END) && line.ends_with(&format!(", {}", of(rows, "row")))
-}
-
-#[cfg(test)]
-mod tests {
-    use super::ends;
-    use crate::table;
-
-    #[test]
-    fn the_last_line_counts_the_rows() {
-        for rows in [0, 1, 3, 1_003] {
-            let end = table::end(1_003, rows);
-            for other in [0, 1, 3, 13, 1_003] {
-                assert_eq!(ends(end.trim_end(), other), rows == other, "{end}");
-            }
-        }
-        assert!(!ends("# end: 1 step, 3 row", 3));
-        assert!(!ends("# 1 step, 3 rows", 3));
     }
 }

@@ -152,21 +152,10 @@ pub struct Table {
 impl Table {
     /// The whole of it: the header, the rows, and the comment.
     pub fn text(&self) -> String {
-        let plural = if self.rows == 1 { "" } else { "s" };
         format!(
-            "motif\tsupport\toccurrences\n{}# end: {} steps, {} row{plural}\n",
-            self.lines,
-            apart(self.steps),
-            apart(self.rows)
+            "motif\tsupport\toccurrences\n{}# end: steps {}, rows {}\n",
+            self.lines, self.steps, self.rows
         )
-    }
-}
-
-/// A number with a comma after each thousand.
-fn apart(number: u64) -> String {
-    match number {
-        0..1_000 => number.to_string(),
-        _ => format!("{},{:03}", apart(number / 1_000), number % 1_000),
     }
 }
 

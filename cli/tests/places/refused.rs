@@ -100,7 +100,7 @@ fn a_damaged_line_of_a_list_is_told_by_its_number() {
         (b"motif\tsupport\toccurrences\nRR\t2\t3\n", ":2:"),
         (b"motif\tsupport\toccurrences\nA\xff\t2\t3\n", ":2:"),
         (b"motif\tsupport\toccurrences\n\nAC\t2\t3\n", ":2:"),
-        (b"# end: 1 step, 0 rows\nAC\t2\t3\n", ":2:"),
+        (b"# end: steps 1, rows 0\nAC\t2\t3\n", ":2:"),
         (long.as_bytes(), ":3:"),
         (b"", ": it holds no table"),
     ];
@@ -141,7 +141,7 @@ fn what_is_read_is_not_written_over() {
         assert!(said.contains("would write over"), "{said}");
     }
     let more = run(&["places", "NN", "--job", job]).said(2);
-    assert!(more.contains("no other word"), "{more}");
+    assert!(more.contains("no word beside its options"), "{more}");
     let both = run(&["places", "NN", "-", "--list", "-"]).said(2);
     assert!(both.contains("standard input"), "{both}");
     for (path, bytes) in kept {
