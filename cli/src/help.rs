@@ -18,6 +18,12 @@ pub fn print(of: Of) -> Answer<()> {
     Out::default().open()?.write(text(of).as_bytes())
 }
 
+/// Prints the program's name and version.
+pub fn version() -> Answer<()> {
+    let version = concat!("tulfasheq ", env!("CARGO_PKG_VERSION"), "\n");
+    Out::default().open()?.write(version.as_bytes())
+}
+
 /// The text.
 pub fn text(of: Of) -> &'static str {
     match of {

@@ -45,6 +45,7 @@ const STACK: usize = 8 * 1024 * 1024;
 fn run(words: Vec<OsString>) -> Answer<()> {
     match words::read(words)? {
         Command::Help(of) => help::print(of),
+        Command::Version => help::version(),
         Command::Search(asked) => search::search(asked),
         Command::Resume { folder, out, quiet } => search::resume(&folder, &out, quiet),
         Command::Status { folder } => status::status(&folder),

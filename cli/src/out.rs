@@ -2,7 +2,7 @@
 
 use crate::failure::{Answer, Failure};
 use std::fs::{self, File};
-use std::io::{self, Write};
+use std::io::{self, IsTerminal, Write};
 use std::os::fd::AsFd;
 use std::os::unix::fs::MetadataExt;
 use std::path::{self, Path, PathBuf};
@@ -16,7 +16,13 @@ pub struct Out {
 /// An open one.
 pub struct Open {
     called: String,
-    to: Box<dyn Write>,
+    to: To,
+}
+
+/// Where it leads.
+enum To {
+    Screen(io::Stdout),
+    File(File),
 }
 
 impl Out {
@@ -61,19 +67,22 @@ impl Out {
         found.map_err(|error| Failure::io(path.display(), &error))
     }
 
+    /// Whether a person looks at what is written, as it comes.
+    pub fn is_terminal(&self) -> bool {
+        self.file.is_none() && io::stdout().is_terminal()
+    }
+
     pub fn open(&self) -> Answer<Open> {
         let Some(path) = &self.file else {
             return Ok(Open {
                 called: "standard output".to_string(),
-                to: Box::new(io::stdout().lock()),
+                to: To::Screen(io::stdout()),
             });
         };
         let called = path.display().to_string();
         let file = File::create(path).map_err(|error| Failure::io(&called, &error))?;
-        Ok(Open {
-            called,
-            to: Box::new(file),
-        })
+        let to = To::File(file);
+        Ok(Open { called, to })
     }
 }
 
@@ -122,11 +131,23 @@ fn same_folder(one: &Path, other: &Path) -> bool {
 impl Open {
     /// Writes bytes, and hands them on at once.
     pub fn write(&mut self, bytes: &[u8]) -> Answer<()> {
-        self.to
-            .write_all(bytes)
-            .and_then(|()| self.to.flush())
-            .map_err(|error| {
-                Failure::io(&self.called, &error).and("What was written is not whole.")
-            })
+        let written = match &mut self.to {
+            To::Screen(screen) => screen.write_all(bytes).and_then(|()| screen.flush()),
+            To::File(file) => file.write_all(bytes),
+        };
+        written.map_err(|error| self.failed(&error))
+    }
+
+    /// Ends it: a plain file is then on the disk.
+    pub fn close(self) -> Answer<()> {
+        let closed = match &self.to {
+            To::File(file) if file.metadata().is_ok_and(|found| found.is_file()) => file.sync_all(),
+            _ => Ok(()),
+        };
+        closed.map_err(|error| self.failed(&error))
+    }
+
+    fn failed(&self, error: &io::Error) -> Failure {
+        Failure::io(&self.called, error).and("What was written is not whole.")
     }
 }

@@ -2,7 +2,7 @@
 //! goes on.
 
 use crate::failure::{Answer, Failure};
-use crate::job::{self, Job};
+use crate::job::{self, About, Job};
 use crate::legs::{self, Search};
 use crate::out::Out;
 use crate::progress::Progress;
@@ -42,10 +42,15 @@ pub fn search(asked: Asked) -> Answer<()> {
     go_on(job, asking, &asked.out, asked.quiet)
 }
 
-/// Goes on with a job.
+/// Goes on with a job. One that has ended is only read.
 pub fn resume(folder: &Path, out: &Out, quiet: bool) -> Answer<()> {
     out.spare(&job::files(folder))?;
     out.check()?;
+    let about = About::read(folder)?;
+    if about.ended() {
+        about.check_table()?;
+        return write_out(&about, out);
+    }
     let asking = Asking::begin();
     go_on(Job::open(folder)?, asking, out, quiet)
 }
@@ -70,7 +75,8 @@ fn straight(sequences: &Sequences, asked: &Asked, saved: Vec<u8>) -> Answer<()> 
     let mut out = asked.out.open()?;
     out.write(table::HEADER.as_bytes())?;
     let mut search = Search::new(saved, 0, 0);
-    let mut progress = Progress::new(asked.quiet);
+    // Where rows come to the same terminal, they are what shows how far it is.
+    let mut progress = Progress::new(asked.quiet || asked.out.is_terminal());
     let mut lines = Vec::new();
     loop {
         let ended = leg(
@@ -82,7 +88,7 @@ fn straight(sequences: &Sequences, asked: &Asked, saved: Vec<u8>) -> Answer<()> 
         )?;
         out.write(&lines)?;
         if ended {
-            return Ok(());
+            return out.close();
         }
     }
 }
@@ -122,13 +128,19 @@ fn go_on(mut job: Job, asking: Asking, out: &Out, quiet: bool) -> Answer<()> {
     }
     // All is saved: from here on a signal may end the program at once.
     drop(asking);
-    let written = out
-        .open()
-        .and_then(|mut out| job.about.hand_on(|piece| out.write(piece)));
+    write_out(&job.about, out)
+}
+
+/// Writes out the whole table of a job that has ended.
+fn write_out(about: &About, out: &Out) -> Answer<()> {
+    let written = out.open().and_then(|mut out| {
+        about.hand_on(|piece| out.write(piece))?;
+        out.close()
+    });
     written.map_err(|failure| {
         failure.and(format!(
             "The search has ended, and its table is kept: {} writes it out again.",
-            how(&job)
+            how(about)
         ))
     })
 }
@@ -155,7 +167,7 @@ fn run(job: &mut Job, asking: &Asking, quiet: bool) -> Answer<()> {
             .map_err(|failure| {
                 failure.and(format!(
                     "The search is saved up to its last leg: {} goes on with it.",
-                    how(job)
+                    how(&job.about)
                 ))
             })?;
         if ended {
@@ -164,13 +176,13 @@ fn run(job: &mut Job, asking: &Asking, quiet: bool) -> Answer<()> {
         if asking.asked() {
             return Err(Failure::stopped(format!(
                 "stopped, and saved: {} goes on with it",
-                how(job)
+                how(&job.about)
             )));
         }
     }
 }
 
 /// How a job is gone on with, as a shell reads it.
-fn how(job: &Job) -> String {
-    format!("tulfasheq resume {}", say::quoted(&job.about.folder))
+fn how(about: &About) -> String {
+    format!("tulfasheq resume {}", say::quoted(&about.folder))
 }

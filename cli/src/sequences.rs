@@ -11,7 +11,7 @@ use std::path::Path;
 
 /// The most bytes that are read of a file: it may have long names and be in
 /// short lines, but it may also grow, or never end.
-pub const MOST_BYTES: u64 = 64 * 1024 * 1024;
+pub const MOST_BYTES: u64 = 16 * 1024 * 1024;
 
 /// Sequences as they were read.
 #[derive(Debug)]

@@ -23,7 +23,9 @@ extern "C" fn ask(_: i32) {
 }
 
 /// While this lives, the signals only ask.
-pub struct Asking(());
+pub struct Asking {
+    asked: &'static AtomicBool,
+}
 
 impl Asking {
     pub fn begin() -> Asking {
@@ -36,12 +38,12 @@ impl Asking {
                 }
             }
         }
-        Asking(())
+        Asking { asked: &ASKED }
     }
 
     /// Whether one came.
     pub fn asked(&self) -> bool {
-        ASKED.load(Ordering::SeqCst)
+        self.asked.load(Ordering::SeqCst)
     }
 }
 

@@ -16,6 +16,7 @@ use std::path::PathBuf;
 /// What the program is asked to do.
 pub enum Command {
     Help(Of),
+    Version,
     Search(search::Asked),
     Resume {
         folder: PathBuf,
@@ -40,6 +41,7 @@ pub fn read(words: Vec<OsString>) -> Answer<Command> {
     let rest: Vec<OsString> = words.collect();
     match first.to_str() {
         Some("help" | "--help" | "-h") => Ok(Command::Help(helped(&rest)?)),
+        Some("--version") => Ok(Command::Version),
         Some("search") => sorted("search", Of::Search, rest, read_search),
         Some("resume") => sorted("resume", Of::Resume, rest, read_resume),
         Some("status") => sorted("status", Of::Status, rest, read_status),

@@ -81,13 +81,13 @@ fn a_file_that_never_ends_is_not_read_for_ever() {
     let scratch = folder();
     assert_eq!(
         said(&scratch, &["search", "NN", "1", "/dev/zero"], 3),
-        "/dev/zero: longer than 67,108,864 bytes, and was not read on: a search takes at most 65,536 letters, in 1,024 sequences\n"
+        "/dev/zero: longer than 16,777,216 bytes, and was not read on: a search takes at most 65,536 letters, in 1,024 sequences\n"
     );
     let zero = File::open("/dev/zero").expect("the device");
     let mut command = within(&scratch, &["search", "NN", "1", "-"]);
     assert!(ran(command.stdin(zero))
         .said(3)
-        .starts_with("standard input: longer than 67,108,864 bytes, "));
+        .starts_with("standard input: longer than 16,777,216 bytes, "));
 }
 
 #[test]

@@ -186,6 +186,13 @@ fn a_job_that_has_ended_gives_its_table_again() {
     let printed = run(&["resume", word(&folder), "--out", word(&out)]).printed();
     assert!(printed.is_empty());
     same(&fs::read(&out).expect("a table"), &expected, "--out");
+    let printed = run(&["resume", word(&folder), "--out", "-"]).printed();
+    same(&printed, &expected, "--out -");
+    assert!(files(&folder) == before, "the folder was changed");
+    // It is only read: nothing is locked or made any more.
+    fs::remove_file(folder.join("lock")).expect("the lock goes");
+    let before = files(&folder);
+    whole(run(&["resume", word(&folder)]), &folder, &expected);
     assert!(files(&folder) == before, "the folder was changed");
 }
 

@@ -104,7 +104,7 @@ impl Job {
             table,
             _lock: lock,
         };
-        job.to_end()?;
+        job.seek_end()?;
         // A state never stands there without what it goes with.
         disk::flush_folder(folder)?;
         job.write_state()?;
@@ -133,7 +133,7 @@ impl Job {
     }
 
     /// Goes to where the rows of the next leg are written.
-    fn to_end(&mut self) -> Answer<()> {
+    fn seek_end(&mut self) -> Answer<()> {
         let bytes = self.about.state.bytes;
         self.table
             .seek(SeekFrom::Start(bytes))
@@ -152,7 +152,7 @@ impl Job {
             Err(error) => Err(error),
         };
         cut.map_err(|error| self.broken(ROWS, &error))?;
-        self.to_end()
+        self.seek_end()
     }
 
     /// Keeps what a leg brought: lines of the table, the steps and rows so

@@ -3,6 +3,7 @@
 //! it, and last a sum of those lines.
 
 use crate::sum::Sum;
+use std::fmt::Write;
 use std::str::{from_utf8, FromStr};
 
 /// The first line. The number changes with the layout, so that no program
@@ -39,7 +40,11 @@ pub struct Bad {
 impl State {
     /// The state as text.
     pub fn text(&self) -> String {
-        let saved: String = self.saved.iter().map(|b| format!("{b:02x}")).collect();
+        let mut saved = String::new();
+        for byte in &self.saved {
+            // To write to memory does not fail.
+            let _ = write!(saved, "{byte:02x}");
+        }
         let lines = format!(
             "{FIRST}\nsteps {}\nrows {}\nbytes {}\ntable {:016x}\nsequences {:016x}\nsaved {saved}\n",
             self.steps, self.rows, self.bytes, self.table.0, self.sequences.0
@@ -101,7 +106,7 @@ fn sum(text: &str) -> Option<Sum> {
 }
 
 fn hex(text: &str) -> Option<Vec<u8>> {
-    if text.len() % 2 != 0 || !text.is_ascii() {
+    if !text.len().is_multiple_of(2) || !text.is_ascii() {
         return None;
     }
     (0..text.len() / 2)

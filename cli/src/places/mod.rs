@@ -148,7 +148,8 @@ impl How {
                 self.format.row(&occurrence, &mut lines);
             }
             out.write(&lines)
-        })
+        })?;
+        out.close()
     }
 
     /// Every record's name must be one that the format can hold, also where no

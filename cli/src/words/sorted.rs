@@ -7,7 +7,7 @@ use crate::help::Of;
 use crate::out::Out;
 use std::ffi::{OsStr, OsString};
 use std::os::unix::ffi::OsStrExt;
-use std::path::PathBuf;
+use std::path::{Path, PathBuf};
 
 /// The options that are followed by a value, and those that are not.
 const VALUED: [&str; 6] = ["--out", "--mixed", "--job", "--list", "--from", "--rows"];
@@ -118,8 +118,10 @@ impl Sorted {
         self.take(name).map(|value| path(value, name)).transpose()
     }
 
+    /// Where a table goes; - is standard output.
     pub fn out(&mut self) -> Answer<Out> {
         let file = self.path("--out")?;
+        let file = file.filter(|file| file != Path::new("-"));
         Ok(Out { file })
     }
 
