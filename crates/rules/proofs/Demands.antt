@@ -35,7 +35,7 @@ use Rattle.rules.specs.declared.Template.{Template}
 use Rattle.rules.proofs.Bound.{list-bound}
 use Rattle.rules.proofs.Completes.{leg-complete, leg-ends}
 use Rattle.rules.proofs.EachKind.{frequent-support}
-use Rattle.rules.proofs.Exact.{exact-search, mixed-search, exact-occurs, exact-motifs, exact-frequent, exact-steps}
+use Rattle.rules.proofs.Exact.{exact-search, mixed-search, exact-occurs, exact-motifs, exact-steps}
 use Rattle.rules.proofs.FastaFits.{records-fit}
 use Rattle.rules.proofs.FastaProgram.{FastaProgram, fasta-program}
 use Rattle.rules.proofs.FastaRefused.{FastaRefused, reader-refuses, fasta-refused}
@@ -140,15 +140,12 @@ pub record Demand2 : Type 0 where
   pub each-once : (t : Template) → SoundTemplate t → (quorum : ℕ) (ss : List (List ℕ)) → let W = walk-over t quorum ss in Once (from W (start W))
   pub count : (t : Template) → SoundTemplate t → (quorum : ℕ) (ss : List (List ℕ)) → let W = walk-over t quorum ss in length (from W (start W)) ≡ whole-steps t quorum ss
   -- OF AN EXACT SEARCH the paper's own words hold. The list holds exactly the motifs whose support reaches the quorum; each letter of an
-  -- occurrence is the one that stands there; a prefix is frequent if its support reaches the quorum, and the steps are 4 times the number
-  -- of frequent prefixes of 0 to K - 1 letters
+  -- occurrence is the one that stands there; and the steps are 4 times the number of frequent prefixes of 0 to K - 1 letters
   pub exact : (t : Template) → t .profile ≡ Exact → profile-of t ≡ exactly
   pub exact-list : (t : Template) → profile-of t ≡ exactly → SoundTemplate t → (quorum : ℕ) (ss : List (List ℕ)) (m : ℕ)
       → List·Memᴰ m (frequent-motifs t quorum ss) ↔ ((m < Letter-BASES ^ size t) × (quorum ≤ support (parts t (size t) m) ss))
   pub exact-occurrence : (t : Template) → profile-of t ≡ exactly → (j m : ℕ) (s ps : List ℕ)
       → Occurs (parts t j m) s ps ↔ OccursExactly (components t) (spell Letter-BASES j m) s ps
-  pub exact-prefix : (t : Template) → profile-of t ≡ exactly → (quorum : ℕ) (ss : List (List ℕ)) (j m : ℕ) → 1 ≤ j
-      → (walk-over t quorum ss) .good j m ≡ leb quorum (support (parts t j m) ss)
   pub exact-count : (t : Template) → profile-of t ≡ exactly → (quorum : ℕ) (ss : List (List ℕ))
       → whole-steps t quorum ss ≡ Letter-BASES * goods (walk-over t quorum ss) (size t)
   -- OF A MIXED SEARCH request 5's. A motif's number lies below 16 to the power of K, its letters are among the fourteen, and of a
@@ -256,7 +253,6 @@ demand2 =
       exact = exact-search;
       exact-list = λ t e o quorum ss. exact-motifs t e quorum ss o;
       exact-occurrence = exact-occurs;
-      exact-prefix = exact-frequent;
       exact-count = exact-steps;
       mixed = mixed-search;
       mixed-list = mixed-motifs;

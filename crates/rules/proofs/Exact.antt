@@ -17,14 +17,13 @@ use Rattle.rules.specs.Refused.{Spells}
 use Rattle.rules.specs.Relay.{frequent-motifs, whole-steps}
 use Rattle.rules.specs.Saved.{place-rule?}
 use Rattle.rules.specs.Sound.{SoundTemplate}
-use Rattle.rules.specs.Support.{support, counted, parts, parts-in, allowed-in, valid, frequent}
+use Rattle.rules.specs.Support.{support, counted, parts, parts-in, allowed-in, valid}
 use Rattle.rules.specs.Template.{Part, components, size, cut}
 use Rattle.rules.specs.Walk.{walk-in, walk-over, goods}
 use Rattle.rules.specs.declared.Component.{Component}
 use Rattle.rules.specs.declared.Place.{Place}
 use Rattle.rules.specs.declared.Profile.the-variants.{Exact, Mixed}
 use Rattle.rules.specs.declared.Template.{Template}
-use Rattle.rules.proofs.EachKind.{frequent-support}
 use Rattle.rules.proofs.Sentence.{occurs-exactly}
 use Rattle.rules.proofs.Plain.{tries-plain}
 use Rattle.rules.proofs.Searches.{list-holds}
@@ -85,10 +84,6 @@ module _ (t : Template) (e : profile-of t ≡ exactly) where
     pub exact-may : (j m : ℕ) → (walk-over t quorum ss) .may j m ≡ true
     unfolding walk-in
     exact-may j m = exact-allowed j m
-
-    -- a prefix with a letter is frequent by its support
-    pub exact-frequent : (j m : ℕ) → 1 ≤ j → frequent t quorum ss j m ≡ leb quorum (support (parts t j m) ss)
-    exact-frequent j m h = frequent-support t quorum ss j m h
 
     -- the list: the motifs whose support reaches the quorum
     pub exact-motifs : SoundTemplate t → (m : ℕ) → List·Memᴰ m (frequent-motifs t quorum ss) ↔ ((m < Letter-BASES ^ size t) × (quorum ≤ support (parts t (size t) m) ss))
