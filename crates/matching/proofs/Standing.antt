@@ -12,11 +12,12 @@ use lib.Dec.{eqb}
 use lib.ListN.{length, take, getD}
 use borrow.Rule.Slice.PartMut.{mid-len}
 use Rattle.rules.proofs.BaseSets.{value-most, stands-for-or}
-use Rattle.rules.proofs.Exact.{exact-search, mixed-search, exact-base}
+use Rattle.rules.proofs.Exact.{exact-search, exact-base}
+use Rattle.rules.proofs.Mixed.{mixed-base}
 use Rattle.rules.proofs.Over.{getD-map-run, length-map-run}
 use Rattle.rules.specs.Letters.{value}
 use Rattle.rules.specs.Lists.{if, run}
-use Rattle.rules.specs.Profile.{base-sets, has-base, stands-for, mixed, profile-of, base-of}
+use Rattle.rules.specs.Profile.{base-sets, has-base, stands-for, profile-of, base-of}
 use Rattle.rules.specs.Sequences.{split}
 use Rattle.rules.specs.Sound.{SoundSet}
 use Rattle.rules.specs.declared.Profile.the-variants.{Exact, Mixed}
@@ -200,8 +201,7 @@ pub exact-four : (t : Template) → t .profile ≡ Exact → base-of t ≡ 4
 exact-four t e = exact-base t (exact-search t e)
 
 pub mixed-sixteen : (t : Template) → t .profile ≡ Mixed → base-of t ≡ 16
-unfolding mixed
-mixed-sixteen t e = ap (λ P. P .base) (mixed-search t e)
+mixed-sixteen = mixed-base
 
 module _ (t : Template) (ns l old new : List ℕ) (is : BaseRows ns l old) (left : take (4 * Row-WORDS) new ≡ take (4 * Row-WORDS) old) where
   abbrev fits : ℕ → ℕ → Bool

@@ -35,13 +35,13 @@ use Rattle.rules.specs.declared.Template.{Template}
 use Rattle.rules.proofs.Bound.{list-bound}
 use Rattle.rules.proofs.Completes.{leg-complete, leg-ends}
 use Rattle.rules.proofs.EachKind.{frequent-support}
-use Rattle.rules.proofs.Exact.{exact-search, mixed-search, exact-occurs, exact-motifs, exact-steps}
+use Rattle.rules.proofs.Exact.{exact-search, exact-occurs, exact-motifs, exact-steps}
 use Rattle.rules.proofs.FastaFits.{records-fit}
 use Rattle.rules.proofs.FastaProgram.{FastaProgram, fasta-program}
 use Rattle.rules.proofs.FastaRefused.{FastaRefused, reader-refuses, fasta-refused}
 use Rattle.rules.proofs.FastaWritten.{FastaWritten, fasta-written}
 use Rattle.rules.proofs.First.{first-applies, unless-refuses, written-refuses, leg-refused}
-use Rattle.rules.proofs.Mixed.{mixed-occurs, mixed-motifs}
+use Rattle.rules.proofs.Mixed.{mixed-search, mixed-occurs, mixed-motifs}
 use Rattle.rules.proofs.Sentence.{follows-gap}
 use Rattle.rules.proofs.OccurrenceOrder.{rows-in-order}
 use Rattle.rules.proofs.Occurs.{parts-worded, parts-some, rows-are}

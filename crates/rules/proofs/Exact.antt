@@ -12,7 +12,7 @@ use borrow.Author.Tests.{ltb-true, lt-ltb}
 use Rattle.rules.specs.Limits.{Letter-BASES, Template-LETTERS}
 use Rattle.rules.specs.Motif.{spell}
 use Rattle.rules.specs.Occurrence.{Occurs, OccursExactly}
-use Rattle.rules.specs.Profile.{allowed, exactly, mixed, profile-by, profile-of, base-of}
+use Rattle.rules.specs.Profile.{allowed, exactly, profile-by, profile-of, base-of}
 use Rattle.rules.specs.Refused.{Spells}
 use Rattle.rules.specs.Relay.{frequent-motifs, whole-steps}
 use Rattle.rules.specs.Saved.{place-rule?}
@@ -22,7 +22,7 @@ use Rattle.rules.specs.Template.{Part, components, size, cut}
 use Rattle.rules.specs.Walk.{walk-in, walk-over, goods}
 use Rattle.rules.specs.declared.Component.{Component}
 use Rattle.rules.specs.declared.Place.{Place}
-use Rattle.rules.specs.declared.Profile.the-variants.{Exact, Mixed}
+use Rattle.rules.specs.declared.Profile.the-variants.{Exact}
 use Rattle.rules.specs.declared.Template.{Template}
 use Rattle.rules.proofs.Sentence.{occurs-exactly}
 use Rattle.rules.proofs.Plain.{tries-plain}
@@ -30,14 +30,10 @@ use Rattle.rules.proofs.Searches.{list-holds}
 use Rattle.rules.proofs.Spells.{valid-says}
 use Rattle.rules.proofs.Tests.{and-true}
 
--- what a template asks for, by its kind
+-- what the template of an exact search asks for
 pub exact-search : (t : Template) → t .profile ≡ Exact → profile-of t ≡ exactly
 unfolding profile-by
 exact-search t e = ap profile-by e
-
-pub mixed-search : (t : Template) → t .profile ≡ Mixed → profile-of t ≡ mixed (λ c. c .allowance)
-unfolding profile-by
-mixed-search t e = ap profile-by e
 
 allowed-all : (cs : List Component) (w : List ℕ) → allowed (λ c w. true) cs w ≡ true
 unfolding allowed

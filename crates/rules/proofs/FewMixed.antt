@@ -26,12 +26,12 @@ use Rattle.rules.specs.declared.Profile as declared
 use Rattle.rules.specs.declared.Profile.the-variants.{Exact, Mixed}
 use Rattle.rules.specs.declared.Template.{Template}
 use Rattle.rules.proofs.All.{all-members}
-use Rattle.rules.proofs.Exact.{exact-search, mixed-search}
+use Rattle.rules.proofs.Exact.{exact-search}
 use Rattle.rules.proofs.Few.{exact-steps-few}
 use Rattle.rules.proofs.Lengths.{rising-within}
 use Rattle.rules.proofs.Lists.{keep-few, length-run, keep-wider}
 use Rattle.rules.proofs.Members.{each-in, keep-run-in, keep-run-out}
-use Rattle.rules.proofs.Mixed.{mixed-most}
+use Rattle.rules.proofs.Mixed.{mixed-search, mixed-most}
 use Rattle.rules.proofs.OccurrenceOrder.{keep-run-rising}
 use Rattle.rules.proofs.Profiles.{allowed-less, mixed-proper}
 use Rattle.rules.proofs.Spelling.{spell-more, length-spell}

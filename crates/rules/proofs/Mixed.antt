@@ -21,9 +21,13 @@ use Rattle.rules.specs.Template.{none, components, size}
 use Rattle.rules.specs.declared.Profile as declared
 use Rattle.rules.specs.declared.Profile.the-variants.{Mixed}
 use Rattle.rules.specs.declared.Template.{Template}
-use Rattle.rules.proofs.Exact.{mixed-search}
 use Rattle.rules.proofs.Searches.{list-spells}
 use Rattle.rules.proofs.Sentence.{occurs-by}
+
+-- what the template of a mixed search asks for
+pub mixed-search : (t : Template) → t .profile ≡ Mixed → profile-of t ≡ mixed (λ c. c .allowance)
+unfolding profile-by
+mixed-search t e = ap profile-by e
 
 -- the test of membership
 member-says : (x : ℕ) (l : List ℕ) → (member? x l ≡ true) ↔ List·Memᴰ x l

@@ -28,9 +28,10 @@ use Rattle.rules.specs.declared.Profile as declared
 use Rattle.rules.specs.declared.Profile.the-variants.{Exact, Mixed}
 use Rattle.rules.specs.declared.Template.{Template}
 use Rattle.rules.proofs.EachKind.{kind-proper}
-use Rattle.rules.proofs.Exact.{exact-search, exact-base, exact-allowed, mixed-search}
+use Rattle.rules.proofs.Exact.{exact-search, exact-base, exact-allowed}
 use Rattle.rules.proofs.Lists.{keep-append, keep-none}
 use Rattle.rules.proofs.Members.{keep-run-out}
+use Rattle.rules.proofs.Mixed.{mixed-search, mixed-base}
 use Rattle.rules.proofs.Profiles.{allowed-nil, spelled-in, mixed-proper}
 use Rattle.rules.proofs.Spelling.{spell-more, spell-drop, length-spell}
 use Rattle.rules.proofs.Tests.{both, and-true, and-false, or-true}
@@ -224,10 +225,6 @@ module _ (t : Template) (good : ℕ → ℕ → Bool) (depth : ℕ) where
 
   -- in a mixed one by the last letter, which is letter i of component k
   module _ (is : t .profile ≡ Mixed) (j m : ℕ) (ok : valid t (suc j) m ≡ true) where
-    mixed-base : base-of t ≡ Letter-DIGITS
-    unfolding mixed
-    mixed-base = ap (λ P. P .base) (mixed-search t is)
-
     module _ (k i : ℕ) (there : k < length (components t)) (inside : i < (getD (components t) k none) .length) (counted : j ≡ letters-to (components t) k + i) where
       abbrev room : Bool
       room = ltb (several (spell Letter-DIGITS i (m / Letter-DIGITS))) ((getD (components t) k none) .allowance)
@@ -248,14 +245,14 @@ module _ (t : Template) (good : ℕ → ℕ → Bool) (depth : ℕ) where
       -- past T only where there is room for a letter that stands for several bases
       pub rises-past-t : m % Letter-DIGITS ≡ 3 → (p : Place) → choose p (suc j) (later W (suc j) m) ≡ if room (place (suc j) (suc m)) p
       rises-past-t e p =
-          rises-by mixed-base (suc j) m p room
+          rises-by (mixed-base t is) (suc j) m p room
           (λ r. (omega arith, sibling (suc m) (omega arith) ∙ (let z : suc m % Letter-DIGITS ≡ 4 = omega arith in rw z r)))
           (λ r n l h. sibling n (omega arith) ∙ rw (r, le-ltb (n % Letter-DIGITS) Letter-BASES (omega arith), and-false))
 
       rises-elsewhere : (m % Letter-DIGITS ≡ 3 → ⊥) → (p : Place) → choose p (suc j) (later W (suc j) m) ≡ if (ltb (m % Letter-DIGITS) 13) (place (suc j) (suc m)) p
       rises-elsewhere e p =
           let x = m % Letter-DIGITS in
-          rises-by mixed-base (suc j) m p (ltb x 13)
+          rises-by (mixed-base t is) (suc j) m p (ltb x 13)
           (λ r. let l = ltb-true x 13 r in let z : suc m % Letter-DIGITS ≡ suc x = omega arith in
           (omega arith, sibling (suc m) (omega arith) ∙ rw z (fits-next room x (sym (sibling m refl) ∙ both (ltb m _) _ .0 ok .1) l e)))
           (λ r n l h. sibling n (omega arith) ∙ rw (le-ltb (n % Letter-DIGITS) Letter-SYMBOLS (omega (arith, ltb-false x 13 r))))
