@@ -5,7 +5,7 @@ use mathlib.Core.Path.{_≡_, refl}
 use Prim.Native.Nat.{ℕ, _+_, _*_}
 use lib.ListN.{take, replicate}
 use Rattle.rules.specs.Calls.{moved, restore-rule, save-rule}
-use Rattle.rules.specs.Facts.{Fact, is, letters, lengths, pair}
+use Rattle.rules.specs.Facts.{Fact, is, letters, lengths, pair, search-told, answer-told}
 use Rattle.rules.specs.Letters.{value, letter?}
 use Rattle.rules.specs.Lists.{run, keep, each, all?, some?, member?, sum, joined, put, put-at}
 use Rattle.rules.specs.Motif.{spell}
@@ -16,7 +16,6 @@ use Rattle.rules.specs.Saved.{low-first, read-low, size-record, componen
 use Rattle.rules.specs.Sequences.{split, sequences}
 use Rattle.rules.specs.Support.{marks, support, allowed-in, parts-in, measure, reaches}
 use Rattle.rules.specs.Template.{allowing, components, size, deal}
-use Rattle.rules.specs.Told.{Told, gives, refuses}
 use Rattle.rules.specs.Walk.{place, walk-in, spelled, candidate}
 use Rattle.rules.specs.declared.Place.{Place}
 use Rattle.rules.specs.declared.Profile.{Profile}
@@ -38,11 +37,7 @@ with-byte i k x bs = put-at (16 * i + k) (x ∷ []) bs
 
 -- what a restore tells: the place of the search that it gives, or its refusal's number and place
 told : List ℕ → List ℕ
-told bs = as-numbers (restore-rule letters lengths bs)
-  where
-    as-numbers : Told Search → List ℕ
-    as-numbers (gives s) = s .place .letters ∷ s .place .number ∷ []
-    as-numbers (refuses n p) = n ∷ p ∷ []
+told bs = search-told (restore-rule letters lengths bs)
 
 -- the search that is saved so: it stands at AT
 search : Search
@@ -69,11 +64,7 @@ allowing-one p at =
     }
 
 told-of-save : Search → List ℕ
-told-of-save s = as-numbers ((save-rule letters lengths s (replicate 64 9)) .told)
-  where
-    as-numbers : Told ℕ → List ℕ
-    as-numbers (gives n) = n ∷ []
-    as-numbers (refuses n p) = n ∷ p ∷ []
+told-of-save s = answer-told ((save-rule letters lengths s (replicate 64 9)) .told)
 
 -- ONE BYTE CHANGED
 one-changed : List Fact
@@ -159,5 +150,5 @@ of-kinds =
     ∷ []
 
 the-facts : map (λ f. f .computed) (one-changed ++ several-changed ++ of-kinds) ≡ map (λ f. f .paper) (one-changed ++ several-changed ++ of-kinds)
-unfolding one-changed several-changed of-kinds saved mixed-saved with-byte told search counting allowing-one told-of-save letters lengths pair value letter? run keep each all? some? member? sum joined put put-at split sequences spell front-by stands-by reach starts occurrences marks support allowed to-come exactly bases stands-for several within mixed profile-by parts-in measure reaches walk-in spelled candidate deal _else_ first first-bad check1 check2 check3 check4 check5 check6 check7 check8 check9 check10 check11 check12 passes? check13 check17 check21 check22 check23 check24 restore-checks search-checks save-checks low-first read-low size-record component-record place-record component-records records bytes record-at field record-count component-count read-profile read-component read-place read-template read-search sized? blank? size-kind? component-kind? place-kind? size-blank? component-blank? place-blank? saved-records kind? unnamed-blank? sums? place-rule? allowed-in components size restore-rule save-rule
+unfolding one-changed several-changed of-kinds saved mixed-saved with-byte told search counting allowing-one told-of-save search-told answer-told letters lengths pair value letter? run keep each all? some? member? sum joined put put-at split sequences spell front-by stands-by reach starts occurrences marks support allowed to-come exactly bases stands-for several within mixed profile-by parts-in measure reaches walk-in spelled candidate deal _else_ first first-bad check1 check2 check3 check4 check5 check6 check7 check8 check9 check10 check11 check12 passes? check13 check17 check21 check22 check23 check24 restore-checks search-checks save-checks low-first read-low size-record component-record place-record component-records records bytes record-at field record-count component-count read-profile read-component read-place read-template read-search sized? blank? size-kind? component-kind? place-kind? size-blank? component-blank? place-blank? saved-records kind? unnamed-blank? sums? place-rule? allowed-in components size restore-rule save-rule
 the-facts = refl
