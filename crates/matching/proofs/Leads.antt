@@ -13,6 +13,7 @@ use Rattle.rows.specs.Bits.{held}
 use Rattle.rows.specs.Flags.{added, masked}
 use Rattle.rows.specs.Set.{Row-MARKS, words-of, first-word, between, marked?, Bounded}
 use Rattle.matching.specs.Weights.{counts-at, kept-counts, begun, begun-counts}
+use Rattle.rows.proofs.Offsets.{words-room}
 use Rattle.rows.proofs.Rewritten.{drop-more}
 use Rattle.rows.proofs.Sets.{first-next, between-kept, bits-are-at, part-written}
 
@@ -46,11 +47,6 @@ offset-all (n ∷ ns) (suc k) = omega (arith, offset-all ns k)
 -- a sequence's counts end before those of the next begin
 offset-most : (ns : List ℕ) (k m : ℕ) → k < length ns → k < m → sum (take k ns) + getD ns k 0 ≤ sum (take m ns)
 offset-most ns k m h l = omega (arith, offset-next ns k h, offset-least ns (k + 1) m (omega arith))
-
--- the words of n places have room for them
-pub words-room : (n : ℕ) → n ≤ 64 * words-of n
-unfolding words-of
-words-room n = omega arith
 
 -- what the counts of sequence k are, by where they begin and end
 module _ (ns : List ℕ) (k : ℕ) (h : k < length ns) {a e : ℕ} (begins : a ≡ sum (take k ns)) (ends : e ≡ sum (take (k + 1) ns)) where

@@ -13,7 +13,8 @@ use Rattle.rows.specs.Flags.{masked}
 use Rattle.rows.specs.Set.{words-of, first-word, between, bits-at, marked?}
 use Rattle.matching.specs.Weights.{kept-counts, weight-at, weight-of}
 use Rattle.rows.proofs.Adding.{run-zeros, run-split, run-jump}
-use Rattle.matching.proofs.Leads.{counts-many, words-many, words-room, kept-are-at}
+use Rattle.matching.proofs.Leads.{counts-many, words-many, kept-are-at}
+use Rattle.rows.proofs.Offsets.{words-room, words-tight}
 use Rattle.rows.proofs.Sets.{bits-are-at}
 
 module _ (ns row counts : List ℕ) where
@@ -65,10 +66,6 @@ module _ (ns row counts : List ℕ) where
   weights-all = let z : SequenceSet-SEQUENCES - 0 ≡ SequenceSet-SEQUENCES = omega arith in rw z
 
 -- ONE SEQUENCE, by where its words and its counts begin and end
-words-close : (n : ℕ) → 64 * words-of n ≤ n + 63
-unfolding words-of
-words-close n = omega arith
-
 module _ (ns row counts : List ℕ) (k : ℕ) (h : k < length ns) {a e from to : ℕ} (begins : a ≡ sum (take k ns)) (ends : e ≡ sum (take (k + 1) ns))
     (starts : from ≡ first-word ns k) (stops : to ≡ first-word ns (k + 1)) (words : to ≤ length row) (places : e ≤ length counts) where
   many-words : length (midOf from (to - from) row) ≡ words-of (getD ns k 0)
@@ -78,7 +75,7 @@ module _ (ns row counts : List ℕ) (k : ℕ) (h : k < length ns) {a e from to :
   many-places = mid-len a e counts places ∙ counts-many ns k h begins ends
 
   pub words-cover : (64 * length (midOf from (to - from) row) ≤ length (midOf a (e - a) counts) + 63) × (length (midOf a (e - a) counts) ≤ 64 * length (midOf from (to - from) row))
-  words-cover = (omega (arith, many-words, many-places, words-close (getD ns k 0)), omega (arith, many-words, many-places, words-room (getD ns k 0)))
+  words-cover = (omega (arith, many-words, many-places, words-tight (getD ns k 0)), omega (arith, many-words, many-places, words-room (getD ns k 0)))
 
   pub dark-past : ((p : ℕ) → getD ns k 0 ≤ p → getD (bits-at ns k row) p 0 ≡ 0) → (p : ℕ) → length (midOf a (e - a) counts) ≤ p → getD (held (midOf from (to - from) row)) p 0 ≡ 0
   unfolding between

@@ -19,12 +19,9 @@ use Rattle.rows.proofs.Bits.{bit-small}
 use Rattle.rows.proofs.Dark.{kept-dark, reached-dark}
 use Rattle.rows.proofs.Held.{length-held}
 use Rattle.rows.proofs.Link.{padded-in, length-padded, left-padded, extended-flags, window-flags}
+use Rattle.rows.proofs.Offsets.{words-room}
 use Rattle.rows.proofs.Sets.{first-most}
 use Rattle.rows.proofs.Tally.{tally-sum}
-
-room : (n : ℕ) → n ≤ 64 * words-of n
-unfolding words-of
-room n = omega arith
 
 module _ (ns l : List ℕ) (adds : sum ns ≡ length l) (few : length ns ≤ 1024) where
   pub long : (k : ℕ) → length (sequence ns l k) ≡ getD ns k 0
@@ -87,7 +84,7 @@ module _ (ns l : List ℕ) (adds : sum ns ≡ length l) (few : length ns ≤ 102
               let fs = F (sequence ns l k) in
               let K = padded (64 * words-of (getD ns k 0)) fs in
               let n : length fs ≡ getD ns k 0 = same (sequence ns l k) ∙ long k in
-              let r : length fs ≤ 64 * words-of (getD ns k 0) = rw n (room (getD ns k 0)) in
+              let r : length fs ≤ 64 * words-of (getD ns k 0) = rw n (words-room (getD ns k 0)) in
               ap (λ (b : List ℕ). getD b p 0) (opened-bits a (b + 1 - a) row k (q .same k u e) (is .bits-are k u e))
               ∙ window-flags K fs (padded-in (64 * words-of (getD ns k 0)) fs) a b (rw (length-padded (64 * words-of (getD ns k 0)) fs r) r) p (rw same v)
 
@@ -123,7 +120,7 @@ module _ (ns l : List ℕ) (adds : sum ns ≡ length l) (few : length ns ≤ 102
         let s = sequence ns l k in
         let K = bits-at ns k row in
         let n : length K ≡ 64 * words-of (getD ns k 0) = bits-long row k wide u in
-        let r : length s ≤ length K = rw (n, long k) (room (getD ns k 0)) in
+        let r : length s ≤ length K = rw (n, long k) (words-room (getD ns k 0)) in
         ap (both K) (letter-is k (length K) u n) ∙ extended-flags s K (F s) (small k) r (source .begin k u e) f x i ∙ rw n
 
     G : List ℕ → List ℕ

@@ -10,6 +10,7 @@ use lib.ListN.{length, take, drop, getD, set, length-set}
 use lib.Seq.{drop-drop, getD-set-same, getD-set-other}
 use mir.Val.{boolByte}
 use borrow.Author.Tests.{eqb-true}
+use Rattle.rules.specs.Limits.{SequenceSet-SEQUENCES}
 use Rattle.rules.specs.Lists.{sum}
 use Rattle.rules.specs.Sequences.{split}
 use Rattle.rows.specs.Rows.{lettered}
@@ -51,6 +52,10 @@ words-room n = omega arith
 pub words-tight : (n : ℕ) → 64 * words-of n ≤ n + 63
 unfolding words-of
 words-tight n = omega arith
+
+-- so those of a set's marks fit its rows
+pub words-marks : (n : ℕ) → n ≤ SequenceSet-SEQUENCES → {w : ℕ} → w ≡ words-of n → (w ≤ Row-MARKS) × (n ≤ 64 * w)
+words-marks n h e = (omega (arith, words-tight n), omega (arith, words-room n))
 
 pub first-bound : (ns : List ℕ) (k : ℕ) → 64 * first-word ns k ≤ 64 * Row-MARKS + sum ns + 63 * length ns
 unfolding first-word sum

@@ -25,7 +25,7 @@ Row-UNUSED = 24
 abbrev pub Row-WORDS : ℕ
 Row-WORDS = Row-MARKS + (SequenceSet-LETTERS + (Word-BITS - 1) * SequenceSet-SEQUENCES) / Word-BITS + Row-UNUSED
 
--- the words of a sequence of n letters
+-- the words of n bits: of a sequence's letters, or of the marks of a set's sequences
 unfoldable pub words-of : ℕ → ℕ
 words-of n = (n + 63) / 64
 

@@ -18,7 +18,7 @@ ghost use Rattle.rows.specs.Set.{Row-MARKS, words-of, first-word, Firsts
 // A word with every bit set.
 const ALL: u64 = 0xFFFF_FFFF_FFFF_FFFF;
 
-// The words of a sequence of `n` letters.
+// The words of `n` bits: of a sequence's letters, or of the marks of a set's sequences.
 fn words_of(n: u32) -> u32
     requires { ⌜ n ≤ SequenceSet-LETTERS ⌝ }
     ensures { λ r. ⌜ r ≡ words-of n ⌝ }
@@ -240,14 +240,6 @@ fn keep_short(
     count(MARKS, out)
 }
 
-// How many words of marks `n` sequences take up.
-fn marks_of(n: usize) -> usize
-    requires { ⌜ n ≤ SequenceSet-SEQUENCES ⌝ }
-    ensures { λ r. ⌜ (r ≤ Row-MARKS) × (n ≤ 64 * r) ⌝ }
-{
-    (n + 63) / BITS
-}
-
 // Clears the words of marks from `n` on, those that a set of fewer sequences does not have.
 fn clear_marks(n: usize, row: &mut [u64])
     requires { ⌜ (n ≤ Row-MARKS) × (Row-MARKS ≤ length (now row)) ⌝ }
@@ -287,7 +279,7 @@ pub fn keep_all(
         }
         return keep_short(lengths, firsts, row, letter, i, quorum, out);
     }
-    let used = marks_of(lengths.len());
+    let used = words_of(lengths.len() as u32) as usize;
     let mut possible = count(used, row);
     let mut w = 0;
     while w < used {

@@ -8,6 +8,7 @@ use native.Mathlib.Omega.{arith}
 use lib.ListN.{length, length-set}
 use Rattle.rows.specs.Set.{Row-MARKS}
 use Rattle.rows.proofs.Marks.{marks-in, mark-in}
+use Rattle.rows.proofs.Offsets.{words-marks}
 use Rattle.rows.proofs.Possible.{Possible, possible-begin, stopped, ended, lost-most, possible-turn}
 use Rattle.rows.proofs.Sets.{first-past}
 use Rattle.rows.proofs.set.keep_all.Statement.{statement}
@@ -61,19 +62,25 @@ same-length-2 c = search needs
 returns-2 : tie.Need-returns-2 Inv-loop μ-loop
 returns-2 c = c .before .before .keep-short2 .ensures
 
-marks-of-requires : tie.Need-marks-of-requires Inv-loop μ-loop
-marks-of-requires c κs = search needs
+cast-words-of : tie.Need-cast-words-of Inv-loop μ-loop
+cast-words-of c = search needs
+
+words-of-requires : tie.Need-words-of-requires Inv-loop μ-loop
+words-of-requires c κs = search needs
+
+cast-used : tie.Need-cast-used Inv-loop μ-loop
+cast-used c = search needs
 
 count-requires : tie.Need-count-requires Inv-loop μ-loop
 count-requires c κs =
     let s = c .before .before .before .before .before .before .before .before in
-    let m = c .marks-of .ensures in
+    let m = words-marks _ (s .pre .0 .0) (c .words-of .ensures) in
     (m .0, omega (arith, m .0, s .pre .1 .1 .1 .0, first-past (s .args .lengths .now) (length (s .args .lengths .now))))
 
 loop-holds : tie.Need-loop-holds Inv-loop μ-loop
 loop-holds c =
     let s = c .before .before .before .before .before .before .before .before .before in
-    let m = c .before .marks-of .ensures in
+    let m = words-marks _ (s .pre .0 .0) (c .before .words-of .ensures) in
     (omega arith, m .0, refl, possible-begin (s .args .i) (s .args .lengths .now) (s .args .letter .now) (s .args .row .now) (s .pre .1 .1 .0) _ (m .1) (s .args .quorum) (s .args .out .now) (m .0) (omega (arith, m .0, s .pre .1 .1 .1 .0, first-past (s .args .lengths .now) (length (s .args .lengths .now)))) (c .count .ensures))
 
 same-length-3 : tie.Need-same-length-3 Inv-loop μ-loop
@@ -161,12 +168,12 @@ returns-5 : tie.Need-returns-5 Inv-loop μ-loop
 returns-5 c =
     let s = c .before .before .before .before .before .before .before .before .before .before .before .before .before .before .before .before .before .before in
     let l = c .before .before .before .before .before .before .before .before .loop in
-    let m = c .before .before .before .before .before .before .before .before .before .before .marks-of in
+    let m = c .before .before .before .before .before .before .before .before .before .before .words-of in
     let e = c .before .before .before .before .clear-marks .ensures in
     let w : l .w ≡ m .result = omega (arith, l .inv .0, c .before .before .before .before .before .before .before .loop-test .left) in
     let q : s .args .quorum ≤ l .possible = omega (arith, c .before .before .before .before .before .before .if4 .left) in
     let wide = marks-in _ _ (e .1 .1) (l .inv .2) (s .pre .1 .1 .1 .2) (s .pre .1 .1 .1 .0) in
-    ended (s .args .i) (s .args .lengths .now) (s .args .letter .now) (s .args .row .now) (s .args .quorum) (l .out) (l .possible) (l .w) (l .inv .3) (s .pre .1 .1 .0) (m .result) (m .ensures .1) (l .inv .1) w q
+    ended (s .args .i) (s .args .lengths .now) (s .args .letter .now) (s .args .row .now) (s .args .quorum) (l .out) (l .possible) (l .w) (l .inv .3) (s .pre .1 .1 .0) (m .result) (words-marks _ (s .pre .0 .0) (m .ensures) .1) (l .inv .1) w q
     _ (e .0 .0) (e .0 .1) (e .1 .0) (omega (arith, l .inv .1, wide)) (c .count2 .ensures) (e .1 .1 ∙ l .inv .2)
 
 pub keep-all-spec : {M : Type 1} → statement M
@@ -184,7 +191,9 @@ keep-all-spec =
     keep-short-requires-2
     same-length-2
     returns-2
-    marks-of-requires
+    cast-words-of
+    words-of-requires
+    cast-used
     count-requires
     loop-holds
     same-length-3
