@@ -6,8 +6,9 @@ use Rattle.rules.specs.Calls.{on-refusal, Written, begin-rule}
 use Rattle.rules.specs.Told.{Verdict, Told, refuses}
 use Rattle.rules.specs.declared.Search.{Search}
 use Rattle.rules.specs.declared.Template.{Template}
-use Rattle.exports.specs.Exported.{outcome, outcome-of, save-begun, restore-of, shape-after, allowances-after}
+use Rattle.exports.specs.Exported.{outcome, outcome-of, save-begun, restore-of, table-after}
 use Rattle.exports.specs.Numbers.{count-told, search-told}
+use Rattle.exports.specs.Shape.{shape-of, allowances-of}
 use Rattle.exports.specs.declared.told.Count.{Count}
 use Rattle.exports.specs.declared.told.Restored.{Restored}
 
@@ -24,6 +25,6 @@ pub begun-outcome : (letters lengths : List ℕ) (v : Verdict) (t : Template) (q
 begun-outcome letters lengths v t quorum saved d e f g h = rw (← d, ← e, ← f) (written-outcome count-told _ g (h .0) (h .1))
 
 -- a restore: the numbers, the shape and the allowances
-pub restored-outcome : (u : Told Search) (shape allowances : List ℕ) {r : Restored} {t : Told Search} {xs ys : List ℕ} → r ≡ search-told t → t ≡ u → xs ≡ shape-after t shape → ys ≡ allowances-after t allowances
-    → restore-of r xs ys ≡ restore-of (search-told u) (shape-after u shape) (allowances-after u allowances)
-restored-outcome u shape allowances e f g h = rw (e, g, h, f)
+pub restored-outcome : (u : Told Search) (shape allowances : List ℕ) {r : Restored} {t : Told Search} {xs ys : List ℕ} → r ≡ search-told t → t ≡ u → (xs ≡ table-after shape-of t shape) × (ys ≡ table-after allowances-of t allowances)
+    → restore-of r xs ys ≡ restore-of (search-told u) (table-after shape-of u shape) (table-after allowances-of u allowances)
+restored-outcome u shape allowances e f g = rw (e, g .0, g .1, f)

@@ -12,6 +12,7 @@ use Rattle.rules.specs.Saved.{bytes}
 use Rattle.rules.specs.Told.{Verdict, fine, refused, Told, gives, refuses}
 use Rattle.rules.specs.Walk.{place}
 use Rattle.rules.specs.declared.Search.{Search}
+use Rattle.rules.specs.declared.Template.{Template}
 use Rattle.exports.specs.Numbers.{count-told, page-told, stopped, leg-told, search-told, found-told}
 use Rattle.exports.specs.Shape.{template-of, shape-of, allowances-of, fill}
 use Rattle.exports.specs.declared.told.Count.{Count}
@@ -90,15 +91,13 @@ pub record RestoreOutcome : Type 0 where
 abbrev pub restore-of : Restored → List ℕ → List ℕ → RestoreOutcome
 restore-of numbers shape allowances = record { numbers = numbers; shape = shape; allowances = allowances }
 
-unfoldable pub shape-after : Told Search → List ℕ → List ℕ
-shape-after t shape = on-told t (λ n p. shape) (λ s. fill (shape-of (s .template)) shape)
-
-unfoldable pub allowances-after : Told Search → List ℕ → List ℕ
-allowances-after t allowances = on-told t (λ n p. allowances) (λ s. fill (allowances-of (s .template)) allowances)
+-- a table, once such numbers of the search's template are written to it
+unfoldable pub table-after : (Template → List ℕ) → Told Search → List ℕ → List ℕ
+table-after numbers t table = on-told t (λ n p. table) (λ s. fill (numbers (s .template)) table)
 
 unfoldable pub restore-outcome : List ℕ → List ℕ → List ℕ → List ℕ → List ℕ → RestoreOutcome
 restore-outcome letters lengths saved shape allowances =
-    let t = restore-rule letters lengths saved in restore-of (search-told t) (shape-after t shape) (allowances-after t allowances)
+    let t = restore-rule letters lengths saved in restore-of (search-told t) (table-after shape-of t shape) (table-after allowances-of t allowances)
 
 -- SAVE
 unfoldable pub save-outcome : List ℕ → List ℕ → ℕ → Search → List ℕ → Outcome Count

@@ -13,7 +13,8 @@ use rules::Saved;
 use rules::Search;
 use rules::Template;
 ghost use mathlib.Core.Path.{_≡_};
-ghost use Rattle.exports.specs.Exported.{profile-check, checked-written, save-begun, leg-of, leg-from, shape-after, allowances-after};
+ghost use Rattle.exports.specs.Exported.{profile-check, checked-written, save-begun, leg-of, leg-from, table-after};
+ghost use Rattle.exports.specs.Shape.{shape-of, allowances-of};
 ghost use Rattle.rules.specs.Calls.{on-refusal, begin-rule, save-rule, restore-rule, recover-rule};
 ghost use Rattle.rules.specs.Told.{gives, refuses, toldChecked, toldBegun, toldSaved, toldRecovered};
 
@@ -140,27 +141,15 @@ pub fn leg(
     }
 }
 
-// Writes the shape of a search that was restored.
-pub fn write_shape(restored: Begun, shape: &mut [u16])
-    ensures { λ _. ⌜ now (shape .exit) ≡ shape-after (toldBegun restored) (now (shape .entry)) ⌝ }
+// Writes the shape and the allowances of a search that was restored.
+pub fn write(restored: Begun, shape: &mut [u16], allowances: &mut [u16])
+    ensures { λ _. ⌜ now (shape .exit) ≡ table-after shape-of (toldBegun restored) (now (shape .entry)) ⌝ }
+    ensures { λ _. ⌜ now (allowances .exit) ≡ table-after allowances-of (toldBegun restored) (now (allowances .entry)) ⌝ }
 {
     match restored {
         Begun::Search(s) => {
             let t = s.template;
-            shape::write(t, shape);
-        }
-        Begun::Refused(_) => {}
-    }
-}
-
-// Writes its allowances.
-pub fn write_allowances(restored: Begun, allowances: &mut [u16])
-    ensures { λ _. ⌜ now (allowances .exit) ≡ allowances-after (toldBegun restored) (now (allowances .entry)) ⌝ }
-{
-    match restored {
-        Begun::Search(s) => {
-            let t = s.template;
-            shape::write_allowances(t, allowances);
+            shape::write(t, shape, allowances);
         }
         Begun::Refused(_) => {}
     }

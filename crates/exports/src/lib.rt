@@ -101,8 +101,7 @@ pub extern "C" fn tulfasheq_restore(
 {
     let answer = saved::restore(letters, lengths, saved);
     let told = Restored::begun(answer);
-    chain::write_shape(answer, shape);
-    chain::write_allowances(answer, allowances);
+    chain::write(answer, shape, allowances);
     *place = told.place;
     *profile = told.profile;
     *components = told.components;

@@ -85,19 +85,14 @@ fn copy(from: &[u16], to: &mut [u16])
     }
 }
 
-// Writes the shape of a template, as many of its numbers as there is room for.
-pub fn write(t: Template, shape: &mut [u16])
+// Writes the shape of a template and the allowances of its slots, of each as many numbers as there is room for.
+pub fn write(t: Template, shape: &mut [u16], allowances: &mut [u16])
     ensures { λ _. ⌜ now (shape .exit) ≡ fill (shape-of t) (now (shape .entry)) ⌝ }
+    ensures { λ _. ⌜ now (allowances .exit) ≡ fill (allowances-of t) (now (allowances .entry)) ⌝ }
 {
     let all = numbers(t);
     copy(&all, shape);
-}
-
-// Writes the allowances of a template's slots, as many as there is room for.
-pub fn write_allowances(t: Template, allowances: &mut [u16])
-    ensures { λ _. ⌜ now (allowances .exit) ≡ fill (allowances-of t) (now (allowances .entry)) ⌝ }
-{
-    let all = [
+    let allowed = [
         t.c1.allowance,
         t.c2.allowance,
         t.c3.allowance,
@@ -105,5 +100,5 @@ pub fn write_allowances(t: Template, allowances: &mut [u16])
         t.c5.allowance,
         t.c6.allowance,
     ];
-    copy(&all, allowances);
+    copy(&allowed, allowances);
 }

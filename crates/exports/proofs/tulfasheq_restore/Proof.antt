@@ -11,11 +11,8 @@ restore-requires c κs = search needs
 begun-requires : tie.Need-begun-requires
 begun-requires c κs = search needs
 
-write-shape-requires : tie.Need-write-shape-requires
-write-shape-requires c κs = search needs
-
-write-allowances-requires : tie.Need-write-allowances-requires
-write-allowances-requires c κs = search needs
+write-requires : tie.Need-write-requires
+write-requires c κs = search needs
 
 same-length : tie.Need-same-length
 same-length c = search needs
@@ -26,9 +23,9 @@ same-length-2 c = search needs
 returns : tie.Need-returns
 unfolding restore-outcome
 returns c =
-    let s = c .before .before .before .before .before .before in
-    restored-outcome _ _ _ (s .before .before .begun .ensures) (s .before .before .before .restore .ensures) (s .write-shape .ensures) (c .before .before .write-allowances .ensures)
+    let s = c .before .before .before .before in
+    restored-outcome _ _ _ (s .before .before .before .begun .ensures) (s .before .before .before .before .restore .ensures) (s .write .ensures)
 
 pub tulfasheq-restore-spec : {M : Type 1} → statement M
 tulfasheq-restore-spec =
-    tie.close (tie.spec restore-requires begun-requires write-shape-requires write-allowances-requires same-length same-length-2 returns)
+    tie.close (tie.spec restore-requires begun-requires write-requires same-length same-length-2 returns)
