@@ -46,13 +46,13 @@ pub fn search(asked: Asked) -> Answer<()> {
 pub fn resume(folder: &Path, out: &Out, quiet: bool) -> Answer<()> {
     out.spare(&job::files(folder))?;
     out.check()?;
+    let asking = Asking::begin();
     let about = About::read(folder)?;
     if about.ended() {
-        about.check_table()?;
+        drop(asking);
         return write_out(&about, out);
     }
-    let asking = Asking::begin();
-    go_on(Job::open(folder)?, asking, out, quiet)
+    go_on(Job::open(about)?, asking, out, quiet)
 }
 
 /// A new search, saved.

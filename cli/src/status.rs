@@ -9,7 +9,6 @@ use std::path::Path;
 /// Tells of a job, a line for each thing: its name, a tab, and what it is.
 pub fn status(folder: &Path) -> Answer<()> {
     let about = About::read(folder)?;
-    about.check_table()?;
     let template = &about.template;
     let (letters, number) = about.next;
     let next = match letters {

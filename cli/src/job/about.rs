@@ -29,7 +29,7 @@ pub struct About {
 }
 
 impl About {
-    /// Reads a folder, and changes nothing in it.
+    /// Reads a folder, all of it, and changes nothing in it.
     pub fn read(folder: &Path) -> Answer<About> {
         let state = read_state(folder)?;
         let path = folder.join(SEQUENCES);
@@ -42,14 +42,24 @@ impl About {
         let restored = legs::restored(&sequences, &state.saved).map_err(|refusal| {
             refusals::of_save(refusal, &folder.join(STATE).display().to_string())
         })?;
-        Ok(About {
+        let about = About {
             folder: folder.to_path_buf(),
             template: restored.template,
             quorum: restored.quorum,
             next: restored.next,
             sequences,
             state,
-        })
+        };
+        about.check_table()?;
+        Ok(about)
+    }
+
+    /// The same, where another program may have gone on with it since.
+    pub(super) fn again(self) -> Answer<About> {
+        if read_state(&self.folder)? == self.state {
+            return Ok(self);
+        }
+        About::read(&self.folder)
     }
 
     pub fn ended(&self) -> bool {
@@ -98,7 +108,7 @@ impl About {
     }
 
     /// Whether the table still begins with what the state counts.
-    pub fn check_table(&self) -> Answer<()> {
+    fn check_table(&self) -> Answer<()> {
         let path = self.folder.join(ROWS);
         let (mut sum, mut bytes) = (Sum::NONE, 0);
         self.hand_on(|piece| {

@@ -111,18 +111,14 @@ impl Job {
         Ok(job)
     }
 
-    /// Opens a job to go on with it: what the table has behind the rows that
+    /// Takes a job to go on with it: what the table has behind the rows that
     /// the state counts is cut off. Those rows are the motifs below the saved
     /// place; what is cut is at that place or after it, or an unfinished line.
-    pub fn open(folder: &Path) -> Answer<Job> {
-        // Nothing is made in a folder that is refused, not even a lock.
-        if !folder.join(LOCK).exists() {
-            About::read(folder)?.check_table()?;
-        }
-        let lock = lock::take(folder)?;
-        let about = About::read(folder)?;
-        about.check_table()?;
-        let table = disk::open_to_write(&folder.join(ROWS))?;
+    pub fn open(about: About) -> Answer<Job> {
+        // Nothing was made yet in the folder, which may have been refused.
+        let lock = lock::take(&about.folder)?;
+        let about = about.again()?;
+        let table = disk::open_to_write(&about.folder.join(ROWS))?;
         let mut job = Job {
             about,
             table,

@@ -106,7 +106,6 @@ fn of_list(template: &Template, list: &Path, file: &Path, how: &How) -> Answer<(
 fn of_job(folder: &Path, how: &How) -> Answer<()> {
     how.out.spare(&job::files(folder))?;
     let about = About::read(folder)?;
-    about.check_table()?;
     let mut all = Occurrences::new(&about.sequences, &about.template)?;
     let called = folder.join(job::ROWS).display().to_string();
     list::read(&mut BufReader::new(about.table()?), &called, &mut all)?;
