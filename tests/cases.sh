@@ -90,6 +90,27 @@ closed_pipe() { # LOOK FILE COMMAND..
     done
 }
 
+# Runs a command twice at the same time; each time it prints a file, and the whole of it.
+two_at_once() { # FILE COMMAND..
+    file=$1
+    shift
+    for i in 1 2; do
+        {
+            timeout 500 "$@" >"$work/out.$i" 2>"$work/err.$i" || status=$?
+            echo "$status" >"$work/status.$i"
+        } &
+    done
+    wait
+    for i in 1 2; do
+        cp "$work/out.$i" "$work/out"
+        cp "$work/err.$i" "$work/err"
+        status=$(cat "$work/status.$i")
+        ended 0
+        printed "$file"
+    done
+    cat "$work/err.1" "$work/err.2" >"$work/err"
+}
+
 fail() {
     echo "$0: $name: $1"
     for part in out err; do

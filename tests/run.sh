@@ -130,32 +130,13 @@ printed "$work/short.out"
 
 # ---- two at once
 
-# Runs two at the same time; each prints a file, and the whole of it.
-try_two() { # FILE
-    for i in 1 2; do
-        {
-            timeout 500 ./run motifs "$work/short" >"$work/out.$i" 2>"$work/err.$i" || status=$?
-            echo "$status" >"$work/status.$i"
-        } &
-    done
-    wait
-    for i in 1 2; do
-        cp "$work/out.$i" "$work/out"
-        cp "$work/err.$i" "$work/err"
-        status=$(cat "$work/status.$i")
-        ended 0
-        printed "$1"
-    done
-    cat "$work/err.1" "$work/err.2" >"$work/err"
-}
-
 begin "two at once, of a program that is built"
-try_two "$work/short.out"
+two_at_once "$work/short.out" ./run motifs "$work/short"
 [ ! -s "$work/err" ] || fail "it is checked again"
 
 begin "two at once, where it is to be checked"
 rm target/run/motifs
-try_two "$work/short.out"
+two_at_once "$work/short.out" ./run motifs "$work/short"
 said "checking"
 if grep -q ' proved ([0-9]' "$work/err"; then fail "it is proved again"; fi
 
@@ -179,7 +160,7 @@ END
 
 begin "two at once, where it is to be proved"
 prints "end 0 0"
-try_two crates/motifs/stdout
+two_at_once crates/motifs/stdout ./run motifs "$work/short"
 [ "$(grep -c '^run: motifs proved (' "$work/err")" -eq 1 ] || fail "it is not proved once"
 
 begin "a program that changed"

@@ -32,20 +32,7 @@ printed examples/promoters.tsv
 
 begin "two at once, where it is to be built"
 rm "$mark"
-for i in 1 2; do
-    {
-        timeout 500 ./tulfasheq "$@" >"$work/out.$i" 2>"$work/err.$i" || status=$?
-        echo "$status" >"$work/status.$i"
-    } &
-done
-wait
-for i in 1 2; do
-    cp "$work/out.$i" "$work/out"
-    cp "$work/err.$i" "$work/err"
-    status=$(cat "$work/status.$i")
-    ended 0
-    printed examples/promoters.tsv
-done
+two_at_once examples/promoters.tsv ./tulfasheq "$@"
 
 begin "the program's own status"
 try ./tulfasheq search N 0 examples/promoters.fa
