@@ -54,6 +54,7 @@ fn run(words: Vec<OsString>) -> Answer<()> {
 }
 
 fn main() -> ExitCode {
+    signals::ignore_limits();
     let words = std::env::args_os().skip(1).collect();
     let answer = thread::Builder::new()
         .stack_size(STACK)

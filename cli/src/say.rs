@@ -13,7 +13,10 @@ pub fn say(words: &str) {
 /// A path as a shell reads it: in quotes where it has more than plain
 /// characters.
 pub fn quoted(path: &Path) -> String {
-    let text = path.display().to_string();
+    let mut text = path.display().to_string();
+    if text.starts_with('-') {
+        text.insert_str(0, "./");
+    }
     let plain = |c: char| c.is_alphanumeric() || "/._-+,:@%".contains(c);
     if !text.is_empty() && text.chars().all(plain) {
         return text;
@@ -46,6 +49,7 @@ mod tests {
         assert_eq!(quoted(Path::new("jobs/a-1.job")), "jobs/a-1.job");
         assert_eq!(quoted(Path::new("my job")), "'my job'");
         assert_eq!(quoted(Path::new("it's")), "'it'\\''s'");
+        assert_eq!(quoted(Path::new("--out")), "./--out");
     }
 
     #[test]

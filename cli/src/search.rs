@@ -35,7 +35,7 @@ pub fn search(asked: Asked) -> Answer<()> {
     let Some(folder) = &asked.job else {
         return straight(&sequences, &asked, saved);
     };
-    asked.out.spare(&job::files(folder))?;
+    asked.out.spare(&job::paths(folder))?;
     asked.out.check()?;
     let asking = Asking::begin();
     let job = Job::create(folder, sequences, asked.template, quorum, saved)?;
@@ -44,7 +44,7 @@ pub fn search(asked: Asked) -> Answer<()> {
 
 /// Goes on with a job. One that has ended is only read.
 pub fn resume(folder: &Path, out: &Out, quiet: bool) -> Answer<()> {
-    out.spare(&job::files(folder))?;
+    out.spare(&job::paths(folder))?;
     out.check()?;
     let asking = Asking::begin();
     let about = About::read(folder)?;
@@ -125,6 +125,8 @@ fn leg(
 fn go_on(mut job: Job, asking: Asking, out: &Out, quiet: bool) -> Answer<()> {
     if !job.about.ended() {
         run(&mut job, &asking, quiet)?;
+        // Before anything is written out that would look whole.
+        job.about.check_table()?;
     }
     // All is saved: from here on a signal may end the program at once.
     drop(asking);

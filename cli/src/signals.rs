@@ -6,6 +6,7 @@ use std::sync::atomic::{AtomicBool, Ordering};
 const SIGHUP: i32 = 1;
 const SIGINT: i32 = 2;
 const SIGTERM: i32 = 15;
+const SIGXFSZ: i32 = 25;
 
 const DEFAULT: usize = 0;
 const IGNORE: usize = 1;
@@ -20,6 +21,15 @@ static ASKED: AtomicBool = AtomicBool::new(false);
 
 extern "C" fn ask(_: i32) {
     ASKED.store(true, Ordering::SeqCst);
+}
+
+/// From here on a file that grows beyond a limit is a write that fails, and not
+/// the program's end.
+pub fn ignore_limits() {
+    // SAFETY: to ignore a signal needs no handler.
+    unsafe {
+        signal(SIGXFSZ, IGNORE);
+    }
 }
 
 /// While this lives, the signals only ask.

@@ -20,7 +20,7 @@ pub fn status(folder: &Path) -> Answer<()> {
     } else {
         "no".to_string()
     };
-    let state = match (about.running(), about.ended()) {
+    let state = match (about.running()?, about.ended()) {
         (true, _) => "running",
         (false, true) => "ended",
         (false, false) => "stopped",

@@ -177,6 +177,8 @@ fn a_leg_is_on_the_disk_before_its_state_is_and_the_state_before_the_next_leg() 
     let begin = [
         "mkdir ",
         "fsync outside",
+        "write /lock",
+        "fsync /lock",
         "write /sequences.fa",
         "fsync /sequences.fa",
         "write /rows.tsv",
@@ -208,7 +210,7 @@ fn limited(blocks: u64) -> Command {
     let mut command = Command::new("sh");
     command
         .arg("-c")
-        .arg("trap '' XFSZ; ulimit -f \"$0\"; exec \"$@\"")
+        .arg("ulimit -f \"$0\"; exec \"$@\"")
         .arg(blocks.to_string())
         .arg(program().get_program());
     command

@@ -4,8 +4,8 @@
 mod common;
 
 use common::jobs::{
-    copy, end, files, same, signal, start, until_rows, whole, Kind, Search, HEADER, LONG, MIDDLE,
-    SHORT, SIGTERM,
+    copy, end, files, same, signal, start, until_rows, whole, Kind, Search, HEADER, LOCK, LONG,
+    MIDDLE, SHORT, SIGTERM,
 };
 use common::{run, word, Scratch};
 use std::fs;
@@ -129,10 +129,12 @@ fn a_search_begins_in_an_empty_folder_or_where_one_was_killed_before_its_first_s
     let expected = search.table();
     let sequences = fs::read(&search.file).expect("the sequences");
     let (header, state) = (HEADER.as_bytes(), &b"tulfasheq job 1\nst"[..]);
-    let lock: (&str, &[u8]) = ("lock", b"");
-    let left: [&[(&str, &[u8])]; 7] = [
+    let lock: (&str, &[u8]) = ("lock", LOCK);
+    let left: [&[(&str, &[u8])]; 9] = [
         &[],
         &[lock],
+        &[("lock", b"")],
+        &[("lock", &LOCK[..9])],
         &[lock, ("sequences.fa", b"")],
         &[lock, ("sequences.fa", &sequences[..100])],
         &[lock, ("sequences.fa", &sequences), ("rows.tsv", b"")],

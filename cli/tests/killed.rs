@@ -25,13 +25,30 @@ fn expected() -> &'static (Vec<u8>, Duration) {
     })
 }
 
-/// How long the program is left before it is stopped: mostly not for a whole
-/// leg, sometimes for more. It is told in parts of the whole search's time, so
-/// that on a fast machine too the job is not over before all stops.
-fn moment(random: &mut Random, stop: u64) -> Duration {
+/// When a program is stopped.
+#[derive(Clone, Copy)]
+enum Moment {
+    /// So long after its start, wherever it is then.
+    After(Duration),
+    /// So long after it has saved a leg.
+    Saved(Duration),
+    /// When it has written rows and not saved them yet, if that is seen before
+    /// two legs are saved.
+    Rows,
+}
+
+/// A moment that is blind: mostly not enough for a whole leg, sometimes for
+/// more. It is told in parts of the whole search's time, so that on a fast
+/// machine too the job is not over before all stops.
+fn blind(random: &mut Random, stop: u64) -> Moment {
     let parts = if stop % 5 == 4 { 24 } else { 75 };
     let most = expected().1.as_micros() as u64 / parts;
-    Duration::from_micros(random.below(most))
+    Moment::After(Duration::from_micros(random.below(most)))
+}
+
+/// A moment soon after a leg was saved.
+fn saved(random: &mut Random) -> Moment {
+    Moment::Saved(Duration::from_micros(random.below(15_000)))
 }
 
 /// The bytes of rows.tsv behind what the state counts.
@@ -61,10 +78,10 @@ impl Stops<'_> {
     }
 
     /// Starts the program, and stops it by a signal, or by SIGKILL.
-    fn stop(&mut self, folder: &Path, after: Duration, by: Option<i32>) -> Ran {
+    fn stop(&mut self, folder: &Path, moment: Moment, by: Option<i32>) -> Ran {
         let before = state_value(folder, "steps");
         let mut child = start(&self.search.further(folder));
-        thread::sleep(after);
+        await_moment(folder, before, moment);
         match by {
             Some(number) => signal(&child, number),
             None => child.kill().expect("it is killed"),
@@ -97,6 +114,25 @@ impl Stops<'_> {
     }
 }
 
+/// Waits until a program that has just been started is to be stopped.
+fn await_moment(folder: &Path, before: Option<u64>, moment: Moment) {
+    let begun = Instant::now();
+    let mut last = before.max(Some(0));
+    let mut legs = 0;
+    loop {
+        assert!(begun.elapsed() < Duration::from_secs(60), "no leg is saved");
+        let steps = state_value(folder, "steps");
+        legs += u64::from(steps > last);
+        last = steps.max(last);
+        match moment {
+            Moment::After(time) => return thread::sleep(time),
+            Moment::Saved(time) if legs > 0 => return thread::sleep(time),
+            Moment::Rows if legs > 1 || (legs > 0 && behind(folder) > 0) => return,
+            _ => thread::sleep(Duration::from_micros(100)),
+        }
+    }
+}
+
 /// That `status` reads a job that was stopped, if it was saved at all.
 fn look(folder: &Path) {
     if folder.join("state").exists() {
@@ -125,12 +161,18 @@ fn killed_at_any_moment_no_row_is_lost_or_listed_twice() {
     let folder = scratch.path("job");
     let mut random = Random::new(11);
     let mut stops = Stops::new(&search);
-    for stop in 0..60 {
-        let after = moment(&mut random, stop);
-        let ran = stops.stop(&folder, after, None);
+    for stop in 0..56 {
+        let moment = match stop % 14 {
+            13 => Moment::Rows,
+            at if at % 2 == 0 => blind(&mut random, stop),
+            _ => saved(&mut random),
+        };
+        let ran = stops.stop(&folder, moment, None);
         assert_eq!(ran.status, None, "{}", ran.err);
         look(&folder);
     }
+    let after = stops.stops - stops.nothing_saved;
+    assert!(after >= 28, "{after} kills after a leg was saved");
     stops.finish(&folder, "SIGKILL");
 }
 
@@ -141,16 +183,16 @@ fn asked_to_stop_it_is_saved_and_says_how_to_go_on() {
     let folder = scratch.path("job");
     let mut random = Random::new(12);
     let mut stops = Stops::new(&search);
-    let mut saved = 0;
+    let mut kept = 0;
     for stop in 0..15 {
-        let after = moment(&mut random, stop);
+        let moment = blind(&mut random, stop);
         let number = [SIGTERM, SIGINT, SIGHUP][stop as usize % 3];
-        let ran = stops.stop(&folder, after, Some(number));
-        saved += u64::from(asked(ran, &folder));
+        let ran = stops.stop(&folder, moment, Some(number));
+        kept += u64::from(asked(ran, &folder));
         look(&folder);
     }
-    assert!(saved > 0, "no signal came while the program listened");
-    println!("{saved} stops were saved");
+    assert!(kept > 0, "no signal came while the program listened");
+    println!("{kept} stops were saved");
     stops.finish(&folder, "SIGTERM, SIGINT and SIGHUP");
 }
 
@@ -162,9 +204,13 @@ fn a_folder_copied_elsewhere_between_two_stops_goes_on_there() {
     let mut random = Random::new(13);
     let mut stops = Stops::new(&search);
     for stop in 0..16 {
-        let after = moment(&mut random, stop);
+        let moment = if stop % 4 == 1 {
+            saved(&mut random)
+        } else {
+            blind(&mut random, stop)
+        };
         let by = (stop % 2 == 0).then_some(SIGTERM);
-        let ran = stops.stop(&folder, after, by);
+        let ran = stops.stop(&folder, moment, by);
         if by.is_some() {
             asked(ran, &folder);
         }

@@ -79,43 +79,37 @@ impl About {
     }
 
     /// Whether a program works on it now.
-    pub fn running(&self) -> bool {
+    pub fn running(&self) -> Answer<bool> {
         lock::held(&self.folder)
     }
 
     /// The part of the table that the state counts.
     pub fn table(&self) -> Answer<io::Take<File>> {
         let path = self.folder.join(ROWS);
-        disk::regular(&path)?;
+        disk::plain(&path)?;
         let file = File::open(&path).map_err(|error| Failure::io(path.display(), &error))?;
         Ok(file.take(self.state.bytes))
     }
 
-    /// Hands it on, piece by piece.
+    /// Hands it on, piece by piece. That it is what the state counts is known
+    /// at its end.
     pub fn hand_on(&self, mut to: impl FnMut(&[u8]) -> Answer<()>) -> Answer<()> {
+        let path = self.folder.join(ROWS);
         let mut table = self.table()?;
         let mut piece = vec![0; 1 << 16];
+        let (mut sum, mut bytes) = (Sum::NONE, 0);
         loop {
             match table.read(&mut piece) {
-                Ok(0) => return Ok(()),
-                Ok(size) => to(&piece[..size])?,
-                Err(error) if error.kind() == io::ErrorKind::Interrupted => {}
-                Err(error) => {
-                    return Err(Failure::io(self.folder.join(ROWS).display(), &error));
+                Ok(0) => break,
+                Ok(size) => {
+                    sum = sum.and(&piece[..size]);
+                    bytes += size as u64;
+                    to(&piece[..size])?;
                 }
+                Err(error) if error.kind() == io::ErrorKind::Interrupted => {}
+                Err(error) => return Err(Failure::io(path.display(), &error)),
             }
         }
-    }
-
-    /// Whether the table still begins with what the state counts.
-    fn check_table(&self) -> Answer<()> {
-        let path = self.folder.join(ROWS);
-        let (mut sum, mut bytes) = (Sum::NONE, 0);
-        self.hand_on(|piece| {
-            sum = sum.and(piece);
-            bytes += piece.len() as u64;
-            Ok(())
-        })?;
         if bytes < self.state.bytes {
             return Err(Failure::damaged(format!(
                 "{}: it has {} bytes, and the search that is saved beside it had written {}: rows are missing (was the folder copied while the job was running?)",
@@ -128,6 +122,11 @@ impl About {
             return Err(changed(&path));
         }
         Ok(())
+    }
+
+    /// Whether the table begins with what the state counts.
+    pub fn check_table(&self) -> Answer<()> {
+        self.hand_on(|_| Ok(()))
     }
 }
 
@@ -152,12 +151,14 @@ fn read_state(folder: &Path) -> Answer<State> {
         Err(error) => return Err(Failure::io(called, &error)),
     }
     let path = folder.join(STATE);
-    if let Err(error) = fs::symlink_metadata(&path) {
-        if error.kind() == io::ErrorKind::NotFound {
-            return Err(Failure::damaged(format!(
-                "{called} holds no saved search: it is no job, or was stopped before its first save (then the search can be begun again with --job)"
-            )));
+    if !disk::plain_or_none(&path)? {
+        // One that is just being begun has no state yet.
+        if lock::held(folder)? {
+            return Err(lock::busy(folder));
         }
+        return Err(Failure::damaged(format!(
+            "{called} holds no saved search: it is no job, or was stopped before its first save (then the search can be begun again with --job)"
+        )));
     }
     let bytes = disk::read_whole(&path, MOST_STATE)?;
     State::read(&bytes).map_err(|bad| {

@@ -1,6 +1,7 @@
 //! Where a new job may be begun.
 
-use super::{LOCK, NEW, ROWS, SEQUENCES, STATE};
+use super::lock::{self, Ours};
+use super::{disk, LOCK, NEW, ROWS, SEQUENCES, STATE};
 use crate::failure::{Answer, Failure};
 use crate::say;
 use crate::table;
@@ -8,9 +9,9 @@ use std::fs;
 use std::path::Path;
 
 /// A folder in which a new job may be begun: an empty one, or one that a
-/// program left that was killed before its first save. That has a lock, which
-/// is made first, and no rows yet: what only has the same names is not written
-/// over.
+/// program left that was killed before its first save. That has a lock which
+/// says so, and is made first, plain files, and no rows yet: what only has the
+/// same names is not written over.
 pub fn may_begin(folder: &Path) -> Answer<()> {
     let called = folder.display();
     let mut names = Vec::new();
@@ -18,26 +19,26 @@ pub fn may_begin(folder: &Path) -> Answer<()> {
         let entry = entry.map_err(|error| Failure::io(&called, &error))?;
         names.push(entry.file_name());
     }
-    let has = |ours: &str| names.iter().any(|name| name == ours);
-    if has(STATE) {
+    if names.iter().any(|name| name == STATE) {
         return Err(Failure::usage(format!(
             "{called} holds a search already: tulfasheq resume {} goes on with it",
             say::quoted(folder)
         )));
     }
-    let left = if has(LOCK) {
-        &[SEQUENCES, ROWS, NEW, LOCK][..]
-    } else {
-        &[]
+    // The lock is made before all others, and these only after it says so.
+    let left = match lock::ours(folder)? {
+        Ours::Whole => &[LOCK, SEQUENCES, ROWS, NEW][..],
+        Ours::Begun => &[LOCK],
+        Ours::Not => &[],
     };
-    if let Some(other) = names
-        .iter()
-        .find(|name| left.iter().all(|ours| *name != ours))
-    {
-        return Err(Failure::damaged(format!(
-            "{called} is no job, and holds other files ({}): it is left alone",
-            other.display()
-        )));
+    for name in names {
+        if left.iter().all(|left| name != *left) {
+            return Err(Failure::damaged(format!(
+                "{called} is no job, and holds other files ({}): it is left alone",
+                name.display()
+            )));
+        }
+        disk::plain(&folder.join(name))?;
     }
     let rows = folder.join(ROWS);
     if fs::metadata(&rows).is_ok_and(|found| found.len() > table::HEADER.len() as u64) {

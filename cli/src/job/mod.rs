@@ -38,11 +38,11 @@ const STATE: &str = "state";
 const NEW: &str = "state.new";
 const LOCK: &str = "lock";
 
-/// The files of a job's folder.
-pub fn files(folder: &Path) -> Vec<PathBuf> {
-    [SEQUENCES, ROWS, STATE, NEW, LOCK]
-        .iter()
-        .map(|name| folder.join(name))
+/// The paths of a job: its folder and the files in it.
+pub fn paths(folder: &Path) -> Vec<PathBuf> {
+    let files = [SEQUENCES, ROWS, STATE, NEW, LOCK];
+    std::iter::once(folder.to_path_buf())
+        .chain(files.iter().map(|name| folder.join(name)))
         .collect()
 }
 
@@ -50,7 +50,7 @@ pub fn files(folder: &Path) -> Vec<PathBuf> {
 pub struct Job {
     pub about: About,
     table: File,
-    /// Held as long as the job is.
+    /// Held as long as the job is, as the table is.
     _lock: File,
 }
 
@@ -69,7 +69,7 @@ impl Job {
             // The folder's own name.
             Ok(()) => disk::flush_folder(folder_of(folder))?,
             Err(error) if error.kind() == io::ErrorKind::AlreadyExists => {
-                if lock::held(folder) {
+                if lock::held(folder)? {
                     return Err(lock::busy(folder));
                 }
                 begin::may_begin(folder)?;
@@ -83,6 +83,7 @@ impl Job {
         let path = folder.join(ROWS);
         disk::write_flushed(&path, table::HEADER.as_bytes())?;
         let table = disk::open_to_write(&path)?;
+        lock::hold(&table, folder, ROWS)?;
         let state = State {
             steps: 0,
             rows: 0,
@@ -116,9 +117,11 @@ impl Job {
     /// place; what is cut is at that place or after it, or an unfinished line.
     pub fn open(about: About) -> Answer<Job> {
         // Nothing was made yet in the folder, which may have been refused.
+        disk::plain_or_none(&about.folder.join(NEW))?;
         let lock = lock::take(&about.folder)?;
-        let about = about.again()?;
         let table = disk::open_to_write(&about.folder.join(ROWS))?;
+        lock::hold(&table, &about.folder, ROWS)?;
+        let about = about.again()?;
         let mut job = Job {
             about,
             table,

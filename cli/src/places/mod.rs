@@ -7,7 +7,7 @@ mod list;
 mod occurrences;
 mod tsv;
 
-use crate::counted::{grouped, of};
+use crate::counted::of;
 use crate::failure::{Answer, Failure};
 use crate::job::{self, About};
 use crate::out::Out;
@@ -69,7 +69,7 @@ pub fn places(asked: Asked) -> Answer<()> {
 
 /// Of one motif.
 fn of_motif(template: &Template, motif: &str, file: &Path, how: &How) -> Answer<()> {
-    how.out.spare(&[file.to_path_buf()])?;
+    how.check(&[file.to_path_buf()])?;
     let number = template.number(motif).map_err(Failure::usage)?;
     let sequences = sequences::read(file)?;
     let mut all = Occurrences::new(&sequences, template)?;
@@ -86,7 +86,7 @@ fn of_list(template: &Template, list: &Path, file: &Path, how: &How) -> Answer<(
             "standard input cannot be both the sequences and the list",
         ));
     }
-    how.out.spare(&[list.to_path_buf(), file.to_path_buf()])?;
+    how.check(&[list.to_path_buf(), file.to_path_buf()])?;
     let sequences = sequences::read(file)?;
     let mut all = Occurrences::new(&sequences, template)?;
     let whole = list::read_file(list, &mut all)?;
@@ -104,7 +104,7 @@ fn of_list(template: &Template, list: &Path, file: &Path, how: &How) -> Answer<(
 
 /// Of every motif that a job has listed.
 fn of_job(folder: &Path, how: &How) -> Answer<()> {
-    how.out.spare(&job::files(folder))?;
+    how.check(&job::paths(folder))?;
     let about = About::read(folder)?;
     let mut all = Occurrences::new(&about.sequences, &about.template)?;
     let called = folder.join(job::ROWS).display().to_string();
@@ -122,33 +122,46 @@ fn of_job(folder: &Path, how: &How) -> Answer<()> {
 }
 
 impl How {
+    /// Checks, before anything long is done, that there is somewhere to write
+    /// to that is none of the files which are read.
+    fn check(&self, read: &[PathBuf]) -> Answer<()> {
+        self.out.spare(read)?;
+        self.out.check()
+    }
+
     /// Writes the rows that are asked for, after what there is to say of them.
+    /// Nothing is opened before the first of them is known, or that there is
+    /// none.
     fn write(&self, all: &mut Occurrences, said: &str) -> Answer<()> {
-        // A longer list has every row that can be asked for.
-        let length = u64::try_from(all.length()).unwrap_or(u64::MAX);
-        if self.from > length {
-            return Err(Failure::refused(format!(
-                "tulfasheq: --from {} is above the list's length: the list has {} (refusal 15)",
-                grouped(self.from),
-                of(length, "row")
-            )));
-        }
         self.check_names(all.sequences)?;
         if !said.is_empty() {
             say(said);
         }
-        let mut out = self.out.open()?;
+        let mut header = Vec::new();
+        self.format.header(all.template, &mut header);
+        let begin = || {
+            let mut out = self.out.open()?;
+            out.write(&header)?;
+            Ok(out)
+        };
+        let mut out = None;
         let mut lines = Vec::new();
-        self.format.header(all.template, &mut lines);
-        out.write(&lines)?;
         all.pages(self.from, self.rows.unwrap_or(u64::MAX), |page| {
             lines.clear();
             for occurrence in page {
                 self.format.row(&occurrence, &mut lines);
             }
-            out.write(&lines)
+            let open = match &mut out {
+                Some(open) => open,
+                None => out.insert(begin()?),
+            };
+            open.write(&lines)
         })?;
-        out.close()
+        match out {
+            Some(open) => open,
+            None => begin()?,
+        }
+        .close()
     }
 
     /// Every record's name must be one that the format can hold, also where no

@@ -2,27 +2,22 @@
 //! motif, then that of the next.
 
 use super::format::Occurrence;
-use crate::failure::Answer;
+use crate::counted::{grouped, of};
+use crate::failure::{Answer, Failure};
 use crate::refusals;
 use crate::sequences::Sequences;
 use crate::template::Template;
-use library::{limits, Refusal};
+use library::{limits, Recovered, Refusal};
 
 /// The most rows that are asked of the library at once. Each time it counts
 /// all of a motif's occurrences first.
 const PAGE: usize = 65_536;
 
-/// A motif, and how often it occurs.
-struct Listed {
-    motif: u64,
-    length: u64,
-}
-
 /// The occurrences of motifs in sequences.
 pub struct Occurrences<'a> {
     pub sequences: &'a Sequences,
     pub template: &'a Template,
-    listed: Vec<Listed>,
+    motifs: Vec<u64>,
     /// Room for a page.
     rows: Vec<u32>,
 }
@@ -44,33 +39,30 @@ impl<'a> Occurrences<'a> {
         Ok(Occurrences {
             sequences,
             template,
-            listed: Vec::new(),
+            motifs: Vec::new(),
             rows: vec![0; PAGE * (template.components.len() + 1)],
         })
     }
 
-    /// Lays the occurrences of a motif behind the others.
+    /// Lays the occurrences of a motif behind the others. A mixed one may have
+    /// letters beyond an allowance, which is asked over one empty sequence,
+    /// where it takes no time; an exact one is its letters, whichever they are.
     pub fn add(&mut self, motif: u64) -> Result<(), Refusal> {
-        let length = length(self.sequences, self.template, motif)?;
-        self.listed.push(Listed { motif, length });
+        if self.template.mixed {
+            library::recover(&[], &[0], self.template.lent(), motif, 0, &mut [])?;
+        }
+        self.motifs.push(motif);
         Ok(())
     }
 
     /// How many motifs there are.
     pub fn motifs(&self) -> u64 {
-        self.listed.len() as u64
+        self.motifs.len() as u64
     }
 
-    /// How many occurrences they have. One motif may have some 2^56, so that
-    /// of many the number can be above 64 bits.
-    pub fn length(&self) -> u128 {
-        self.listed
-            .iter()
-            .map(|listed| u128::from(listed.length))
-            .sum()
-    }
-
-    /// Hands out so many rows from one on, a page at a time.
+    /// Hands out so many rows from one on, a page at a time. Where there are
+    /// fewer than that one is the number of, nothing is handed out, and it is
+    /// refused. A motif is counted only when its turn comes.
     pub fn pages(
         &mut self,
         from: u64,
@@ -80,23 +72,25 @@ impl<'a> Occurrences<'a> {
         let (sequences, template) = (self.sequences, self.template);
         let width = template.components.len() + 1;
         let mut spelled = Vec::new();
-        // The rows of the motifs before, and those still to be handed out.
+        // The rows of the motifs before, of which there may be more than 64
+        // bits hold, and those still to be handed out.
         let (mut before, mut left) = (0u128, rows);
-        for listed in &self.listed {
+        for motif in &self.motifs {
+            let from = u128::from(from);
+            if before >= from && left == 0 {
+                break;
+            }
             spelled.clear();
-            template.motif(listed.motif, &mut spelled);
-            let mut first = u128::from(from).saturating_sub(before) as u64;
-            while first < listed.length && left > 0 {
+            template.motif(*motif, &mut spelled);
+            let mut first = from.saturating_sub(before) as u64;
+            let mut length = u64::MAX;
+            if first > 0 {
+                length = recover(sequences, template, *motif, 0, &mut [])?.length;
+            }
+            while first < length {
                 let room = left.min(PAGE as u64) as usize * width;
-                let found = library::recover(
-                    &sequences.letters,
-                    &sequences.lengths,
-                    template.lent(),
-                    listed.motif,
-                    first,
-                    &mut self.rows[..room],
-                )
-                .map_err(|refusal| refusals::of_search(refusal, sequences, template, 0))?;
+                let found = recover(sequences, template, *motif, first, &mut self.rows[..room])?;
+                length = found.length;
                 let rows = self.rows[..found.rows * width].chunks_exact(width);
                 let mut page =
                     rows.zip(before + u128::from(first)..)
@@ -111,16 +105,32 @@ impl<'a> Occurrences<'a> {
                 hand_out(&mut page)?;
                 first += found.rows as u64;
                 left -= found.rows as u64;
+                if left == 0 {
+                    break;
+                }
             }
-            before += u128::from(listed.length);
+            before += u128::from(length);
+        }
+        if u128::from(from) > before {
+            return Err(Failure::refused(format!(
+                "tulfasheq: --from {} is above the list's length: the list has {} (refusal 15)",
+                grouped(from),
+                of(before as u64, "row")
+            )));
         }
         Ok(())
     }
 }
 
-/// How many occurrences a motif has.
-fn length(sequences: &Sequences, template: &Template, motif: u64) -> Result<u64, Refusal> {
+/// A page of a motif's occurrences, from a row on, and how many they are.
+fn recover(
+    sequences: &Sequences,
+    template: &Template,
+    motif: u64,
+    first: u64,
+    rows: &mut [u32],
+) -> Answer<Recovered> {
     let (letters, lengths) = (&sequences.letters, &sequences.lengths);
-    library::recover(letters, lengths, template.lent(), motif, 0, &mut [])
-        .map(|recovered| recovered.length)
+    library::recover(letters, lengths, template.lent(), motif, first, rows)
+        .map_err(|refusal| refusals::of_search(refusal, sequences, template, 0))
 }

@@ -45,7 +45,8 @@ pub fn sorted(
         }
         // Its bytes, since a path behind = need not be text.
         let bytes = word.as_bytes();
-        if !bytes.starts_with(b"--") {
+        let short = bytes.len() == 2 && bytes[0] == b'-' && bytes[1].is_ascii_alphabetic();
+        if !bytes.starts_with(b"--") && !short {
             sorted.plain.push(word);
             continue;
         }

@@ -12,6 +12,9 @@ use std::time::{Duration, Instant};
 /// The first line of every table.
 pub const HEADER: &str = "motif\tsupport\toccurrences\n";
 
+/// What a lock says.
+pub const LOCK: &[u8] = b"tulfasheq: locked by the program that works on this job\n";
+
 pub const SIGHUP: i32 = 1;
 pub const SIGINT: i32 = 2;
 pub const SIGTERM: i32 = 15;
