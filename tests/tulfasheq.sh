@@ -34,6 +34,13 @@ begin "two at once, where it is to be built"
 rm "$mark"
 two_at_once examples/promoters.tsv ./tulfasheq "$@"
 
+begin "whatever the caller has cargo build to"
+rm "$mark"
+try env CARGO_TARGET_DIR="$work/elsewhere" ./tulfasheq "$@"
+ended 0
+printed examples/promoters.tsv
+[ ! -e "$work/elsewhere/release" ] || fail "it builds elsewhere"
+
 begin "the program's own status"
 try ./tulfasheq search N 0 examples/promoters.fa
 ended 3
