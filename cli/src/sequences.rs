@@ -71,6 +71,7 @@ impl Sequences {
         loop {
             match reader.next(&mut letters, &mut used, &mut lengths, &mut count) {
                 Ok(Some(name)) => {
+                    // It is a part of the file.
                     let start = name.as_ptr() as usize - file.as_ptr() as usize;
                     names.push(start..start + name.len());
                 }

@@ -1,0 +1,113 @@
+//! How far a search is, on standard error where that is a terminal.
+
+mod common;
+
+use common::jobs::{signal, until_rows, HEADER, LONG, MIDDLE, SIGTERM};
+use common::{program, word, Scratch};
+use std::ffi::{c_char, CStr};
+use std::fs::File;
+use std::io::Read;
+use std::os::fd::FromRawFd;
+use std::process::{Child, Stdio};
+
+// The C library's.
+extern "C" {
+    fn posix_openpt(flags: i32) -> i32;
+    fn grantpt(terminal: i32) -> i32;
+    fn unlockpt(terminal: i32) -> i32;
+    fn ptsname_r(terminal: i32, name: *mut c_char, size: usize) -> i32;
+}
+
+/// To read and to write, and not to be the one that the test runs in.
+const OWN: i32 = 2 | 0x100;
+
+/// A terminal: the side where a person sits, and the side of a program. Where
+/// the system has none there is nothing to look at.
+fn terminal() -> Option<(File, File)> {
+    let mut name = [0; 100];
+    // SAFETY: the file is opened here and belongs to no other; the name is
+    // written to an array of the size that is passed.
+    let person = unsafe {
+        let person = posix_openpt(OWN);
+        if person < 0 {
+            println!("this system has no terminals: not tested");
+            return None;
+        }
+        assert_eq!(grantpt(person), 0);
+        assert_eq!(unlockpt(person), 0);
+        assert_eq!(ptsname_r(person, name.as_mut_ptr(), name.len()), 0);
+        File::from_raw_fd(person)
+    };
+    // SAFETY: it ends with a 0.
+    let name = unsafe { CStr::from_ptr(name.as_ptr()) };
+    let name = name.to_str().expect("a name that is text");
+    let program = File::options().read(true).write(true).open(name);
+    Some((person, program.expect("the program's side")))
+}
+
+/// Runs the program with a terminal for its standard error, stops it where
+/// that is asked for, and answers what a person saw.
+fn seen(words: &[&str], stop: impl FnOnce(&Child)) -> Option<String> {
+    let (mut person, terminal) = terminal()?;
+    let child = program()
+        .args(words)
+        .stdin(Stdio::null())
+        .stdout(Stdio::null())
+        .stderr(terminal)
+        .spawn();
+    let mut child = child.expect("the program starts");
+    let reader = std::thread::spawn(move || {
+        let mut bytes = Vec::new();
+        // Once the program's side is closed, to read fails.
+        let _ = person.read_to_end(&mut bytes);
+        bytes
+    });
+    stop(&child);
+    child.wait().expect("it ends");
+    let bytes = reader.join().expect("it was read");
+    Some(String::from_utf8(bytes).expect("text"))
+}
+
+#[test]
+fn a_terminal_shows_how_far_it_is() {
+    let scratch = Scratch::new();
+    let search = MIDDLE.over(&scratch);
+    let Some(text) = seen(&search.words(), |_| {}) else {
+        return;
+    };
+    for words in [" % of letter order, ", " rows, ", " candidates a second"] {
+        assert!(text.contains(words), "{text:?}");
+    }
+    // The line is gone at the end.
+    assert!(text.ends_with('\r'), "{text:?}");
+    let line = text.trim_end_matches('\r').rsplit('\r').next();
+    assert!(line.is_some_and(|line| line.trim().is_empty()), "{text:?}");
+}
+
+#[test]
+fn quiet_shows_nothing() {
+    let scratch = Scratch::new();
+    let search = MIDDLE.over(&scratch);
+    let mut words = search.words();
+    words.push("--quiet");
+    assert_eq!(seen(&words, |_| {}).unwrap_or_default(), "");
+}
+
+#[test]
+fn what_is_said_at_a_stop_stands_on_a_line_of_its_own() {
+    let scratch = Scratch::new();
+    let search = LONG.over(&scratch);
+    let folder = scratch.path("job");
+    let text = seen(&search.in_job(&folder), |child| {
+        until_rows(&folder, HEADER.len() as u64);
+        signal(child, SIGTERM);
+    });
+    let Some(text) = text else {
+        return;
+    };
+    let said = format!(
+        "\rtulfasheq: stopped, and saved: tulfasheq resume {} goes on with it\r\n",
+        word(&folder)
+    );
+    assert!(text.ends_with(&said), "{text:?}");
+}
