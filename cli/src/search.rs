@@ -46,12 +46,11 @@ pub fn search(asked: Asked) -> Answer<()> {
 pub fn resume(folder: &Path, out: &Out, quiet: bool) -> Answer<()> {
     out.spare(&job::paths(folder))?;
     out.check()?;
-    let asking = Asking::begin();
     let about = About::read(folder)?;
     if about.ended() {
-        drop(asking);
         return write_out(&about, out);
     }
+    let asking = Asking::begin();
     go_on(Job::open(about)?, asking, out, quiet)
 }
 
@@ -125,11 +124,11 @@ fn leg(
 fn go_on(mut job: Job, asking: Asking, out: &Out, quiet: bool) -> Answer<()> {
     if !job.about.ended() {
         run(&mut job, &asking, quiet)?;
-        // Before anything is written out that would look whole.
-        job.about.check_table()?;
     }
     // All is saved: from here on a signal may end the program at once.
     drop(asking);
+    // Before anything is written out that would look whole.
+    job.about.check_table()?;
     write_out(&job.about, out)
 }
 
@@ -139,11 +138,12 @@ fn write_out(about: &About, out: &Out) -> Answer<()> {
         about.hand_on(|piece| out.write(piece))?;
         out.close()
     });
-    written.map_err(|failure| {
-        failure.and(format!(
+    written.map_err(|failure| match failure.status {
+        Failure::BROKEN => failure.and(format!(
             "The search has ended, and its table is kept: {} writes it out again.",
             how(about)
-        ))
+        )),
+        _ => failure,
     })
 }
 

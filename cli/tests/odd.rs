@@ -6,7 +6,8 @@
 mod common;
 
 use common::jobs::{
-    copy, end, files, start, until_rows, whole, Search, HEADER, LOCK, MIDDLE, SHORT,
+    copy, end, files, signal, start, until_rows, whole, Search, HEADER, LOCK, MIDDLE, SHORT,
+    SIGCONT, SIGSTOP,
 };
 use common::{run, word, Ran, Scratch};
 use std::fs::{self, File};
@@ -42,6 +43,11 @@ fn put(kind: &str, path: &Path, target: &Path) {
     }
 }
 
+/// What is said of it.
+fn no_plain_file(path: &Path) -> String {
+    format!("tulfasheq: {}: it is no plain file\n", word(path))
+}
+
 #[test]
 fn no_file_of_a_job_may_be_a_link_a_pipe_or_a_folder() {
     let scratch = Scratch::new();
@@ -51,13 +57,13 @@ fn no_file_of_a_job_may_be_a_link_a_pipe_or_a_folder() {
     let target = scratch.file("precious", "what is not the job's");
     for name in ["state", "state.new", "rows.tsv", "sequences.fa", "lock"] {
         for kind in ["link", "pipe", "folder"] {
-            let folder = scratch.path(&format!("{kind}-{name}"));
+            let folder = scratch.path(&format!("{kind}-{}", name.len()));
             copy(&stopped, &folder);
             let path = folder.join(name);
             let _ = fs::remove_file(&path);
             put(kind, &path, &target);
             let said = ends(&["resume", word(&folder)]).said(7);
-            assert!(said.contains(name), "{said}");
+            assert_eq!(said, no_plain_file(&path));
             // What is being written is none that is looked at.
             if name != "state.new" {
                 ends(&["status", word(&folder)]).said(7);
@@ -85,12 +91,12 @@ fn a_search_is_not_begun_over_what_only_looks_left_behind() {
     // One that does, and no plain file beside it.
     for name in ["sequences.fa", "rows.tsv", "state.new"] {
         for kind in ["link", "pipe", "folder"] {
-            let folder = scratch.path(&format!("{kind}-{name}"));
+            let folder = scratch.path(&format!("{kind}-{}", name.len()));
             fs::create_dir(&folder).expect("a new folder");
             fs::write(folder.join("lock"), LOCK).expect("a file");
             put(kind, &folder.join(name), &target);
             let said = ends(&search.in_job(&folder)).said(7);
-            assert!(said.contains(name), "{said}");
+            assert_eq!(said, no_plain_file(&folder.join(name)));
         }
     }
     // A lock that is a link to nothing.
@@ -102,12 +108,13 @@ fn a_search_is_not_begun_over_what_only_looks_left_behind() {
     assert_eq!(fs::read(&target).expect("a file"), b"what is not the job's");
 }
 
-/// Begins a job, and waits for its first rows.
-fn running(search: &Search, folder: &Path, out: &Path) -> std::process::Child {
+/// Begins a job, waits for its first rows, and holds the program there.
+fn held(search: &Search, folder: &Path, out: &Path) -> std::process::Child {
     let mut words = search.in_job(folder);
     words.extend(["--out", word(out)]);
     let child = start(&words);
     until_rows(folder, HEADER.len() as u64);
+    signal(&child, SIGSTOP);
     child
 }
 
@@ -116,9 +123,10 @@ fn a_table_that_is_emptied_on_the_way_is_not_written_out() {
     let scratch = Scratch::new();
     let search = MIDDLE.over(&scratch);
     let (folder, out) = (scratch.path("job"), scratch.path("table.tsv"));
-    let child = running(&search, &folder, &out);
+    let child = held(&search, &folder, &out);
     let table = File::options().write(true).open(folder.join("rows.tsv"));
     table.and_then(|table| table.set_len(0)).expect("a table");
+    signal(&child, SIGCONT);
     let said = end(child).said(7);
     assert!(said.contains("rows.tsv"), "{said}");
     assert!(!out.exists(), "a table is written out");
@@ -130,9 +138,12 @@ fn without_its_lock_a_job_is_still_one_program_s() {
     let scratch = Scratch::new();
     let search = MIDDLE.over(&scratch);
     let (folder, out) = (scratch.path("job"), scratch.path("table.tsv"));
-    let child = running(&search, &folder, &out);
+    let child = held(&search, &folder, &out);
     fs::remove_file(folder.join("lock")).expect("the lock goes");
     run(&["resume", word(&folder)]).said(6);
+    let told = run(&["status", word(&folder)]).printed();
+    assert!(told.starts_with(b"state\trunning\n"));
+    signal(&child, SIGCONT);
     end(child).printed();
     assert!(fs::read(&out).expect("a table") == search.table());
 }
@@ -152,7 +163,7 @@ fn a_job_that_is_just_being_begun_is_another_program_s() {
     ] {
         run(&words).said(6);
     }
-    drop(lock);
+    lock.unlock().expect("the lock is free");
     run(&["resume", word(&folder)]).said(7);
     whole(run(&search.in_job(&folder)), &folder, &search.table());
 }

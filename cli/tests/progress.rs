@@ -8,6 +8,7 @@ use std::ffi::{c_char, CStr};
 use std::fs::File;
 use std::io::Read;
 use std::os::fd::FromRawFd;
+use std::os::unix::fs::OpenOptionsExt;
 use std::process::{Child, Stdio};
 
 // The C library's.
@@ -18,8 +19,9 @@ extern "C" {
     fn ptsname_r(terminal: i32, name: *mut c_char, size: usize) -> i32;
 }
 
-/// To read and to write, and not to be the one that the test runs in.
-const OWN: i32 = 2 | 0x100;
+/// To read and to write; and not to become the one that the test runs in.
+const BOTH: i32 = 2;
+const NOT_OURS: i32 = 0x100;
 
 /// A terminal: the side where a person sits, and the side of a program. Where
 /// the system has none there is nothing to look at.
@@ -28,7 +30,7 @@ fn terminal() -> Option<(File, File)> {
     // SAFETY: the file is opened here and belongs to no other; the name is
     // written to an array of the size that is passed.
     let person = unsafe {
-        let person = posix_openpt(OWN);
+        let person = posix_openpt(BOTH | NOT_OURS);
         if person < 0 {
             println!("this system has no terminals: not tested");
             return None;
@@ -41,7 +43,11 @@ fn terminal() -> Option<(File, File)> {
     // SAFETY: it ends with a 0.
     let name = unsafe { CStr::from_ptr(name.as_ptr()) };
     let name = name.to_str().expect("a name that is text");
-    let program = File::options().read(true).write(true).open(name);
+    let program = File::options()
+        .read(true)
+        .write(true)
+        .custom_flags(NOT_OURS)
+        .open(name);
     Some((person, program.expect("the program's side")))
 }
 

@@ -2,7 +2,7 @@
 //! too, since someone may remove the other. It ends with the program that
 //! holds it, however that ends.
 
-use super::{disk, LOCK};
+use super::{disk, LOCK, ROWS};
 use crate::failure::{Answer, Failure};
 use std::fs::{File, OpenOptions, TryLockError};
 use std::io::Write;
@@ -16,15 +16,16 @@ const WORDS: &[u8] = b"tulfasheq: locked by the program that works on this job\n
 
 /// Whether a program works on a job.
 pub fn held(folder: &Path) -> Answer<bool> {
-    let path = folder.join(LOCK);
-    if !disk::plain_or_none(&path)? {
-        return Ok(false);
+    for name in [LOCK, ROWS] {
+        let path = folder.join(name);
+        if disk::plain_or_none(&path)? {
+            let file = File::open(&path).map_err(|error| Failure::io(path.display(), &error))?;
+            if matches!(file.try_lock_shared(), Err(TryLockError::WouldBlock)) {
+                return Ok(true);
+            }
+        }
     }
-    let lock = File::open(&path).map_err(|error| Failure::io(path.display(), &error))?;
-    Ok(matches!(
-        lock.try_lock_shared(),
-        Err(TryLockError::WouldBlock)
-    ))
+    Ok(false)
 }
 
 /// Whether a program of ours made it: no file of that name, one that says so,

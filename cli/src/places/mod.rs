@@ -130,8 +130,7 @@ impl How {
     }
 
     /// Writes the rows that are asked for, after what there is to say of them.
-    /// Nothing is opened before the first of them is known, or that there is
-    /// none.
+    /// Nothing is opened before it is known that the list has the first.
     fn write(&self, all: &mut Occurrences, said: &str) -> Answer<()> {
         self.check_names(all.sequences)?;
         if !said.is_empty() {

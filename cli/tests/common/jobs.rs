@@ -18,6 +18,8 @@ pub const LOCK: &[u8] = b"tulfasheq: locked by the program that works on this jo
 pub const SIGHUP: i32 = 1;
 pub const SIGINT: i32 = 2;
 pub const SIGTERM: i32 = 15;
+pub const SIGCONT: i32 = 18;
+pub const SIGSTOP: i32 = 19;
 
 /// A search over random sequences, the same in every run.
 #[derive(Clone, Copy)]
