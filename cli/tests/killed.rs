@@ -25,6 +25,18 @@ fn expected() -> &'static (Vec<u8>, Duration) {
     })
 }
 
+/// Whether a job has come half of its way. From there on it is stopped early or
+/// no more, so that on no machine it is over before its stops are.
+fn half_done(folder: &Path) -> bool {
+    let table = String::from_utf8_lossy(&expected().0);
+    let last = table.lines().last().unwrap_or("");
+    let steps = last
+        .strip_prefix("# end: steps ")
+        .and_then(|counts| counts.split(',').next()?.parse::<u64>().ok());
+    let steps = steps.expect("the last line tells the steps");
+    state_value(folder, "steps") > Some(steps / 2)
+}
+
 /// When a program is stopped.
 #[derive(Clone, Copy)]
 enum Moment {
@@ -37,9 +49,14 @@ enum Moment {
     Rows,
 }
 
+/// A moment while the program starts.
+fn early(random: &mut Random) -> Moment {
+    Moment::After(Duration::from_micros(random.below(3_000)))
+}
+
 /// A moment that is blind: mostly not enough for a whole leg, sometimes for
-/// more. It is told in parts of the whole search's time, so that on a fast
-/// machine too the job is not over before all stops.
+/// more. It is told in parts of the whole search's time, so that it is one on
+/// a fast machine too.
 fn blind(random: &mut Random, stop: u64) -> Moment {
     let parts = if stop % 5 == 4 { 24 } else { 75 };
     let most = expected().1.as_micros() as u64 / parts;
@@ -163,6 +180,7 @@ fn killed_at_any_moment_no_row_is_lost_or_listed_twice() {
     let mut stops = Stops::new(&search);
     for stop in 0..56 {
         let moment = match stop % 14 {
+            _ if half_done(&folder) => early(&mut random),
             13 => Moment::Rows,
             at if at % 2 == 0 => blind(&mut random, stop),
             _ => saved(&mut random),
@@ -172,7 +190,7 @@ fn killed_at_any_moment_no_row_is_lost_or_listed_twice() {
         look(&folder);
     }
     let after = stops.stops - stops.nothing_saved;
-    assert!(after >= 28, "{after} kills after a leg was saved");
+    assert!(after >= 8, "{after} kills after a leg was saved");
     stops.finish(&folder, "SIGKILL");
 }
 
@@ -185,13 +203,16 @@ fn asked_to_stop_it_is_saved_and_says_how_to_go_on() {
     let mut stops = Stops::new(&search);
     let mut kept = 0;
     for stop in 0..15 {
+        if half_done(&folder) {
+            break;
+        }
         let moment = blind(&mut random, stop);
         let number = [SIGTERM, SIGINT, SIGHUP][stop as usize % 3];
         let ran = stops.stop(&folder, moment, Some(number));
         kept += u64::from(asked(ran, &folder));
         look(&folder);
     }
-    assert!(kept > 0, "no signal came while the program listened");
+    assert!(kept > 1, "few signals came while the program listened");
     println!("{kept} stops were saved");
     stops.finish(&folder, "SIGTERM, SIGINT and SIGHUP");
 }
@@ -204,6 +225,9 @@ fn a_folder_copied_elsewhere_between_two_stops_goes_on_there() {
     let mut random = Random::new(13);
     let mut stops = Stops::new(&search);
     for stop in 0..16 {
+        if half_done(&folder) {
+            break;
+        }
         let moment = if stop % 4 == 1 {
             saved(&mut random)
         } else {
@@ -222,5 +246,6 @@ fn a_folder_copied_elsewhere_between_two_stops_goes_on_there() {
         }
         look(&folder);
     }
+    assert!(stops.stops > 2, "few stops");
     stops.finish(&folder, "SIGTERM and SIGKILL, and copied each time");
 }

@@ -4,6 +4,7 @@
 use super::{fasta, program, run, word, Ran, Random, Scratch};
 use std::collections::BTreeMap;
 use std::fs;
+use std::os::unix::process::CommandExt;
 use std::path::{Path, PathBuf};
 use std::process::{Child, Command, Stdio};
 use std::thread;
@@ -135,8 +136,20 @@ pub fn start(words: &[&str]) -> Child {
     start_as(program(), words)
 }
 
-/// The same with a command that has been prepared.
+/// The same with a command that has been prepared. The signals that a job heeds
+/// do what they do by default, also where the tests were started so that some
+/// are ignored, as by nohup or in the background.
 pub fn start_as(mut command: Command, words: &[&str]) -> Child {
+    // SAFETY: between fork and exec only the C library's `signal` is called,
+    // which may be.
+    unsafe {
+        command.pre_exec(|| {
+            for number in [SIGHUP, SIGINT, SIGTERM] {
+                set_handler(number, DEFAULT);
+            }
+            Ok(())
+        });
+    }
     command
         .args(words)
         .stdin(Stdio::null())
@@ -159,7 +172,11 @@ pub fn end(child: Child) -> Ran {
 // The C library's.
 extern "C" {
     fn kill(process: i32, signal: i32) -> i32;
+    #[link_name = "signal"]
+    fn set_handler(number: i32, handler: usize) -> usize;
 }
+
+const DEFAULT: usize = 0;
 
 /// Sends a signal to a program that was started and not waited for.
 pub fn signal(child: &Child, number: i32) {
