@@ -5,11 +5,13 @@
 mod common;
 
 use common::jobs::{
-    copy, end, signal, start, state_value, whole, Search, LONG, SIGHUP, SIGINT, SIGTERM,
+    copy, end, signal, start, start_as, state_value, until_rows, whole, Search, HEADER, LONG,
+    MIDDLE, SIGHUP, SIGINT, SIGTERM,
 };
-use common::{run, word, Ran, Random, Scratch};
+use common::{program, run, word, Ran, Random, Scratch};
 use std::fs;
 use std::path::Path;
+use std::process::Command;
 use std::sync::OnceLock;
 use std::thread;
 use std::time::{Duration, Instant};
@@ -25,8 +27,11 @@ fn expected() -> &'static (Vec<u8>, Duration) {
     })
 }
 
-/// Whether a job has come half of its way. From there on it is stopped early or
-/// no more, so that on no machine it is over before its stops are.
+/// How often each job is stopped.
+const STOPS: u64 = 56;
+
+/// Whether a job has come half of its way. From there on it is stopped early,
+/// so that on no machine it is over before its stops are.
 fn half_done(folder: &Path) -> bool {
     let table = String::from_utf8_lossy(&expected().0);
     let last = table.lines().last().unwrap_or("");
@@ -49,9 +54,9 @@ enum Moment {
     Rows,
 }
 
-/// A moment while the program starts.
+/// A moment while the program starts, mostly before it has read the folder.
 fn early(random: &mut Random) -> Moment {
-    Moment::After(Duration::from_micros(random.below(3_000)))
+    Moment::After(Duration::from_micros(random.below(1_000)))
 }
 
 /// A moment that is blind: mostly not enough for a whole leg, sometimes for
@@ -178,7 +183,7 @@ fn killed_at_any_moment_no_row_is_lost_or_listed_twice() {
     let folder = scratch.path("job");
     let mut random = Random::new(11);
     let mut stops = Stops::new(&search);
-    for stop in 0..56 {
+    for stop in 0..STOPS {
         let moment = match stop % 14 {
             _ if half_done(&folder) => early(&mut random),
             13 => Moment::Rows,
@@ -202,17 +207,18 @@ fn asked_to_stop_it_is_saved_and_says_how_to_go_on() {
     let mut random = Random::new(12);
     let mut stops = Stops::new(&search);
     let mut kept = 0;
-    for stop in 0..15 {
-        if half_done(&folder) {
-            break;
-        }
-        let moment = blind(&mut random, stop);
+    for stop in 0..STOPS {
+        let moment = match stop % 2 {
+            _ if half_done(&folder) => early(&mut random),
+            0 => blind(&mut random, stop),
+            _ => saved(&mut random),
+        };
         let number = [SIGTERM, SIGINT, SIGHUP][stop as usize % 3];
         let ran = stops.stop(&folder, moment, Some(number));
         kept += u64::from(asked(ran, &folder));
         look(&folder);
     }
-    assert!(kept > 1, "few signals came while the program listened");
+    assert!(kept >= 4, "few signals came while the program listened");
     println!("{kept} stops were saved");
     stops.finish(&folder, "SIGTERM, SIGINT and SIGHUP");
 }
@@ -224,14 +230,11 @@ fn a_folder_copied_elsewhere_between_two_stops_goes_on_there() {
     let mut folder = scratch.path("job-0");
     let mut random = Random::new(13);
     let mut stops = Stops::new(&search);
-    for stop in 0..16 {
-        if half_done(&folder) {
-            break;
-        }
-        let moment = if stop % 4 == 1 {
-            saved(&mut random)
-        } else {
-            blind(&mut random, stop)
+    for stop in 0..STOPS {
+        let moment = match stop % 4 {
+            _ if half_done(&folder) => early(&mut random),
+            1 | 2 => saved(&mut random),
+            _ => blind(&mut random, stop),
         };
         let by = (stop % 2 == 0).then_some(SIGTERM);
         let ran = stops.stop(&folder, moment, by);
@@ -246,6 +249,21 @@ fn a_folder_copied_elsewhere_between_two_stops_goes_on_there() {
         }
         look(&folder);
     }
-    assert!(stops.stops > 2, "few stops");
     stops.finish(&folder, "SIGTERM and SIGKILL, and copied each time");
+}
+
+#[test]
+fn a_signal_that_was_ignored_before_stays_ignored() {
+    let scratch = Scratch::new();
+    let search = MIDDLE.over(&scratch);
+    let folder = scratch.path("job");
+    // As nohup starts a program.
+    let mut command = Command::new("sh");
+    command
+        .args(["-c", "trap '' HUP; exec \"$0\" \"$@\""])
+        .arg(program().get_program());
+    let child = start_as(command, &search.in_job(&folder));
+    until_rows(&folder, HEADER.len() as u64);
+    signal(&child, SIGHUP);
+    whole(end(child), &folder, &search.table());
 }
