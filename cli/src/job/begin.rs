@@ -38,7 +38,8 @@ pub fn may_begin(folder: &Path) -> Answer<()> {
                 name.display()
             )));
         }
-        disk::plain(&folder.join(name))?;
+        // One that another program is just beginning may be renamed meanwhile.
+        disk::plain_or_none(&folder.join(name))?;
     }
     let rows = folder.join(ROWS);
     if fs::metadata(&rows).is_ok_and(|found| found.len() > table::HEADER.len() as u64) {
