@@ -163,7 +163,7 @@ ended 2
 printed_nothing
 said_one_line
 
-# ---- from FASTA to motifs, as README.md has it
+# ---- from FASTA to motifs, as docs/PRINTING.md has it
 
 search() { # FILE
     timeout 100 ./run lines "$1" >"$work/cut" && {
