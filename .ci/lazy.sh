@@ -106,11 +106,11 @@ Each row is a wrong program that the prover has to refuse: a line or two of code
 of different functions (or of a constant or a promise that no other of them rests on): a function is proved against its own contract and
 those of the functions that it calls, so what is wrong in one changes nothing of what is asked of another, and each is refused for itself.
 
-The last column is the fact that is false under the edit, FILE: FACT, in the crate (where a function has no proof file, the one that it
-would have). Refusing the crate is not enough: `.ci/edits.sh` demands that this fact is among the errors, that nothing is refused for a
-name that is not there, and, where several share an edit, that nothing else is refused. That the fact is false is judged by reading. A law
-that still holds, but whose proof no longer fits, may be refused before it. Those marked * are tried from nothing in `rt ci`, the others
-over the modules that the same run of the gate has just checked.
+The last column is the fact that is false under the edit, FILE: FACT, in the crate's `proofs` unless it begins with `specs`; FUNCTION: FACT
+where it stands in the function's own file, `proofs/FUNCTION/Proof.antt`. Refusing the crate is not enough: `.ci/edits.sh` demands that this
+fact is among the errors, that nothing is refused for a name that is not there, and, where several share an edit, that nothing else is
+refused. That the fact is false is judged by reading. A law that still holds, but whose proof no longer fits, may be refused before it.
+Those marked * are tried from nothing in `rt ci`, the others over the modules that the same run of the gate has just checked.
 END
 awk -F '\t' '
     function complain(what) { print "lazy.sh: " what >"/dev/stderr"; status = 1 }
@@ -124,6 +124,8 @@ awk -F '\t' '
         if (key in said) complain("two wrong programs are named " key)
         order[++n] = key
         crate[key] = $1; fact[key] = $2; label[key] = $3; mark[key] = $4; said[key] = $5
+        sub(/^proofs\//, "", fact[key])
+        sub(/\/Proof\.antt: /, ": ", fact[key])
         next
     }
     $1 == "heading" { print "\n## " $2; next }
