@@ -4,7 +4,7 @@ use mathlib.Core.List.{List, [], _∷_, map}
 use mathlib.Core.Path.{_≡_, refl}
 use Prim.Native.Nat.{ℕ}
 use lib.ListN.{length, take, drop, replicate}
-use Rattle.rules.specs.Calls.{begin-rule, begun, leg-rule, LegRule, stretch, supports-of, weights-of, save-rule, restore-rule, recover-rule, join-rule}
+use Rattle.rules.specs.Calls.{begin-rule, begun, leg-rule, LegRule, stretch, supports-of, weights-of, Written, save-rule, restore-rule, recover-rule, join-rule}
 use Rattle.rules.specs.Join.{partners, partnered, rising?}
 use Rattle.rules.specs.Legs.{leg}
 use Rattle.rules.specs.Letters.{A, C, G, T, value, letter?, letter}
@@ -106,9 +106,12 @@ run-leg budget s = leg-rule letters lengths s budget (replicate 9 0) (replicate 
 whole : ℕ → List ℕ
 whole quorum = let l = run-leg 99 (at quorum first-place) in l .told .steps ∷ take (l .told .rows) (l .motifs)
 
--- E, quorum 2, after 4 steps, as it is saved
+-- E, quorum 2, after 4 steps, saved to a buffer of 70 bytes; and the bytes of the save, which are the first 64 of these
+save : Written ℕ
+save = let l = run-leg 4 (at 2 first-place) in save-rule letters lengths (l .told .search) (replicate 70 9)
+
 saved : List ℕ
-saved = let l = run-leg 4 (at 2 first-place) in (save-rule letters lengths (l .told .search) (replicate 64 9)) .out
+saved = take 64 (save .out)
 
 -- the same, quorum 3, at the place CA
 moved-to-CA : List ℕ
@@ -162,8 +165,9 @@ facts =
     -- p8: after infrequent AT comes C; after TT the search has ended
     ∷ is (let p = next (walk-over pair 2 (sequences letters lengths)) (place 2 3) in p .letters ∷ p .number ∷ []) (1 ∷ 1 ∷ [])
     ∷ is (let p = next (walk-over pair 2 (sequences letters lengths)) (place 2 15) in p .letters ∷ p .number ∷ []) (0 ∷ 0 ∷ [])
-    -- p9: E, quorum 2, after 4 steps: the save is 64 bytes; its size record; its place record
-    ∷ is (length saved ∷ []) (64 ∷ [])
+    -- p9: E, quorum 2, after 4 steps: the save is 64 bytes, and the rest of the buffer stays; its size record; its place record
+    ∷ is (answer-told (save .told)) (64 ∷ [])
+    ∷ is (drop 64 (save .out)) (replicate 6 9)
     ∷ is (take 16 saved) (0x01 ∷ 0x04 ∷ 0x02 ∷ 0x00 ∷ 0x03 ∷ 0x00 ∷ 0x02 ∷ 0x00 ∷ 0x0C ∷ 0x00 ∷ 0x00 ∷ 0x00 ∷ 0x00 ∷ 0x00 ∷ 0x00 ∷ 0x00 ∷ [])
     ∷ is (drop 48 saved) (0x03 ∷ 0x02 ∷ 0x00 ∷ 0x00 ∷ 0x00 ∷ 0x00 ∷ 0x00 ∷ 0x00 ∷ 0x03 ∷ 0x00 ∷ 0x00 ∷ 0x00 ∷ 0x00 ∷ 0x00 ∷ 0x00 ∷ 0x00 ∷ [])
     ∷ is (search-told (restore-rule letters lengths saved)) (2 ∷ 3 ∷ [])
@@ -180,5 +184,5 @@ facts =
     ∷ []
 
 the-facts : map (λ f. f .computed) facts ≡ map (λ f. f .paper) facts
-unfolding facts letters lengths pair AA AG CG GT AT in-E AA-starts table-one CCG-TA-GAAC search-told counts-told at run-leg whole saved moved-to-CA in-legs input printout run keep each joined some? all? member? sum put value letter? letter split sequences components size trimmed deal number spell front-by stands-by reach starts occurrences marks support rows-from occurrence-rows weight allowed to-come exactly profile-by allowed-in parts-in measure reaches walk-in children later under onward from up next start motif listed spelled candidate leg low-first read-low size-record component-record place-record component-records records bytes record-at field record-count component-count read-profile read-component read-place read-template read-search sized? blank? size-kind? component-kind? place-kind? size-blank? component-blank? place-blank? saved-records kind? unnamed-blank? sums? place-rule? partners partnered rising? whole-list page _else_ first first-bad check1 check2 check3 check4 check5 check6 check7 check8 check9 check10 check11 check12 passes? check13 check14 check15 check6-head check8-range check16 check17 check21 check22 check23 check24 new-checks restore-checks search-checks save-checks recover-checks join-checks begun begin-rule stretch supports-of weights-of leg-rule save-rule restore-rule recover-rule join-rule relay text.pieces text.number? text.digits text.parse-number text.run? text.parse-component text.parse-first text.parse-rest text.parse-components text.template-of text.but-last text.last text.lines text.unended text.text-checks text.parse-template text.parse-quorum text.parse-letters text.parse-lengths text.digits-of text.decimal text.shape-rest text.shape text.print-motif text.print-row text.print-end text.print-refused text.print-search text.print-rule
+unfolding facts letters lengths pair AA AG CG GT AT in-E AA-starts table-one CCG-TA-GAAC search-told counts-told answer-told at run-leg whole save saved moved-to-CA in-legs input printout run keep each joined some? all? member? sum put value letter? letter split sequences components size trimmed deal number spell front-by stands-by reach starts occurrences marks support rows-from occurrence-rows weight allowed to-come exactly profile-by allowed-in parts-in measure reaches walk-in children later under onward from up next start motif listed spelled candidate leg low-first read-low size-record component-record place-record component-records records bytes record-at field record-count component-count read-profile read-component read-place read-template read-search sized? blank? size-kind? component-kind? place-kind? size-blank? component-blank? place-blank? saved-records kind? unnamed-blank? sums? place-rule? partners partnered rising? whole-list page _else_ first first-bad check1 check2 check3 check4 check5 check6 check7 check8 check9 check10 check11 check12 passes? check13 check14 check15 check6-head check8-range check16 check17 check21 check22 check23 check24 new-checks restore-checks search-checks save-checks recover-checks join-checks begun begin-rule stretch supports-of weights-of leg-rule save-rule restore-rule recover-rule join-rule relay text.pieces text.number? text.digits text.parse-number text.run? text.parse-component text.parse-first text.parse-rest text.parse-components text.template-of text.but-last text.last text.lines text.unended text.text-checks text.parse-template text.parse-quorum text.parse-letters text.parse-lengths text.digits-of text.decimal text.shape-rest text.shape text.print-motif text.print-row text.print-end text.print-refused text.print-search text.print-rule
 the-facts = refl
