@@ -8,7 +8,7 @@ use native.Mathlib.Omega.{arith}
 use lib.ListN.{length, length-append}
 use borrow.Author.Tests.{eqb-true}
 use Rattle.rules.specs.Calls.{moved, leg-rule, stretch}
-use Rattle.rules.specs.Legs.{ended?, Stretch, leg}
+use Rattle.rules.specs.Legs.{ended?, Stretch, leg, Passed}
 use Rattle.rules.specs.Refusals.{first, search-checks}
 use Rattle.rules.specs.Lists.{each, keep}
 use Rattle.rules.specs.Sequences.{sequences}
@@ -16,7 +16,6 @@ use Rattle.rules.specs.Text.{print-end, print-refused}
 use Rattle.rules.specs.Told.{gives, fine, LegTold}
 use Rattle.rules.specs.Walk.{Walk, from, listed, walk-of}
 use Rattle.rules.specs.declared.Search.{Search}
-use Rattle.rules.proofs.Legs.{Passed}
 use Rattle.rules.proofs.Lists.{each-append}
 use Rattle.rules.proofs.Places.{sound-passing, moved-sound}
 use Rattle.rules.proofs.Relayed.{leg-passing}

@@ -6,7 +6,7 @@ use Prim.Native.Nat.{ℕ, _≤_}
 use native.Mathlib.Omega.{arith}
 use lib.ListN.{length, take, length-map}
 use Rattle.rules.specs.Calls.{LegRule, on-refusal, leg-rule, stretch, motif-parts, supports-of, weights-of}
-use Rattle.rules.specs.Legs.{Stop, ended, spent, full, ended?, Stretch}
+use Rattle.rules.specs.Legs.{Stop, ended, spent, full, ended?, Stretch, Passed}
 use Rattle.rules.specs.Lists.{each, put}
 use Rattle.rules.specs.Refusals.{first, search-checks}
 use Rattle.rules.specs.Sequences.{sequences}
@@ -17,7 +17,7 @@ use Rattle.rules.specs.Walk.{Walk, listed, motif, walk-of}
 use Rattle.rules.specs.declared.Place.{Place}
 use Rattle.rules.specs.declared.Search.{Search}
 use Rattle.rules.specs.declared.Template.{Template}
-use Rattle.rules.proofs.Legs.{Passed, leg-law, Why, leg-why}
+use Rattle.rules.proofs.Legs.{leg-law, Why, leg-why}
 use Rattle.rules.proofs.Places.{place-deep}
 use Rattle.rules.proofs.Searches.{walk-pos}
 use Rattle.rules.proofs.Lists.{each-same, keep-few}

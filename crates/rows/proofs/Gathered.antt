@@ -9,8 +9,8 @@ use lib.Bits.{bitAnd, bitOr, and-le-r, or-shifted-r}
 use lib.ListN.{getD, drop}
 use lib.Pow.{pow-add, shl-exact}
 use lib.Seq.{getD-drop}
-use Rattle.rules.specs.Saved.{read-low}
-use Rattle.rules.proofs.LowFirst.{Bytes, bytes-drop, read-fits}
+use Rattle.rules.specs.Saved.{read-low, Bytes}
+use Rattle.rules.proofs.LowFirst.{bytes-drop, read-fits}
 use Rattle.rows.specs.Bits.{held}
 use Rattle.rows.proofs.Bits.{word-bit}
 use Rattle.rows.proofs.Digits.{digit, digit-and, digit-or, digit-shr, digit-mod}

@@ -14,8 +14,8 @@ use lib.Seq.{getD-take, getD-drop}
 use borrow.Author.Tests.{eqb-true}
 use Rattle.rules.specs.Letters.{value, letter?, letter}
 use Rattle.rules.specs.Lists.{if}
-use Rattle.rules.specs.Saved.{read-low}
-use Rattle.rules.proofs.LowFirst.{Bytes, bytes-take, bytes-drop}
+use Rattle.rules.specs.Saved.{read-low, Bytes}
+use Rattle.rules.proofs.LowFirst.{bytes-take, bytes-drop}
 use Rattle.rows.specs.Bases.{word-of}
 use Rattle.rows.specs.Bits.{held}
 use Rattle.rows.specs.Flags.{bit}

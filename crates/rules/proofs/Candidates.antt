@@ -7,18 +7,12 @@ use Prim.Native.Nat.{ℕ, zero, suc, _+_, _*_, _/_, _^_, _≤_, _<_}
 use native.Mathlib.Nat.{div-add-mod', mod-lt, pow-zero, pow-suc, mul-le-mul-right, div-lt-iff-lt-mul}
 use native.Mathlib.Omega.{arith}
 use Rattle.rules.specs.Lists.{run, if, keep, each}
-use Rattle.rules.specs.Walk.{Walk, Lawful, place, first-place, choose, children, under, from, next, start, spelled, candidate}
+use Rattle.rules.specs.Walk.{Walk, Lawful, place, first-place, choose, children, under, from, next, start, spelled, candidate, Candidate}
 use Rattle.rules.specs.declared.Place.{Place}
 use Rattle.rules.proofs.Tests.{both}
 use Rattle.rules.proofs.Step.{block, whole, step-at, at-end}
 use Rattle.rules.proofs.Legs.{next-size, start-size}
 use Rattle.rules.proofs.Members.{each-in, each-out, keep-run-in, keep-run-out}
-
--- p is a candidate
-pub record Candidate (W : Walk) (p : Place) : Type 0 where
-  pub most : p .letters ≤ W .depth
-  pub below : p .number < W .base ^ p .letters
-  pub is : candidate W (p .letters) (p .number) ≡ true
 
 module _ (W : Walk) (L : Lawful W) where
   open Walk W using (base, may, good, depth)

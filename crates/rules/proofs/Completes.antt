@@ -6,7 +6,7 @@ use Prim.Native.Nat.{ℕ, _≤_}
 use native.Mathlib.Omega.{arith}
 use lib.ListN.{length, take, length-map}
 use Rattle.rules.specs.Calls.{begun, motif-parts, supports-of, weights-of, begin-rule, LegRule, leg-rule}
-use Rattle.rules.specs.Legs.{Stop, ended, Stretch, leg, legs}
+use Rattle.rules.specs.Legs.{Stop, ended, Stretch, leg, legs, AmpleGrants}
 use Rattle.rules.specs.Relay.{frequent-motifs, their-supports, their-weights, whole-steps, Complete, Lent, Roomy, Ample, Relayed, alone, after, relay}
 use Rattle.rules.specs.Sequences.{sequences}
 use Rattle.rules.specs.Support.{support, weight, parts}
@@ -17,7 +17,6 @@ use Rattle.rules.specs.declared.Search.{Search}
 use Rattle.rules.specs.declared.Template.{Template}
 use Rattle.rules.proofs.Begins.{Beginning, begins}
 use Rattle.rules.proofs.Candidates.{start-first}
-use Rattle.rules.proofs.Legs as walked
 use Rattle.rules.proofs.Searches.{walk-lawful}
 use Rattle.rules.proofs.Relay.{all-listed, all-tried, legs-enough, leg-enough}
 use Rattle.rules.proofs.Relayed.{granted, rows-of, Unrefused, leg-answers, relay-legs}
@@ -27,7 +26,7 @@ use Rattle.rules.proofs.Trimmed.{trimmed-size, trimmed-parts}
 gives-same : {A : Type 0} (a b : A) → gives a ≡ gives b → a ≡ b
 gives-same a b e = cc
 
-ample-granted : (gs : List Lent) → Ample gs → walked.Ample (map granted gs)
+ample-granted : (gs : List Lent) → Ample gs → AmpleGrants (map granted gs)
 ample-granted [] a = tt
 ample-granted (g ∷ gs) a = (a .0, omega arith, ample-granted gs (a .4))
 

@@ -1,8 +1,8 @@
--- THE PROGRAM `lines`, in the request's words (specs/FastaRefused.antt). The statements stand in front, the proofs behind them. What it
--- checks are the tests of the reader, of all records at once: the lines of all of them are laid in the file one behind the other, so
--- the first bad byte of the first bad record is the first of all. What it prints is lines, as the printing program reads them.
+-- THE PROGRAM `lines`, in the request's words (specs/FastaRefused.antt). What it checks are the tests of the reader, of all records at
+-- once: the lines of all of them are laid in the file one behind the other, so the first bad byte of the first bad record is the first
+-- of all. What it prints is lines, as the printing program reads them.
 use mathlib.Core.Path.{_≡_, refl, sym, ap, _∙_}
-use mathlib.Core.Logic.{_↔_, inl, inr}
+use mathlib.Core.Logic.{inl, inr}
 use mathlib.Core.Bool.{Bool, true, false}
 use mathlib.Core.List.{List, [], _∷_, _++_, map, map-append}
 use Prim.Native.Nat.{ℕ, _+_, _^_, _≤_, _<_}
@@ -10,15 +10,13 @@ use native.Mathlib.Omega.{arith}
 use lib.Dec.{ltb}
 use lib.ListN.{length}
 use borrow.Author.Tests.{ltb-false, le-ltb}
-use Rattle.rules.specs.Calls.{begin-rule}
 use Rattle.rules.specs.Fasta.{Line, lines-from, header?, Entry, up-to-header, entries, letters-of, records, check19, check-line, check-lines, check4-file, lines-checks, lines-for, lines-rule}
-use Rattle.rules.specs.FastaRefused.{FirstNoLetter, letter-lines, LinesRefuses, too-long, text-first, bad-letter, input-of}
-use Rattle.rules.specs.Letters.{value}
+use Rattle.rules.specs.FastaRefused.{FirstNoLetter, letter-lines, LinesRefuses, too-long, text-first, bad-letter, input-of, FastaProgram}
 use Rattle.rules.specs.Limits.{Fasta-BYTES, Text-BYTES, Text-QUORUM-DIGITS}
-use Rattle.rules.specs.Lists.{if, each, joined}
+use Rattle.rules.specs.Lists.{if, each}
 use Rattle.rules.specs.Refusals.{_else_, first, refuse-if}
 use Rattle.rules.specs.Refused.{RefusesAt, RefusesIf, IsLetter}
-use Rattle.rules.specs.Text.{template-of, decimal, template-text, print-refused, print-told, print-rule}
+use Rattle.rules.specs.Text.{decimal, template-text}
 use Rattle.rules.specs.TextRefused.{Without, WithoutAll, with-end, Writable, Reads}
 use Rattle.rules.specs.Told.{Verdict, fine, refused}
 use Rattle.rules.specs.declared.Component.{Component}
@@ -31,18 +29,6 @@ use Rattle.rules.proofs.Lists.{each-map}
 use Rattle.rules.proofs.Refused.{refuses-if, less}
 use Rattle.rules.proofs.TextRefused.{text-refused}
 use Rattle.rules.proofs.Verdicts.{first-append, first-cons}
-
-pub record FastaProgram : Type 0 where
-  -- it refuses in this order, and nothing else
-  pub in-order : (file : List ℕ) (n p : ℕ) → (first (lines-checks file) ≡ refused n p) ↔ LinesRefuses file n p
-  pub refused : (file : List ℕ) (n p : ℕ) → LinesRefuses file n p → lines-rule file ≡ print-refused n p
-  -- and else prints one sequence a line: the letters of each record, in file order
-  pub printed : (file : List ℕ) → ((n p : ℕ) → LinesRefuses file n p → ⊥) → lines-rule file ≡ each with-end (map letters-of (records file))
-  -- so the printing program, given them behind a template and a quorum, tells what a search over the records tells
-  pub searched : (file : List ℕ) (cs : List Component) (quorum : ℕ) → ((n p : ℕ) → LinesRefuses file n p → ⊥) → Writable cs → quorum < 10 ^ Text-QUORUM-DIGITS
-      → length (input-of cs quorum (lines-rule file)) ≤ Text-BYTES
-      → let ss = map letters-of (records file) in
-      print-rule (input-of cs quorum (lines-rule file)) ≡ print-told (map (map value) ss) (begin-rule (joined ss) (map length ss) (template-of cs) quorum)
 
 -- ---- the letters of all records
 

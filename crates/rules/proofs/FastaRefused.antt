@@ -1,12 +1,12 @@
--- WHAT THE FASTA READER REFUSES, in the request's words (specs/FastaRefused.antt). The statements stand in front, the proofs behind
--- them: a test that applies says what it tests, and a line's bytes are the file's own.
+-- WHAT THE FASTA READER REFUSES, in the request's words (specs/FastaRefused.antt): a test that applies says what it tests, and a line's
+-- bytes are the file's own.
 use mathlib.Core.Path.{_≡_, refl, sym, _∙_}
 use mathlib.Core.Logic.{_↔_, Iff·trans}
 use mathlib.Core.List.{List, [], _∷_, List·Memᴰ, List·Memᴰ·head}
 use Prim.Native.Nat.{ℕ}
 use Rattle.rules.specs.Calls.{on-refusal}
 use Rattle.rules.specs.Fasta.{lines-from, Entry, size-of, records-from, check19, check20, check4-file, next-checks, reader-checks, stays, hands-out, reader-rule}
-use Rattle.rules.specs.FastaRefused.{TextBefore, NoRoom, FirstNoLetter, RefusesNext, text-before, no-room, no-letter}
+use Rattle.rules.specs.FastaRefused.{TextBefore, NoRoom, FirstNoLetter, RefusesNext, text-before, no-room, no-letter, FastaRefused}
 use Rattle.rules.specs.Refusals.{_else_, first}
 use Rattle.rules.specs.Refused.{RefusesAt, RefusesIf}
 use Rattle.rules.specs.Told.{Verdict, fine, refused, refuses}
@@ -14,18 +14,6 @@ use Rattle.rules.proofs.FastaBytes.{text-says, room-says, lines-say}
 use Rattle.rules.proofs.FastaLaid.{record-laid}
 use Rattle.rules.proofs.Refused.{refuses-if}
 use Rattle.rules.proofs.Verdicts.{never}
-
-pub record FastaRefused : Type 0 where
-  -- 19: a line that is not empty before the first record
-  pub nineteen : (file : List ℕ) (at : ℕ) → RefusesIf (check19 (lines-from file at)) 19 (TextBefore file at)
-  -- 20: no room for the next record
-  pub twenty : (letters : List ℕ) (used : ℕ) (lengths : List ℕ) (count : ℕ) (e : Entry)
-      → RefusesIf (check20 letters used lengths count e) 20 (NoRoom letters used lengths count (size-of e))
-  -- 4: a byte of its lines that is no letter, with the offset of the first in the file
-  pub four : (file : List ℕ) (at : ℕ) (e : Entry) → List·Memᴰ e (records-from file at) → RefusesAt (check4-file e) 4 (FirstNoLetter file (e .lines))
-  -- a call refuses in this order, and nothing else
-  pub in-order : (file : List ℕ) (at : ℕ) (letters : List ℕ) (used : ℕ) (lengths : List ℕ) (count n p : ℕ)
-      → ((reader-rule file at letters used lengths count) .told ≡ refuses n p) ↔ RefusesNext file at letters used lengths count n p
 
 -- ---- the order
 

@@ -1,19 +1,17 @@
 -- WHAT A FASTA FILE IS MADE OF: files as they are written (specs/FastaWritten.antt) are read back, every file is written so, and lines
--- and names are parts of it. The statements stand in front, the proofs behind them. Of the texts of a file's lines those that begin
--- with > begin the records, and no others do; so the texts from one such to the next are a record's, and joining what it was cut into
--- gives its letters.
+-- and names are parts of it. Of the texts of a file's lines those that begin with > begin the records, and no others do; so the texts
+-- from one such to the next are a record's, and joining what it was cut into gives its letters.
 use mathlib.Core.Path.{_≡_, refl, sym, ap, _∙_}
 use mathlib.Core.Logic.{_↔_, _⊎_, inl, inr}
 use mathlib.Core.Bool.{Bool, true, false}
 use mathlib.Core.List.{List, [], _∷_, _++_, map, append-nil, append-assoc, List·Memᴰ, List·Memᴰ·head, List·Memᴰ·tail}
-use Prim.Native.Nat.{ℕ, zero, suc, _-_}
+use Prim.Native.Nat.{ℕ, zero, suc}
 use native.Mathlib.Omega.{arith}
 use lib.Dec.{eqb}
-use lib.ListN.{length, take, drop, getD, replicate}
+use lib.ListN.{length, getD, replicate}
 use borrow.Author.Tests.{eq-eqb, ne-eqb, eqb-true, eqb-false}
-use Rattle.rules.specs.Fasta.{Line, line, lines-of, text?, lines-from, header?, Entry, up-to-header, entries, blank?, up-to-blank, name-of, name-start, name-end, texts, letters-of, records-from, records, text-first?}
-use Rattle.rules.specs.FastaRefused.{TextBefore}
-use Rattle.rules.specs.FastaWritten.{WrittenLine, InWrittenLines, placed, WrittenRecord, record-texts, ProperRecord, InWrittenRecords}
+use Rattle.rules.specs.Fasta.{Line, line, lines-of, text?, lines-from, header?, up-to-header, entries, blank?, up-to-blank, name-of, texts, letters-of, records, text-first?}
+use Rattle.rules.specs.FastaWritten.{WrittenRecord, record-texts, ProperRecord, InWrittenRecords, FastaWritten}
 use Rattle.rules.specs.Lists.{if, each, joined, keep, some?}
 use Rattle.rules.specs.Text.{pieces}
 use Rattle.rules.proofs.All.{no-member, members}
@@ -22,21 +20,6 @@ use Rattle.rules.proofs.FastaBytes.{name-part, text-says}
 use Rattle.rules.proofs.FastaLaid.{laid, laid-line}
 use Rattle.rules.proofs.Tests.{either, denied, not-false}
 use Rattle.rules.proofs.WrittenLines.{lines-placed, lines-are, file-written}
-
-pub record FastaWritten : Type 0 where
-  -- the lines of a file, empty ones too, are those that it was written from, each at its place; the last is what the file's end ends
-  pub lines-back : (file : List ℕ) (ws : List WrittenLine) (last : List ℕ) → InWrittenLines file ws last → lines-of 0 (pieces 10 file) ≡ placed 0 ws last
-  -- and every file can be written from lines
-  pub lines-of-each : (file : List ℕ) → (ws : List WrittenLine) × (last : List ℕ) × InWrittenLines file ws last
-  -- the records of a file are those that it was written from: their names, and their letters joined; and no text stands before them
-  pub records-back : (file : List ℕ) (rs : List WrittenRecord) → InWrittenRecords file rs
-      → (map name-of (records file) ≡ map (λ r. r .name) rs) × (map letters-of (records file) ≡ map (λ r. joined (r .parts)) rs) × (TextBefore file 0 → ⊥)
-  -- and every file with no text before its first record can be written from records
-  pub records-of-each : (file : List ℕ) → (TextBefore file 0 → ⊥) → (rs : List WrittenRecord) × InWrittenRecords file rs
-  -- from any offset on, a line's text is the part of the file from the line's own offset on
-  pub in-file : (file : List ℕ) (at : ℕ) (l : Line) → List·Memᴰ l (lines-from file at) → l .text ≡ take (length (l .text)) (drop (l .at) file)
-  -- and a record's name the part between its two offsets
-  pub named : (file : List ℕ) (at : ℕ) (e : Entry) → List·Memᴰ e (records-from file at) → take (name-end e - name-start e) (drop (name-start e) file) ≡ name-of e
 
 -- ---- records read back
 

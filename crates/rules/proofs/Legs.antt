@@ -9,19 +9,10 @@ use lib.Dec.{ltb, eqb}
 use borrow.Author.Tests.{eqb-true, eqb-false, eq-eqb, ne-eqb, ltb-true}
 use Rattle.rules.specs.Lists.{if, keep}
 use Rattle.rules.specs.Walk.{Walk, place, children, later, choose, up, from, next, start, motif, listed}
-use Rattle.rules.specs.Legs.{Stop, ended, spent, full, ended?, Stretch, halt, then, on, Grant, leg, legs}
+use Rattle.rules.specs.Legs.{Stop, ended, spent, full, ended?, Stretch, halt, then, on, Grant, leg, legs, Passed, AmpleGrants}
 use Rattle.rules.specs.declared.Place.{Place}
 use Rattle.rules.proofs.Step.{step-at, at-end}
 use Rattle.rules.proofs.Whole.{listed-append, listed-skip}
-
--- what l, from p on, passed
-pub record Passed (W : Walk) (p : Place) (l : Stretch) : Type 0 where
-  pub taken : List Place
-  pub split : from W p ≡ taken ++ from W (l .at)
-  pub counts : l .steps ≡ length taken
-  pub lists : l .motifs ≡ listed W taken
-  pub says : ended? (l .stop) ≡ eqb (l .at .letters) 0
-  pub fits : l .at .letters ≤ W .depth
 
 -- a loop's way along a leg: s steps taken, ns listed, and q the place
 abbrev pub so-far : ℕ → List ℕ → Place → Stretch
@@ -35,10 +26,6 @@ so-far-step s ns ms q q′ l = let h : s + suc (l .steps) ≡ suc s + l .steps =
 
 pub so-far-stop : (s : ℕ) (ns : List ℕ) (a : Stop) (q : Place) → on (so-far s ns q) (halt a q) ≡ record { stop = a; steps = s; motifs = ns; at = q }
 so-far-stop s ns a q = let h : s + 0 ≡ s = omega arith in rw (h, append-nil)
-
-abbrev pub Ample : List Grant → Type 0
-Ample [] = Unit {0}
-Ample (g ∷ gs) = (1 ≤ g .budget) × (1 ≤ g .room) × Ample gs
 
 ended-true : (a : Stop) → ended? a ≡ true → a ≡ ended
 ended-true ended e = refl
@@ -204,7 +191,7 @@ module _ (W : Walk) where
         whole = r .split ∙ ap (λ ps. r .taken ++ ps) (at-end W pos ((legs W gs p) .at) (eqb-true _ 0 (sym (r .says) ∙ ap ended? e))) ∙ append-nil (r .taken)
 
     -- with a budget and room in each leg, as many legs as there are candidates are enough
-    pub legs-end : (gs : List Grant) (p : Place) → Ample gs → 1 ≤ p .letters → p .letters ≤ depth → length (from W p) ≤ length gs → (legs W gs p) .stop ≡ ended
+    pub legs-end : (gs : List Grant) (p : Place) → AmpleGrants gs → 1 ≤ p .letters → p .letters ≤ depth → length (from W p) ≤ length gs → (legs W gs p) .stop ≡ ended
     unfolding legs
     legs-end [] p a h k l = absurd (omega (arith, ap length (step-at W pos p h k)))
     legs-end (g ∷ gs) p a h k l = go (ended? (t .stop)) refl (legs-end gs (t .at) (a .2))

@@ -78,5 +78,4 @@ pub mod Completes
 pub mod Weights
 pub mod StepsSoFar
 pub mod OneAnswer
-pub mod Demand3
 pub mod Demands

@@ -7,11 +7,7 @@ use native.Mathlib.Nat.{pow-suc}
 use native.Mathlib.Omega.{arith}
 use lib.ListN.{length, getD, take, drop}
 use lib.Seq.{getD-drop}
-use Rattle.rules.specs.Saved.{low-first, read-low}
-
--- each of a list is a byte. Past its end a list reads as 0
-abbrev pub Bytes : List ℕ → Type 0
-Bytes bs = (i : ℕ) → getD bs i 0 < 256
+use Rattle.rules.specs.Saved.{low-first, read-low, Bytes}
 
 -- the first n of bytes are bytes
 pub bytes-take : (n : ℕ) (bs : List ℕ) → Bytes bs → Bytes (take n bs)

@@ -8,14 +8,10 @@ use native.Mathlib.Omega.{arith}
 use lib.Dec.{ltb, eqb}
 use borrow.Author.Tests.{eqb-false}
 use Rattle.rules.specs.Lists.{if}
-use Rattle.rules.specs.Walk.{Walk, Lawful, ended-place, choose, children, later, up, next, start, from, motif}
+use Rattle.rules.specs.Walk.{Walk, Lawful, ended-place, choose, children, later, up, next, start, from, motif, Candidate, Passing}
 use Rattle.rules.specs.Legs.{leg}
 use Rattle.rules.specs.declared.Place.{Place}
-use Rattle.rules.proofs.Candidates.{Candidate, next-candidate, all-candidates, only-candidates}
-
--- a place that the uninterrupted search passes through: a candidate, or the ended place
-abbrev pub Passing : Walk → Place → Type 0
-Passing W p = (p ≡ ended-place) ⊎ Candidate W p
+use Rattle.rules.proofs.Candidates.{next-candidate, all-candidates, only-candidates}
 
 module _ (W : Walk) where
   open Walk W using (base, may, good, depth)

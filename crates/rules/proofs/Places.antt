@@ -17,12 +17,11 @@ use Rattle.rules.specs.Sequences.{sequences}
 use Rattle.rules.specs.Sound.{SoundTemplate}
 use Rattle.rules.specs.Support.{allowed-in}
 use Rattle.rules.specs.Template.{size}
-use Rattle.rules.specs.Walk.{place, ended-place, walk-in, walk-over, walk-of, candidate}
+use Rattle.rules.specs.Walk.{place, ended-place, walk-in, walk-over, walk-of, candidate, Passing}
 use Rattle.rules.specs.declared.Place.{Place}
 use Rattle.rules.specs.declared.Search.{Search}
 use Rattle.rules.specs.declared.Template.{Template}
 use Rattle.rules.proofs.Candidates.{candidate-may}
-use Rattle.rules.proofs.Passing.{Passing}
 use Rattle.rules.proofs.Profiles.{allowed-nil}
 use Rattle.rules.proofs.Searches.{walk-lawful}
 use Rattle.rules.proofs.Sound.{SoundSearch}

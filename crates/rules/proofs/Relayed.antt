@@ -7,7 +7,7 @@ use Prim.Native.Nat.{ℕ, min}
 use native.Mathlib.Omega.{arith}
 use lib.ListN.{length, take, length-map}
 use Rattle.rules.specs.Calls.{LegRule, moved, stretch, supports-of, weights-of, leg-rule, Written, written-unless, save-rule}
-use Rattle.rules.specs.Legs.{Stop, ended, spent, full, ended?, Stretch, on, Grant, grant, leg, legs}
+use Rattle.rules.specs.Legs.{Stop, ended, spent, full, ended?, Stretch, on, Grant, grant, leg, legs, Passed}
 use Rattle.rules.specs.Lists.{if}
 use Rattle.rules.specs.Refusals.{first, search-checks, save-checks}
 use Rattle.rules.specs.Relay.{Lent, Roomy, Relayed, alone, followed, go-on, restored, after, relay}
@@ -15,12 +15,12 @@ use Rattle.rules.specs.Saved.{bytes}
 use Rattle.rules.specs.Sequences.{sequences}
 use Rattle.rules.specs.Template.{trimmed}
 use Rattle.rules.specs.Told.{Verdict, fine, refused, Told, gives}
-use Rattle.rules.specs.Walk.{Walk, walk-of, from, listed}
+use Rattle.rules.specs.Walk.{Walk, walk-of, from, listed, Passing}
 use Rattle.rules.specs.declared.Place.{Place}
 use Rattle.rules.specs.declared.Search.{Search}
 use Rattle.rules.specs.declared.Template.{Template}
-use Rattle.rules.proofs.Legs.{Passed, leg-law}
-use Rattle.rules.proofs.Passing.{Passing, passing-leg}
+use Rattle.rules.proofs.Legs.{leg-law}
+use Rattle.rules.proofs.Passing.{passing-leg}
 use Rattle.rules.proofs.Places.{sound-passing, moved-sound, place-deep}
 use Rattle.rules.proofs.Searches.{walk-lawful}
 use Rattle.rules.proofs.Records.{bytes-counted}

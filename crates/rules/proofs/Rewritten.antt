@@ -12,14 +12,14 @@ use borrow.Author.Tests.{le-leb, leb-true, eqb-true}
 use Rattle.rules.specs.Limits.{Profile-LAST, Record-BYTES, Record-SIZE, Record-COMPONENT, Record-PLACE, Record-EXTRA, Template-COMPONENTS}
 use Rattle.rules.specs.Lists.{run, sum}
 use Rattle.rules.specs.Profile.{profile-number, numbered-profile}
-use Rattle.rules.specs.Saved.{low-first, read-low, size-record, component-record, place-record, component-records, records, bytes, record-at, field, record-count, component-count, read-profile, read-component, read-place, read-template, read-search, sized?, blank?, size-kind?, component-kind?, place-kind?, size-blank?, allowance-blank?, component-blank?, place-blank?, size-record?, component-record?, place-record?, component-records?, laid-out?}
+use Rattle.rules.specs.Saved.{low-first, read-low, size-record, component-record, place-record, component-records, records, bytes, record-at, field, record-count, component-count, read-profile, read-component, read-place, read-template, read-search, sized?, blank?, size-kind?, component-kind?, place-kind?, size-blank?, allowance-blank?, component-blank?, place-blank?, size-record?, component-record?, place-record?, component-records?, laid-out?, Bytes}
 use Rattle.rules.specs.Template.{allowance-in, components, kept, size, trimmed}
 use Rattle.rules.specs.declared.Component.{Component}
 use Rattle.rules.specs.declared.Profile.{Profile}
 use Rattle.rules.specs.declared.Profile.the-variants.{Exact, Mixed}
 use Rattle.rules.specs.declared.Search.{Search}
 use Rattle.rules.proofs.All.{all-one}
-use Rattle.rules.proofs.LowFirst.{Bytes, bytes-take, bytes-drop, written-read}
+use Rattle.rules.proofs.LowFirst.{bytes-take, bytes-drop, written-read}
 use Rattle.rules.proofs.LaidOut.{laid-out-says}
 use Rattle.rules.proofs.Tests.{both}
 use Rattle.rules.proofs.Trimmed.{used, used-allowance, kept-twice}

@@ -11,13 +11,12 @@ use Rattle.rules.specs.Calls.{unless, trimmed-search, written-unless, sa
 use Rattle.rules.specs.Lists.{put}
 use Rattle.rules.specs.Refusals.{first, passes?, search-checks, restore-checks, save-checks}
 use Rattle.rules.specs.Relay.{RefusedAsCut}
-use Rattle.rules.specs.Saved.{bytes, read-search, read-template}
+use Rattle.rules.specs.Saved.{bytes, read-search, read-template, Bytes}
 use Rattle.rules.specs.Sequences.{sequences}
 use Rattle.rules.specs.Template.{trimmed}
 use Rattle.rules.specs.Told.{Verdict, fine, refused, gives}
 use Rattle.rules.specs.Walk.{ended-place}
 use Rattle.rules.specs.declared.Search.{Search}
-use Rattle.rules.proofs.LowFirst.{Bytes}
 use Rattle.rules.proofs.Rewritten.{bytes-again, read-trimmed}
 use Rattle.rules.proofs.RoundTrip.{Fits, sound-fits, search-back, saved-sized, saved-laid-out}
 use Rattle.rules.proofs.Sound.{SoundSearch, SoundBytes, search-sound, search-fine, save-sound, restore-sound, restore-fine}

@@ -6,7 +6,7 @@ use Prim.Native.Nat.{ℕ, _^_, _≤_, _<_, min}
 use native.Mathlib.Omega.{arith}
 use lib.ListN.{length, length-append}
 use Rattle.rules.specs.Calls.{begun, stretch, begin-rule, leg-rule}
-use Rattle.rules.specs.Legs.{spent, Stretch, leg, legs}
+use Rattle.rules.specs.Legs.{spent, Stretch, leg, legs, Passed}
 use Rattle.rules.specs.Relay.{whole-steps, Lent, Roomy, relay}
 use Rattle.rules.specs.Sequences.{sequences}
 use Rattle.rules.specs.Sound.{SoundTemplate}
@@ -18,7 +18,7 @@ use Rattle.rules.specs.declared.Template.{Template}
 use Rattle.rules.proofs.Begins.{Beginning, begins}
 use Rattle.rules.proofs.Candidates.{start-first}
 use Rattle.rules.proofs.FewMixed.{whole-steps-few}
-use Rattle.rules.proofs.Legs.{Passed, leg-law, legs-law, leg-why}
+use Rattle.rules.proofs.Legs.{leg-law, legs-law, leg-why}
 use Rattle.rules.proofs.Places.{place-deep}
 use Rattle.rules.proofs.Searches.{walk-lawful}
 use Rattle.rules.proofs.Relayed.{granted, relay-legs}

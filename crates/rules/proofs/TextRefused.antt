@@ -1,12 +1,12 @@
--- THE PRINTING PROGRAM'S INPUT, in the paper's words ("The printing program"; specs/TextRefused.antt): what is read of it, and
--- what is refused with 18. The statements stand in front, the proofs behind them.
+-- THE PRINTING PROGRAM'S INPUT (specs/TextRefused.antt): what is read of it, and what is refused with 18. Each test of the text says its
+-- sentence, and an input that passes them all is the text of what was read.
 use mathlib.Core.Path.{_≡_, refl, sym, ap, _∙_}
 use mathlib.Core.Logic.{_↔_}
 use mathlib.Core.Bool.{false, false≢true}
-use mathlib.Core.List.{List, [], _∷_, _++_, map, map-append, append-nil, List·Memᴰ·not-nil, List·Memᴰ·tail}
-use Prim.Native.Nat.{ℕ, _^_, _≤_, _<_}
+use mathlib.Core.List.{List, [], _∷_, map, map-append, append-nil, List·Memᴰ·not-nil, List·Memᴰ·tail}
+use Prim.Native.Nat.{ℕ, _<_}
 use native.Mathlib.Omega.{arith}
-use lib.ListN.{length, getD, replicate, length-map}
+use lib.ListN.{length, getD, length-map}
 use lib.Seq.{take-at, drop-at}
 use borrow.Author.Tests.{ltb-false}
 use Rattle.rules.specs.Calls.{begin-rule}
@@ -15,50 +15,16 @@ use Rattle.rules.specs.Limits.{Text-BYTES, Text-QUORUM-DIGITS}
 use Rattle.rules.specs.Lists.{each, joined, some?}
 use Rattle.rules.specs.Refusals.{first}
 use Rattle.rules.specs.Sequences.{split, sequences}
-use Rattle.rules.specs.Text.{parsed, malformed, parse-number, parse-components, template-of, lines, unended, line, text-checks, parse-template, parse-quorum, parse-letters, parse-lengths, decimal, template-text, print-refused, print-told, print-rule}
-use Rattle.rules.specs.TextRefused.{Without, WithoutAll, with-end, Lined, NumberText, component-text, Writable, Unmixed, TemplateText, BadLine, too-long, missing, no-template, no-quorum, no-end, LowestBad, Reads}
-use Rattle.rules.specs.Told.{fine, refused}
+use Rattle.rules.specs.Text.{parsed, parse-number, parse-components, template-of, lines, unended, line, text-checks, parse-template, parse-quorum, parse-letters, parse-lengths, decimal, template-text, print-refused, print-told, print-rule}
+use Rattle.rules.specs.TextRefused.{Without, WithoutAll, with-end, Lined, BadLine, too-long, missing, no-template, no-quorum, no-end, LowestBad, Reads, TextRefused}
+use Rattle.rules.specs.Told.{fine}
 use Rattle.rules.specs.declared.Component.{Component}
-use Rattle.rules.specs.declared.Profile.the-variants.{Exact}
 use Rattle.rules.proofs.All.{members}
 use Rattle.rules.proofs.Tests.{not-false}
 use Rattle.rules.proofs.TextLines.{text-passes, refused-lowest, fine-none}
 use Rattle.rules.proofs.TextNumbers.{decimal-digits, well-parsed, number-parsed, number-malformed, number-well}
 use Rattle.rules.proofs.TextPieces.{lined, lined-only}
 use Rattle.rules.proofs.TextTemplate.{first-text, template-parsed, unmixed, template-read, begin-unmixed, template-malformed, template-well, template-bytes}
-
--- what the paper says of the input
-pub record TextRefused : Type 0 where
-  -- an input is its lines, each ended by byte 10, and what follows the last of them, with no byte 10 in any; and it is so in one
-  -- way only
-  pub in-lines : (input : List ℕ) (ls : List (List ℕ)) (rest : List ℕ) → Lined input ls rest ↔ ((ls ≡ lines input) × (rest ≡ unended input))
-  -- a number has 1 to so many digits, with no leading zero but 0 itself; any other text is malformed
-  pub no-number : (most : ℕ) (text : List ℕ) → (parse-number most text ≡ malformed) ↔ (NumberText most text → ⊥)
-  -- a text of so many digits is read as the number below that power of ten of which it is the decimal text
-  pub number : (most : ℕ) (text : List ℕ) (n : ℕ) → 1 ≤ most → most ≤ 20 → (parse-number most text ≡ parsed n) ↔ ((text ≡ decimal n) × (n < 10 ^ most))
-  -- template text is runs of N with [l,u] between: a run, and for each later component a [ and its text, l,u] and its run
-  pub runs : (c : Component) (cs : List Component) → template-text (c ∷ cs) ≡ replicate (c .length) 78 ++ each (λ p. 91 ∷ p) (map component-text cs)
-  -- a line is read as the components that it is the text of, if they have at least one N each, numbers of 1 to 3 digits, and no
-  -- allowance, which text does not tell
-  pub components : (text : List ℕ) (cs : List Component) → (parse-components text ≡ parsed cs) ↔ ((text ≡ template-text cs) × Writable cs × Unmixed cs)
-  -- so the template that is read asks for an exact search
-  pub exact : (input : List ℕ) → parse-template input .profile ≡ Exact
-  -- and a line that is the text of none is malformed
-  pub no-components : (text : List ℕ) → (parse-components text ≡ malformed) ↔ (TemplateText text → ⊥)
-  -- an input is refused with 18 and the number of its lowest bad line: too long (0), the first or second malformed or missing,
-  -- or the last without its end
-  pub lowest-line : (input : List ℕ) (n p : ℕ) → (first (text-checks input) ≡ refused n p) ↔ ((n ≡ 18) × LowestBad input p)
-  -- it passes exactly if no line is bad
-  pub no-line : (input : List ℕ) → (first (text-checks input) ≡ fine) ↔ ((p : ℕ) → BadLine input p → ⊥)
-  -- and that is exactly if it is the text of a template, a quorum and sequences
-  pub passes : (input : List ℕ) → (first (text-checks input) ≡ fine) ↔ ((cs : List Component) × (quorum : ℕ) × (ss : List (List ℕ)) × Reads input cs quorum ss)
-  -- 18 comes before all others
-  pub before-all : (input : List ℕ) (p : ℕ) → LowestBad input p → print-rule input ≡ print-refused 18 p
-  -- and else what is printed is what a search with that template and quorum over these sequences tells
-  pub searched : (input : List ℕ) (cs : List Component) (quorum : ℕ) (ss : List (List ℕ)) → Reads input cs quorum ss
-      → print-rule input ≡ print-told (map (map value) ss) (begin-rule (joined ss) (map length ss) (template-of cs) quorum)
-
--- ---- THE PROOFS
 
 -- the lines of an input, both ways
 lined-says : (input : List ℕ) (ls : List (List ℕ)) (rest : List ℕ) → Lined input ls rest ↔ ((ls ≡ lines input) × (rest ≡ unended input))

@@ -18,10 +18,10 @@ use Rattle.rules.specs.Refused.{Frequent, CandidateIn}
 use Rattle.rules.specs.Relay.{whole-steps}
 use Rattle.rules.specs.Sound.{SoundTemplate}
 use Rattle.rules.specs.Support.{allowed-in, frequent, reaches}
-use Rattle.rules.specs.Walk.{Walk, Lawful, place, walk-in, walk-over, children, under, from, start, spelled, candidate}
+use Rattle.rules.specs.Walk.{Walk, Lawful, place, walk-in, walk-over, children, under, from, start, spelled, candidate, Candidate}
 use Rattle.rules.specs.declared.Place.{Place}
 use Rattle.rules.specs.declared.Template.{Template}
-use Rattle.rules.proofs.Candidates.{Candidate, all-candidates, only-candidates}
+use Rattle.rules.proofs.Candidates.{all-candidates, only-candidates}
 use Rattle.rules.proofs.EachKind.{kind-proper, frequent-support}
 use Rattle.rules.proofs.Members.{each-out, keep-run-out}
 use Rattle.rules.proofs.OccurrenceOrder.{keep-run-rising}

@@ -1,51 +1,31 @@
--- DEMANDS 2 AND 3 OF EVERY WALK that is lawful, proved once; and so of every kind of search, by its profile.
+-- DEMANDS 2 AND 3 OF EVERY WALK that is lawful (specs/WalkDemands.antt), proved once; and so of every kind of search, by its profile.
 use mathlib.Core.Path.{_≡_, refl, subst}
-use mathlib.Core.Logic.{_⊎_, _↔_}
+use mathlib.Core.Logic.{_↔_}
 use mathlib.Core.Bool.{true}
 use mathlib.Core.List.{List, List·Memᴰ}
 use Prim.Native.Nat.{ℕ, zero, suc, _/_, _^_, _≤_, _<_}
 use native.Mathlib.Omega.{arith}
-use lib.ListN.{length}
 use lib.Dec.{ltb, eqb}
 use borrow.Author.Tests.{leb-true, le-leb, eqb-true, ltb-true, lt-ltb}
-use Rattle.rules.specs.Legs.{ended, Grant, leg, legs}
 use Rattle.rules.specs.Order.{Rising}
 use Rattle.rules.specs.Profile.{Profile, Proper, exactly, mixed, repeated, substituted}
 use Rattle.rules.specs.Sound.{SoundTemplate}
 use Rattle.rules.specs.Support.{counted, allowed-in, valid-in, parts-in}
 use Rattle.rules.specs.Template.{size}
-use Rattle.rules.specs.Walk.{walk-in, Walk, Lawful, ended-place, from, start, motif, listed, spelled, candidate, motifs, tries}
+use Rattle.rules.specs.Walk.{walk-in, Walk, Lawful, motif, spelled, candidate, motifs, Candidate}
+use Rattle.rules.specs.WalkDemands.{WalkDemands, ProfileDemands}
 use Rattle.rules.specs.declared.Component.{Component}
 use Rattle.rules.specs.declared.Place.{Place}
 use Rattle.rules.specs.declared.Template.{Template}
-use Rattle.rules.proofs.Candidates.{Candidate}
-use Rattle.rules.proofs.Legs.{Ample, Passed, leg-law}
+use Rattle.rules.proofs.Legs.{leg-law}
 use Rattle.rules.proofs.Members.{keep-run-in, keep-run-out}
 use Rattle.rules.proofs.OccurrenceOrder.{keep-run-rising}
-use Rattle.rules.proofs.Passing.{Passing, passing-leg, passing-lists, passing-from, from-passing}
+use Rattle.rules.proofs.Passing.{passing-leg, passing-lists, passing-from, from-passing}
 use Rattle.rules.proofs.Prefix.{size-some}
 use Rattle.rules.proofs.Profiles.{lawful-in, spelled-in, good-whole, exactly-proper, mixed-proper, repeated-proper, substituted-proper}
 use Rattle.rules.proofs.Relay.{all-listed, all-tried, legs-enough, leg-enough}
 use Rattle.rules.proofs.Tests.{both}
 use Rattle.rules.proofs.Whole.{lists, tried}
-
-pub record WalkDemands (W : Walk) : Type 0 where
-  -- 2: the list holds exactly the good motifs, each once, in letter order; the search lists it in as many steps as there are
-  -- candidates; and so does one leg that has budget and room for it
-  pub holds : (m : ℕ) → List·Memᴰ m (motifs W) ↔ ((m < W .base ^ W .depth) × (spelled W (W .depth) m ≡ true) × (W .good (W .depth) m ≡ true))
-  pub rises : Rising (motifs W)
-  pub lists-it : listed W (from W (start W)) ≡ motifs W
-  pub steps : length (from W (start W)) ≡ tries W (W .depth)
-  pub one-leg : (b r : ℕ) → tries W (W .depth) ≤ b → length (motifs W) ≤ r → (leg W b r (start W)) .stop ≡ ended
-  -- 3: legs laid end to end are that list once one answers ended; they end; and each passes what lies between its places
-  pub end-to-end : (gs : List Grant) → (legs W gs (start W)) .stop ≡ ended → ((legs W gs (start W)) .motifs ≡ motifs W) × ((legs W gs (start W)) .steps ≡ tries W (W .depth))
-  pub ends : (gs : List Grant) → Ample gs → tries W (W .depth) ≤ length gs → (legs W gs (start W)) .stop ≡ ended
-  pub between : (b r : ℕ) (p : Place) → p .letters ≤ W .depth → Passed W p (leg W b r p)
-  -- a place that the search passes through is a candidate or the ended place, and a leg leads from one to another
-  pub through : (p : Place) → Passing W p ↔ ((p ≡ ended-place) ⊎ List·Memᴰ p (from W (start W)))
-  pub leads : (b r : ℕ) (p : Place) → Passing W p → Passing W ((leg W b r p) .at)
-  -- from such a place every leg, ended or not, lists good motifs alone
-  pub lists-only : (b r : ℕ) (p : Place) → Passing W p → (m : ℕ) → List·Memᴰ m ((leg W b r p) .motifs) → List·Memᴰ m (motifs W)
 
 -- the list of any walk
 motifs-are : (W : Walk) (m : ℕ) → List·Memᴰ m (motifs W) ↔ ((m < W .base ^ W .depth) × (spelled W (W .depth) m ≡ true) × (W .good (W .depth) m ≡ true))
@@ -93,12 +73,6 @@ walk-demands W L =
     }
 
 -- ---- every kind of search
-
--- what is asked of a search of a profile: of its walk; and its list holds exactly the motifs, by their numbers, of which as much is
--- counted as the quorum asks
-pub record ProfileDemands (P : Profile) (t : Template) (quorum : ℕ) (ss : List (List ℕ)) : Type 0 where
-  pub walk : WalkDemands (walk-in P t quorum ss)
-  pub list : (m : ℕ) → List·Memᴰ m (motifs (walk-in P t quorum ss)) ↔ ((valid-in P t (size t) m ≡ true) × (quorum ≤ counted (P .basis) (parts-in P t (size t) m) ss))
 
 module _ (P : Profile) (proper : Proper P) (t : Template) (sound : SoundTemplate t) (quorum : ℕ) (ss : List (List ℕ)) where
   -- a whole motif is spelled if its letters are allowed

@@ -1,17 +1,21 @@
 -- What is said of the FASTA reader's refusals, and of those of the program `lines`, in the request's words. The checks of Fasta.antt
--- are tests; here stand the sentences that they test, about the file's own bytes. proofs/FastaRefused.antt and proofs/FastaProgram.antt
--- show that each check says its sentence.
-use mathlib.Core.Logic.{_⊎_}
-use mathlib.Core.List.{List, _∷_, _++_, List·Memᴰ}
+-- are tests; here stand the sentences that they test, about the file's own bytes, and at the end that the checks say them, which
+-- proofs/FastaRefused.antt and proofs/FastaProgram.antt prove.
+use mathlib.Core.Logic.{_⊎_, _↔_}
+use mathlib.Core.List.{List, _∷_, _++_, List·Memᴰ, map}
 use mathlib.Core.Path.{_≡_}
-use Prim.Native.Nat.{ℕ, _+_, _≤_, _<_}
+use Prim.Native.Nat.{ℕ, _+_, _≤_, _<_, _^_}
 use lib.ListN.{length, getD}
-use Rattle.rules.specs.Fasta.{Line, lines-from, Entry, size-of, records-from, records}
-use Rattle.rules.specs.Limits.{Fasta-BYTES, Fasta-LENGTH}
-use Rattle.rules.specs.Lists.{each}
-use Rattle.rules.specs.Refused.{IsLetter}
-use Rattle.rules.specs.Text.{decimal, template-text}
-use Rattle.rules.specs.TextRefused.{with-end}
+use Rattle.rules.specs.Calls.{begin-rule}
+use Rattle.rules.specs.Fasta.{Line, lines-from, Entry, size-of, records-from, records, check19, check20, check4-file, reader-rule, letters-of, lines-checks, lines-rule}
+use Rattle.rules.specs.Letters.{value}
+use Rattle.rules.specs.Limits.{Fasta-BYTES, Fasta-LENGTH, Text-BYTES, Text-QUORUM-DIGITS}
+use Rattle.rules.specs.Lists.{each, joined}
+use Rattle.rules.specs.Refusals.{first}
+use Rattle.rules.specs.Refused.{IsLetter, RefusesAt, RefusesIf}
+use Rattle.rules.specs.Text.{decimal, template-text, template-of, print-refused, print-told, print-rule}
+use Rattle.rules.specs.TextRefused.{with-end, Writable}
+use Rattle.rules.specs.Told.{refused, refuses}
 use Rattle.rules.specs.declared.Component.{Component}
 
 -- 19: the first line from a cursor on that is not empty does not begin with >
@@ -55,3 +59,29 @@ pub data LinesRefuses (file : List ℕ) (n p : ℕ) : Type 0 where
 -- WHAT IT PRINTS otherwise is the sequences of an input of the printing program, which has a template and a quorum before them
 abbrev pub input-of : List Component → ℕ → List ℕ → List ℕ
 input-of cs quorum sequences = with-end (template-text cs) ++ (with-end (decimal quorum) ++ sequences)
+
+-- WHAT THE READER REFUSES: each check says its sentence
+pub record FastaRefused : Type 0 where
+  -- 19: a line that is not empty before the first record
+  pub nineteen : (file : List ℕ) (at : ℕ) → RefusesIf (check19 (lines-from file at)) 19 (TextBefore file at)
+  -- 20: no room for the next record
+  pub twenty : (letters : List ℕ) (used : ℕ) (lengths : List ℕ) (count : ℕ) (e : Entry)
+      → RefusesIf (check20 letters used lengths count e) 20 (NoRoom letters used lengths count (size-of e))
+  -- 4: a byte of its lines that is no letter, with the offset of the first in the file
+  pub four : (file : List ℕ) (at : ℕ) (e : Entry) → List·Memᴰ e (records-from file at) → RefusesAt (check4-file e) 4 (FirstNoLetter file (e .lines))
+  -- a call refuses in this order, and nothing else
+  pub in-order : (file : List ℕ) (at : ℕ) (letters : List ℕ) (used : ℕ) (lengths : List ℕ) (count n p : ℕ)
+      → ((reader-rule file at letters used lengths count) .told ≡ refuses n p) ↔ RefusesNext file at letters used lengths count n p
+
+-- WHAT THE PROGRAM `lines` REFUSES AND PRINTS
+pub record FastaProgram : Type 0 where
+  -- it refuses in this order, and nothing else
+  pub in-order : (file : List ℕ) (n p : ℕ) → (first (lines-checks file) ≡ refused n p) ↔ LinesRefuses file n p
+  pub refused : (file : List ℕ) (n p : ℕ) → LinesRefuses file n p → lines-rule file ≡ print-refused n p
+  -- and else prints one sequence a line: the letters of each record, in file order
+  pub printed : (file : List ℕ) → ((n p : ℕ) → LinesRefuses file n p → ⊥) → lines-rule file ≡ each with-end (map letters-of (records file))
+  -- so the printing program, given them behind a template and a quorum, tells what a search over the records tells
+  pub searched : (file : List ℕ) (cs : List Component) (quorum : ℕ) → ((n p : ℕ) → LinesRefuses file n p → ⊥) → Writable cs → quorum < 10 ^ Text-QUORUM-DIGITS
+      → length (input-of cs quorum (lines-rule file)) ≤ Text-BYTES
+      → let ss = map letters-of (records file) in
+      print-rule (input-of cs quorum (lines-rule file)) ≡ print-told (map (map value) ss) (begin-rule (joined ss) (map length ss) (template-of cs) quorum)

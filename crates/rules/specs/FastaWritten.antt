@@ -1,14 +1,16 @@
 -- HOW A FASTA FILE IS WRITTEN, from its lines and from its records. Fasta.antt reads a file by cutting it; here stands what it is put
--- together from, and proofs/FastaWritten.antt shows that what was put together is read back, and that every file is put together
--- so. Bytes are written by their numbers, as there.
+-- together from, and at the end that what was put together is read back, and that every file is put together so, which
+-- proofs/FastaWritten.antt proves. Bytes are written by their numbers, as there.
 use mathlib.Core.Bool.{Bool, false}
 use mathlib.Core.List.{List, [], _∷_, _++_, map, List·Memᴰ}
 use mathlib.Core.Logic.{_⊎_}
 use mathlib.Core.Path.{_≡_}
 use Prim.Native.Nat.{ℕ, _+_, _-_}
-use lib.ListN.{length, getD, replicate}
-use Rattle.rules.specs.Fasta.{Line, line}
-use Rattle.rules.specs.Lists.{if, each}
+use lib.ListN.{length, getD, replicate, take, drop}
+use Rattle.rules.specs.Fasta.{Line, line, lines-of, lines-from, Entry, name-of, name-start, name-end, letters-of, records-from, records}
+use Rattle.rules.specs.FastaRefused.{TextBefore}
+use Rattle.rules.specs.Lists.{if, each, joined}
+use Rattle.rules.specs.Text.{pieces}
 use Rattle.rules.specs.TextRefused.{Without}
 
 -- LINES. A line as it is written: its text, and whether a 13 stands before the 10 that ends it
@@ -56,3 +58,19 @@ pub record InWrittenRecords (file : List ℕ) (rs : List WrittenRecord) : Type 0
   pub laid : InWrittenLines file lines last
   pub texts : map (λ w. w .text) lines ++ (last ∷ []) ≡ replicate empties [] ++ each record-texts rs
   pub proper : (r : WrittenRecord) → List·Memᴰ r rs → ProperRecord r
+
+-- WHAT A FILE HOLDS is what it was written from
+pub record FastaWritten : Type 0 where
+  -- the lines of a file, empty ones too, are those that it was written from, each at its place; the last is what the file's end ends
+  pub lines-back : (file : List ℕ) (ws : List WrittenLine) (last : List ℕ) → InWrittenLines file ws last → lines-of 0 (pieces 10 file) ≡ placed 0 ws last
+  -- and every file can be written from lines
+  pub lines-of-each : (file : List ℕ) → (ws : List WrittenLine) × (last : List ℕ) × InWrittenLines file ws last
+  -- the records of a file are those that it was written from: their names, and their letters joined; and no text stands before them
+  pub records-back : (file : List ℕ) (rs : List WrittenRecord) → InWrittenRecords file rs
+      → (map name-of (records file) ≡ map (λ r. r .name) rs) × (map letters-of (records file) ≡ map (λ r. joined (r .parts)) rs) × (TextBefore file 0 → ⊥)
+  -- and every file with no text before its first record can be written from records
+  pub records-of-each : (file : List ℕ) → (TextBefore file 0 → ⊥) → (rs : List WrittenRecord) × InWrittenRecords file rs
+  -- from any offset on, a line's text is the part of the file from the line's own offset on
+  pub in-file : (file : List ℕ) (at : ℕ) (l : Line) → List·Memᴰ l (lines-from file at) → l .text ≡ take (length (l .text)) (drop (l .at) file)
+  -- and a record's name the part between its two offsets
+  pub named : (file : List ℕ) (at : ℕ) (e : Entry) → List·Memᴰ e (records-from file at) → take (name-end e - name-start e) (drop (name-start e) file) ≡ name-of e

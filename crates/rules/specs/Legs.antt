@@ -1,10 +1,12 @@
 -- A leg of a walk: from a place on, as far as a budget of steps and room for rows allow; and legs laid end to end.
 use mathlib.Core.Bool.{Bool, true, false}
 use mathlib.Core.List.{List, [], _∷_, _++_}
-use Prim.Native.Nat.{ℕ, zero, suc, _+_}
+use mathlib.Core.Path.{_≡_}
+use Prim.Native.Nat.{ℕ, zero, suc, _+_, _≤_}
 use lib.Dec.{eqb}
+use lib.ListN.{length}
 use Rattle.rules.specs.Lists.{if}
-use Rattle.rules.specs.Walk.{Walk, next, motif}
+use Rattle.rules.specs.Walk.{Walk, next, motif, from, listed}
 use Rattle.rules.specs.declared.Place.{Place}
 
 -- why a leg stopped: no candidate left, the budget used, or a motif and no room for it
@@ -43,6 +45,11 @@ pub record Grant : Type 0 where
 abbrev pub grant : ℕ → ℕ → Grant
 grant b r = record { budget = b; room = r }
 
+-- each leg may use at least one step and one row
+abbrev pub AmpleGrants : List Grant → Type 0
+AmpleGrants [] = Unit {0}
+AmpleGrants (g ∷ gs) = (1 ≤ g .budget) × (1 ≤ g .room) × AmpleGrants gs
+
 module _ (W : Walk) where
   -- before each candidate, in this order: none left, the budget used, a motif and no room for it; otherwise a step
   unfoldable pub leg : ℕ → ℕ → Place → Stretch
@@ -57,3 +64,13 @@ module _ (W : Walk) where
   unfoldable pub legs : List Grant → Place → Stretch
   legs [] p = halt (if (eqb (p .letters) 0) ended spent) p
   legs (g ∷ gs) p = let l = leg (g .budget) (g .room) p in let more = on l (legs gs (l .at)) in if (ended? (l .stop)) l more
+
+-- WHAT A LEG PASSED, from p on: the candidates between its old place and its new, one for each step; its motifs are those that are listed
+-- among them; and it has ended exactly where no candidate is left
+pub record Passed (W : Walk) (p : Place) (l : Stretch) : Type 0 where
+  pub taken : List Place
+  pub split : from W p ≡ taken ++ from W (l .at)
+  pub counts : l .steps ≡ length taken
+  pub lists : l .motifs ≡ listed W taken
+  pub says : ended? (l .stop) ≡ eqb (l .at .letters) 0
+  pub fits : l .at .letters ≤ W .depth

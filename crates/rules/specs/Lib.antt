@@ -17,7 +17,9 @@ pub mod Join
 pub mod Recovery
 pub mod Refusals
 pub mod Refused
+pub mod EachRefusal
 pub mod Sound
+pub mod WalkDemands
 pub mod Calls
 pub mod Relay
 pub mod Text
@@ -26,6 +28,9 @@ pub mod Fasta
 pub mod FastaRefused
 pub mod FastaRead
 pub mod FastaWritten
+pub mod Demand1
+pub mod Demand2
+pub mod Demand3
 pub mod Facts
 pub mod SavedFacts
 pub mod FastaFacts

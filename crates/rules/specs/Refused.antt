@@ -1,5 +1,5 @@
 -- What is said of a refusal, in the paper's words. The checks of Refusals.antt are tests; here stand the sentences that they
--- test, about the numbers, bytes and candidates themselves. proofs/Refused.antt shows that each check says its sentence.
+-- test, about the numbers, bytes and candidates themselves. EachRefusal.antt states that each check says its sentence.
 use mathlib.Core.Logic.{_⊎_, _↔_}
 use mathlib.Core.List.{List, map}
 use mathlib.Core.Path.{_≡_}

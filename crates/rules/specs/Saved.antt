@@ -2,7 +2,7 @@
 -- are well formed, field by field.
 use mathlib.Core.Bool.{Bool, true, _&&_}
 use mathlib.Core.List.{List, [], _∷_, _++_, map}
-use Prim.Native.Nat.{ℕ, zero, suc, _+_, _-_, _*_, _/_, _%_}
+use Prim.Native.Nat.{ℕ, zero, suc, _+_, _-_, _*_, _/_, _%_, _<_}
 use lib.Dec.{eqb, leb}
 use lib.ListN.{length, take, drop, getD, replicate}
 use Rattle.rules.specs.Limits.{Profile-LAST, Record-BYTES, Record-SIZE, Record-COMPONENT, Record-PLACE, Record-EXTRA}
@@ -26,6 +26,10 @@ low-first (suc n) x = x % 256 ∷ low-first n (x / 256)
 unfoldable pub read-low : ℕ → List ℕ → ℕ
 read-low zero bs = 0
 read-low (suc n) bs = getD bs 0 0 + 256 * read-low n (drop 1 bs)
+
+-- each of a list is a byte. Past its end a list reads as 0
+abbrev pub Bytes : List ℕ → Type 0
+Bytes bs = (i : ℕ) → getD bs i 0 < 256
 
 -- WRITING. Bytes that the paper does not name are 0
 unfoldable pub size-record : Search → List ℕ

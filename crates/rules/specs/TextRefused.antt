@@ -1,16 +1,22 @@
 -- What is said of the printing program's input, in the paper's words. Text.antt reads it by tests; here stand the sentences that
 -- they test, about the bytes and lines themselves: how an input falls into lines, what a number and a template's text are, which
--- line is told with 18, and what an input is that has no such line. proofs/TextRefused.antt shows that the tests say them. Bytes
--- are written by their numbers, as there.
-use mathlib.Core.List.{List, _∷_, _++_, [], List·Memᴰ}
+-- line is told with 18, and what an input is that has no such line; and at the end that the tests say them, which
+-- proofs/TextRefused.antt proves. Bytes are written by their numbers, as there.
+use mathlib.Core.List.{List, _∷_, _++_, [], List·Memᴰ, map}
 use mathlib.Core.Path.{_≡_}
+use mathlib.Core.Logic.{_↔_}
 use Prim.Native.Nat.{ℕ, suc, _^_, _≤_, _<_}
 use lib.ListN.{length, drop, getD, replicate}
+use Rattle.rules.specs.Calls.{begin-rule}
+use Rattle.rules.specs.Letters.{value}
 use Rattle.rules.specs.Limits.{Text-BYTES, Text-GAP-DIGITS, Text-QUORUM-DIGITS}
-use Rattle.rules.specs.Lists.{each}
+use Rattle.rules.specs.Lists.{each, joined}
+use Rattle.rules.specs.Refusals.{first}
 use Rattle.rules.specs.Template.{none}
-use Rattle.rules.specs.Text.{lines, unended, line, decimal, template-text}
+use Rattle.rules.specs.Text.{lines, unended, line, decimal, template-text, parsed, malformed, parse-number, parse-components, template-of, text-checks, parse-template, print-refused, print-told, print-rule}
+use Rattle.rules.specs.Told.{fine, refused}
 use Rattle.rules.specs.declared.Component.{Component}
+use Rattle.rules.specs.declared.Profile.the-variants.{Exact}
 
 -- LINES. A text that does not hold byte b
 abbrev pub Without : ℕ → List ℕ → Type 0
@@ -83,3 +89,34 @@ pub record Reads (input : List ℕ) (cs : List Component) (quorum : ℕ) (ss : L
   pub writable : Writable cs
   pub few-digits : quorum < 10 ^ Text-QUORUM-DIGITS
   pub no-end-within : WithoutAll 10 ss
+
+-- WHAT THE PAPER SAYS OF THE INPUT: what is read of it, what is refused, and what is printed
+pub record TextRefused : Type 0 where
+  -- an input is its lines, each ended by byte 10, and what follows the last of them, with no byte 10 in any; and it is so in one
+  -- way only
+  pub in-lines : (input : List ℕ) (ls : List (List ℕ)) (rest : List ℕ) → Lined input ls rest ↔ ((ls ≡ lines input) × (rest ≡ unended input))
+  -- a number has 1 to so many digits, with no leading zero but 0 itself; any other text is malformed
+  pub no-number : (most : ℕ) (text : List ℕ) → (parse-number most text ≡ malformed) ↔ (NumberText most text → ⊥)
+  -- a text of so many digits is read as the number below that power of ten of which it is the decimal text
+  pub number : (most : ℕ) (text : List ℕ) (n : ℕ) → 1 ≤ most → most ≤ 20 → (parse-number most text ≡ parsed n) ↔ ((text ≡ decimal n) × (n < 10 ^ most))
+  -- template text is runs of N with [l,u] between: a run, and for each later component a [ and its text, l,u] and its run
+  pub runs : (c : Component) (cs : List Component) → template-text (c ∷ cs) ≡ replicate (c .length) 78 ++ each (λ p. 91 ∷ p) (map component-text cs)
+  -- a line is read as the components that it is the text of, if they have at least one N each, numbers of 1 to 3 digits, and no
+  -- allowance, which text does not tell
+  pub components : (text : List ℕ) (cs : List Component) → (parse-components text ≡ parsed cs) ↔ ((text ≡ template-text cs) × Writable cs × Unmixed cs)
+  -- so the template that is read asks for an exact search
+  pub exact : (input : List ℕ) → parse-template input .profile ≡ Exact
+  -- and a line that is the text of none is malformed
+  pub no-components : (text : List ℕ) → (parse-components text ≡ malformed) ↔ (TemplateText text → ⊥)
+  -- an input is refused with 18 and the number of its lowest bad line: too long (0), the first or second malformed or missing,
+  -- or the last without its end
+  pub lowest-line : (input : List ℕ) (n p : ℕ) → (first (text-checks input) ≡ refused n p) ↔ ((n ≡ 18) × LowestBad input p)
+  -- it passes exactly if no line is bad
+  pub no-line : (input : List ℕ) → (first (text-checks input) ≡ fine) ↔ ((p : ℕ) → BadLine input p → ⊥)
+  -- and that is exactly if it is the text of a template, a quorum and sequences
+  pub passes : (input : List ℕ) → (first (text-checks input) ≡ fine) ↔ ((cs : List Component) × (quorum : ℕ) × (ss : List (List ℕ)) × Reads input cs quorum ss)
+  -- 18 comes before all others
+  pub before-all : (input : List ℕ) (p : ℕ) → LowestBad input p → print-rule input ≡ print-refused 18 p
+  -- and else what is printed is what a search with that template and quorum over these sequences tells
+  pub searched : (input : List ℕ) (cs : List Component) (quorum : ℕ) (ss : List (List ℕ)) → Reads input cs quorum ss
+      → print-rule input ≡ print-told (map (map value) ss) (begin-rule (joined ss) (map length ss) (template-of cs) quorum)

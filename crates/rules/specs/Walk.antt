@@ -3,7 +3,8 @@
 use mathlib.Core.Bool.{Bool, true, false, _&&_}
 use mathlib.Core.List.{List, [], _∷_, _++_, map}
 use mathlib.Core.Path.{_≡_}
-use Prim.Native.Nat.{ℕ, zero, suc, _+_, _-_, _*_, _/_, _%_, _^_, _≤_}
+use mathlib.Core.Logic.{_⊎_}
+use Prim.Native.Nat.{ℕ, zero, suc, _+_, _-_, _*_, _/_, _%_, _^_, _≤_, _<_}
 use lib.Dec.{ltb, eqb}
 use lib.ListN.{length}
 use Rattle.rules.specs.Lists.{run, if, keep, each}
@@ -134,3 +135,13 @@ module _ (W : Walk) where
   unfoldable pub goods : ℕ → ℕ
   goods zero = 0
   goods (suc k) = goods k + length (keep (good k) (run 0 (base ^ k)))
+
+-- p is a candidate
+pub record Candidate (W : Walk) (p : Place) : Type 0 where
+  pub most : p .letters ≤ W .depth
+  pub below : p .number < W .base ^ p .letters
+  pub is : candidate W (p .letters) (p .number) ≡ true
+
+-- a place that the uninterrupted search passes through: a candidate, or the ended place
+abbrev pub Passing : Walk → Place → Type 0
+Passing W p = (p ≡ ended-place) ⊎ Candidate W p

@@ -9,7 +9,7 @@ use lib.Seq.{take-at}
 use Rattle.rules.specs.Calls.{trimmed-search, save-rule, restore-rule}
 use Rattle.rules.specs.Lists.{put}
 use Rattle.rules.specs.Refusals.{first, check17, set-checks, search-checks, save-checks}
-use Rattle.rules.specs.Saved.{bytes}
+use Rattle.rules.specs.Saved.{bytes, Bytes}
 use Rattle.rules.specs.Told.{fine, toldSaved, toldBegun}
 use Rattle.rules.specs.declared.Begun.{Begun}
 use Rattle.rules.specs.declared.Begun.the-variants as begun
@@ -17,7 +17,6 @@ use Rattle.rules.specs.declared.Refusal.the-variants.{SavedSize}
 use Rattle.rules.specs.declared.Saved.{Saved}
 use Rattle.rules.specs.declared.Saved.the-variants as saved
 use Rattle.rules.specs.declared.Search.{Search}
-use Rattle.rules.proofs.LowFirst.{Bytes}
 use Rattle.rules.proofs.OneAnswer.{Keeps, same-saved, same-begun}
 use Rattle.rules.proofs.Saves.{written-gives, restore-saved, restored-passes, save-restored, saved-cut}
 use Rattle.rules.proofs.Sound.{search-sound, save-fine}

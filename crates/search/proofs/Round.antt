@@ -17,14 +17,13 @@ use Rattle.rules.specs.Sequences.{sequences}
 use Rattle.rules.specs.Support.{support, weight, frequent, parts, valid}
 use Rattle.rules.specs.Template.{size}
 use Rattle.rules.specs.Told.{gives, toldAnswer, toldLeg}
-use Rattle.rules.specs.Walk.{walk-in, place, next, motif, walk-of}
+use Rattle.rules.specs.Walk.{walk-in, place, next, motif, walk-of, Candidate, Passing}
 use Rattle.rules.specs.declared.Leg.{Leg}
 use Rattle.rules.specs.declared.LegAnswer.{LegAnswer}
 use Rattle.rules.specs.declared.Place.{Place}
 use Rattle.rules.specs.declared.Search.{Search}
-use Rattle.rules.proofs.Candidates.{Candidate}
 use Rattle.rules.proofs.EachKind.{frequent-support}
-use Rattle.rules.proofs.Passing.{Passing, candidate-here, passing-next}
+use Rattle.rules.proofs.Passing.{candidate-here, passing-next}
 use Rattle.rules.proofs.Places.{sound-passing, passing-rule}
 use Rattle.rules.proofs.Searches.{walk-lawful}
 use Rattle.rules.proofs.Sound.{SoundSearch}

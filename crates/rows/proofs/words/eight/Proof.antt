@@ -1,7 +1,7 @@
 -- Each byte is put past those before it, and no two have a bit in common.
 use borrow.Author.Needs.{needs}
 use native.Mathlib.Omega.{arith}
-use Rattle.rules.proofs.LowFirst.{Bytes}
+use Rattle.rules.specs.Saved.{Bytes}
 use Rattle.rows.proofs.Gathered.{read-first, read-more}
 use Rattle.rows.proofs.words.eight.Statement.{statement}
 use Rattle.rows.proofs.words.eight.Tie as tie

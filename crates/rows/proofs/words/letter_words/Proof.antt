@@ -5,7 +5,7 @@ use Prim.Native.Nat.{ℕ, _+_, _-_, _/_, _%_, _≤_}
 use native.Mathlib.Nat.{div-one}
 use native.Mathlib.Omega.{arith}
 use lib.ListN.{length, length-take, length-drop}
-use Rattle.rules.proofs.LowFirst.{Bytes}
+use Rattle.rules.specs.Saved.{Bytes}
 use Rattle.rows.proofs.Planes.{Plane, plane-end, plane-one, plane-eight, plane-whole, bases-all}
 use Rattle.rows.proofs.words.letter_words.Statement.{statement}
 use Rattle.rows.proofs.words.letter_words.Tie as tie

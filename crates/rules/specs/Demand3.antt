@@ -1,27 +1,23 @@
--- DEMAND 3: legs, saves and restores come to what an uninterrupted search comes to. The statements stand in front, the proofs behind
--- them; `Demands` passes them on.
+-- The third of the user's three demands, of the rules of the public calls (Calls.antt), which the calls promise to keep.
+-- proofs/Demands.antt proves it.
 use mathlib.Core.Path.{_≡_}
 use mathlib.Core.Logic.{_↔_}
 use mathlib.Core.List.{List, _++_}
 use Prim.Native.Nat.{ℕ, _≤_, _<_}
 use lib.ListN.{length, take}
-use Rattle.rules.specs.Calls.{begin-rule, trimmed-search, leg-rule, save-rule, restore-rule}
-use Rattle.rules.specs.Legs.{Stop, ended}
+use Rattle.rules.specs.Calls.{begin-rule, leg-rule, save-rule, restore-rule, trimmed-search}
+use Rattle.rules.specs.Legs.{ended, Stop}
 use Rattle.rules.specs.Refusals.{first, search-checks}
 use Rattle.rules.specs.Relay.{whole-steps, Complete, Lent, Roomy, Ample, relay, RefusedAsCut, WellFormed, Through}
-use Rattle.rules.specs.Saved.{bytes, read-search}
+use Rattle.rules.specs.Saved.{bytes, read-search, Bytes}
 use Rattle.rules.specs.Sequences.{sequences}
 use Rattle.rules.specs.Told.{gives, fine}
 use Rattle.rules.specs.Walk.{ended-place, walk-of, from, listed}
 use Rattle.rules.specs.declared.Place.{Place}
 use Rattle.rules.specs.declared.Search.{Search}
 use Rattle.rules.specs.declared.Template.{Template}
-use Rattle.rules.proofs.Accepts.{restore-accepts}
-use Rattle.rules.proofs.Completes.{relay-complete, relay-ends, relay-answers}
-use Rattle.rules.proofs.LowFirst.{Bytes}
-use Rattle.rules.proofs.Relayed.{leg-between}
-use Rattle.rules.proofs.Saves.{restore-saved, ended-restores, save-restored, restored-cut, saved-cut}
 
+-- DEMAND 3: legs, saves and restores come to what an uninterrupted search comes to.
 pub record Demand3 : Type 0 where
   -- the lists of a new search's legs, laid end to end, are demand 2's list once one answers ended, and the steps add up
   pub end-to-end : (letters lengths : List ℕ) (t : Template) (quorum : ℕ) (s : Search) (gs : List Lent) → begin-rule letters lengths t quorum ≡ gives s
@@ -51,18 +47,3 @@ pub record Demand3 : Type 0 where
   pub cut-short : (letters lengths : List ℕ) (s : Search) (out : List ℕ) (k n : ℕ) → (save-rule letters lengths s out) .told ≡ gives k → n < k
       → RefusedAsCut (take n ((save-rule letters lengths s out) .out))
   pub cut-accepted : (letters lengths bs : List ℕ) (s : Search) (n : ℕ) → restore-rule letters lengths bs ≡ gives s → n < length bs → RefusedAsCut (take n bs)
-
-pub demand3 : Demand3
-demand3 =
-    record {
-      end-to-end = λ letters lengths t quorum s gs b. relay-complete letters lengths t quorum s b gs;
-      ends = λ letters lengths t quorum s gs b. relay-ends letters lengths t quorum s b gs;
-      answers = λ letters lengths t quorum s gs b. relay-answers letters lengths t quorum s b gs;
-      between = leg-between;
-      accepts = restore-accepts;
-      restores = restore-saved;
-      ended-restores = ended-restores;
-      same-bytes = λ letters lengths bs s b e. save-restored letters lengths bs s e b;
-      cut-short = saved-cut;
-      cut-accepted = λ letters lengths bs s n e. restored-cut letters lengths bs s e n;
-    }
