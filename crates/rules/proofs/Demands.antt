@@ -32,7 +32,7 @@ use Rattle.rules.proofs.Reading.{handed-stays, none-stays, read-whole, 
 use Rattle.rules.proofs.Refused.{each-refusal}
 use Rattle.rules.proofs.Relayed.{leg-between}
 use Rattle.rules.proofs.Searches.{walk-lawful, list-rises, list-holds, list-spells}
-use Rattle.rules.proofs.Saves.{written-gives, restore-saved, ended-restores, save-restored, restored-cut, saved-cut}
+use Rattle.rules.proofs.Saves.{written-gives, saves, saved-restores, ended-restores, saved-again, restored-cut, saved-cut}
 use Rattle.rules.proofs.Stays.{save-stays, recover-stays, join-stays, leg-stays}
 use Rattle.rules.proofs.TextRefused.{text-refused}
 use Rattle.rules.proofs.Tried.{passes-candidates, passes-once, passes-counted}
@@ -113,9 +113,10 @@ demand3 =
       answers = λ letters lengths t quorum s gs b. relay-answers letters lengths t quorum s b gs;
       between = leg-between;
       accepts = restore-accepts;
-      restores = restore-saved;
+      saves = saves;
+      restores = saved-restores;
       ended-restores = ended-restores;
-      same-bytes = λ letters lengths bs s b e. save-restored letters lengths bs s e b;
+      same-bytes = saved-again;
       cut-short = saved-cut;
       cut-accepted = λ letters lengths bs s n e. restored-cut letters lengths bs s e n;
     }
