@@ -1,6 +1,5 @@
--- WHAT THE PROGRAM PRINTS: its pages, laid end to end, are what its rule says (`print-rule` of the rules' Text). The statement
--- stands in front, the proof behind it. `pages::next` promises that it leaves each page at the front of the buffer that is
--- written out, and answers what is left after it.
+-- WHAT THE PROGRAM PRINTS (specs/Program.antt), proved: a page and the text of what is left after it are the text of what was left before
+-- it, and after as many pages as there is to print nothing is left.
 use mathlib.Core.Path.{_≡_, refl, sym, ap, _∙_}
 use mathlib.Core.List.{List, _++_, append-assoc, append-nil}
 use Prim.Native.Nat.{ℕ, zero, suc, _≤_}
@@ -25,23 +24,9 @@ use Rattle.motifs.specs.declared.pages.Left.the-variants as left
 use Rattle.motifs.specs.Input.{InputRule, input-told, input-rule}
 use Rattle.motifs.specs.Left.{nothing, rows, at-first, opening}
 use Rattle.motifs.specs.Pages.{print-rows, page-of, left-after, pages, left-at, text-left, Goes, Ready}
+use Rattle.motifs.specs.Program.{pages-of, left-of, Program}
 use Rattle.motifs.proofs.Laid.{amount, page-then, ready-after, less-after}
 use Rattle.motifs.proofs.Reading.{declined, sound, fronts-are}
-
--- the first n pages of an input, laid end to end, and what is left after them
-abbrev pub pages-of : List ℕ → ℕ → List ℕ
-pages-of input n = pages (parse-letters input) (parse-lengths input) n (opening (input-told input))
-
-abbrev pub left-of : List ℕ → ℕ → Left
-left-of input n = left-at (parse-letters input) (parse-lengths input) n (opening (input-told input))
-
-pub record Program : Type 0 where
-  -- some number of pages, laid end to end, is the whole printout, and nothing is left after them
-  pub whole : (input : List ℕ) → (n : ℕ) × (left-of input n ≡ nothing) × (pages-of input n ≡ print-rule input)
-  -- and the first n pages, whatever n, are the front of the printout: the rest of it is the text of what is left after them
-  pub front : (input : List ℕ) (n : ℕ) → print-rule input ≡ pages-of input n ++ text-left (parse-letters input) (parse-lengths input) (left-of input n)
-
--- ---- THE PROOF
 
 module _ (letters lengths : List ℕ) where
   -- the first n pages, and the text of what is left after them

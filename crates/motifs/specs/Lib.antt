@@ -2,3 +2,4 @@
 pub mod Left
 pub mod Pages
 pub mod Input
+pub mod Program

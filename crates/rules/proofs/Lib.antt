@@ -1,4 +1,4 @@
--- The laws of the definitions, in the order in which they build on each other. `Demands` is the file to read first.
+-- The laws of the definitions, in the order in which they build on each other. `Demands` proves the user's three demands from them.
 pub mod Tests
 pub mod Lists
 pub mod All

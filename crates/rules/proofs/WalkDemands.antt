@@ -13,8 +13,7 @@ use Rattle.rules.specs.Sound.{SoundTemplate}
 use Rattle.rules.specs.Support.{counted, allowed-in, valid-in, parts-in}
 use Rattle.rules.specs.Template.{size}
 use Rattle.rules.specs.Walk.{walk-in, Walk, Lawful, motif, spelled, candidate, motifs, Candidate}
-use Rattle.rules.specs.WalkDemands.{WalkDemands, ProfileDemands}
-use Rattle.rules.specs.declared.Component.{Component}
+use Rattle.rules.specs.WalkDemands.{WalkDemands, ProfileDemands, EveryKind}
 use Rattle.rules.specs.declared.Place.{Place}
 use Rattle.rules.specs.declared.Template.{Template}
 use Rattle.rules.proofs.Legs.{leg-law}
@@ -93,12 +92,11 @@ module _ (P : Profile) (proper : Proper P) (t : Template) (sound : SoundTemplate
   pub profile-demands : ProfileDemands P t quorum ss
   profile-demands = record { walk = walk-demands (walk-in P t quorum ss) (lawful-in P proper t quorum ss sound); list = profile-list }
 
--- exact, mixed letters, repeats, substitutions
-pub each-kind : (f : Component → ℕ) (t : Template) → SoundTemplate t → (quorum : ℕ) (ss : List (List ℕ))
-    → ProfileDemands exactly t quorum ss × ProfileDemands (mixed f) t quorum ss × ProfileDemands repeated t quorum ss × ProfileDemands (substituted f) t quorum ss
-each-kind f t o quorum ss = (
-  profile-demands exactly exactly-proper t o quorum ss,
-  profile-demands (mixed f) (mixed-proper f) t o quorum ss,
-  profile-demands repeated repeated-proper t o quorum ss,
-  profile-demands (substituted f) (substituted-proper f) t o quorum ss,
-)
+pub each-kind : EveryKind
+each-kind =
+    record {
+      exact = profile-demands exactly exactly-proper;
+      mixed-letters = λ f. profile-demands (mixed f) (mixed-proper f);
+      repeats = profile-demands repeated repeated-proper;
+      substitutions = λ f. profile-demands (substituted f) (substituted-proper f);
+    }

@@ -1,4 +1,4 @@
--- The paper as definitions, in the order in which they build on each other.
+-- The paper as definitions, in the order in which they build on each other; and, in Demand1 to Demand3, what the user asks of them.
 pub mod Limits
 pub mod Lists
 pub mod Letters

@@ -8,10 +8,12 @@ use Prim.Native.Nat.{ℕ, _≤_, _<_, _^_}
 use lib.ListN.{length}
 use Rattle.rules.specs.Legs.{ended, Grant, AmpleGrants, leg, legs, Passed}
 use Rattle.rules.specs.Order.{Rising}
-use Rattle.rules.specs.Profile.{Profile}
+use Rattle.rules.specs.Profile.{Profile, exactly, mixed, repeated, substituted}
+use Rattle.rules.specs.Sound.{SoundTemplate}
 use Rattle.rules.specs.Support.{counted, parts-in, valid-in}
 use Rattle.rules.specs.Template.{size}
 use Rattle.rules.specs.Walk.{walk-in, from, start, ended-place, listed, Walk, spelled, motifs, tries, Passing}
+use Rattle.rules.specs.declared.Component.{Component}
 use Rattle.rules.specs.declared.Place.{Place}
 use Rattle.rules.specs.declared.Template.{Template}
 
@@ -39,3 +41,10 @@ pub record WalkDemands (W : Walk) : Type 0 where
 pub record ProfileDemands (P : Profile) (t : Template) (quorum : ℕ) (ss : List (List ℕ)) : Type 0 where
   pub walk : WalkDemands (walk-in P t quorum ss)
   pub list : (m : ℕ) → List·Memᴰ m (motifs (walk-in P t quorum ss)) ↔ ((valid-in P t (size t) m ≡ true) × (quorum ≤ counted (P .basis) (parts-in P t (size t) m) ss))
+
+-- EVERY KIND OF SEARCH keeps these: exact, of mixed letters, of repeats and of substitutions, whatever number f allows a component
+pub record EveryKind : Type 0 where
+  pub exact : (t : Template) → SoundTemplate t → (quorum : ℕ) (ss : List (List ℕ)) → ProfileDemands exactly t quorum ss
+  pub mixed-letters : (f : Component → ℕ) (t : Template) → SoundTemplate t → (quorum : ℕ) (ss : List (List ℕ)) → ProfileDemands (mixed f) t quorum ss
+  pub repeats : (t : Template) → SoundTemplate t → (quorum : ℕ) (ss : List (List ℕ)) → ProfileDemands repeated t quorum ss
+  pub substitutions : (f : Component → ℕ) (t : Template) → SoundTemplate t → (quorum : ℕ) (ss : List (List ℕ)) → ProfileDemands (substituted f) t quorum ss
