@@ -20,11 +20,13 @@ fail() {
 }
 
 # The file, of those in the folders `specs` or `proofs`, that has the one line that matches a pattern: $1 the folder, $2 the pattern, $3 what
-# is looked for.
+# is looked for. It has to be one that its folder's Lib.antt declares, since no other is checked.
 the_file() {
     grep -r -E -e "$2" --include='*.antt' crates/*/"$1" >"$work/found" || :
     [ "$(grep -c . "$work/found")" -eq 1 ] || fail "$3 stands $(grep -c . "$work/found") times in $1, and not once"
-    cut -d : -f 1 "$work/found"
+    where=$(cut -d : -f 1 "$work/found")
+    grep -q -x -e "pub mod $(basename "$where" .antt)" "$(dirname "$where")/Lib.antt" || fail "$where, with $3, is not declared in Lib.antt"
+    printf '%s\n' "$where"
 }
 
 # Quotes the files in which these definitions stand, without their imports, each file once.
