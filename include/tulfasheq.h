@@ -123,8 +123,8 @@ enum tulfasheq_stop {
 };
 
 /* Begins a search for the motifs of a template that at least `quorum` of the sequences hold, and saves it to the front of `saved`.
- * *size is the save's length: pass that many bytes to the calls below. Refuses, in this order: 1 to 4, 21 (the profile), 5 to 8, 24,
- * 9, 17. */
+ * *size is the save's length: pass that many bytes to the calls below. Refuses, in this order: 1 to 5, 21 (the profile), 6, 7, 8,
+ * 24, 9, 17. */
 uint64_t tulfasheq_begin(
     const uint8_t *letters, size_t letters_len,
     const uint32_t *lengths, size_t lengths_len,
@@ -167,7 +167,7 @@ uint64_t tulfasheq_restore(
     uint8_t *next_letters, uint64_t *next_number);
 
 /* Saves a search given by what tulfasheq_restore tells to the front of `out`. *size is the save's length. Refuses, in this order:
- * 1 to 4, 21 (the profile), 5, 23, 6, 7, 8, 24, 12, 9, 13, 17. */
+ * 1 to 5, 21 (the profile), 23, 6, 7, 8, 24, 12, 9, 13, 17. */
 uint64_t tulfasheq_save(
     const uint8_t *letters, size_t letters_len,
     const uint32_t *lengths, size_t lengths_len,
@@ -181,8 +181,8 @@ uint64_t tulfasheq_save(
 
 /* Lists the occurrences of a motif, from row `first` of their list on, counted from 0: rows of TULFASHEQ_ROW(components) numbers, a
  * sequence's number and the start of each component, both from 1, as many whole rows as `out` has room for. *rows is how many were
- * written, *length how many the list has; the rest of `out` stays. Refuses, in this order: 1 to 4, 21 (the profile), 5 to 8, 24, 14,
- * 15. */
+ * written, *length how many the list has; the rest of `out` stays. Refuses, in this order: 1 to 5, 21 (the profile), 6, 7, 8, 24,
+ * 14, 15. */
 uint64_t tulfasheq_recover(
     const uint8_t *letters, size_t letters_len,
     const uint32_t *lengths, size_t lengths_len,

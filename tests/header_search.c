@@ -169,6 +169,40 @@ static void recover(void) {
     }
 }
 
+/* A profile that is none, in each call that takes one: a byte that is no letter and a number of components come before it, and all
+ * that is wrong besides with a component of length 0, a quorum of 0 and a motif 99 after it. */
+static void none(void) {
+    static const uint8_t other[12] = {'A', 'C', 'N', 'T', 'A', 'C', 'A', 'G', 'G', 'T', 'A', 'T'};
+    static const uint16_t empty[3] = {0, 0, 0}, allowances[1] = {0};
+    static const struct {
+        const uint8_t *letters;
+        uint16_t components;
+        uint64_t answer, told[2]; /* place, size or rows */
+    } cases[] = {
+        {other, 0, 4, {2, 0}}, {other, 1, 4, {2, 0}}, {letters, 0, 5, {0, 0}}, {letters, 7, 5, {0, 0}}, {letters, 1, 21, {0, 0}},
+    };
+    for EACH (cases) {
+        uint8_t out[ROOM] = {UNTOUCHED};
+        uint32_t found[16] = {SEVENS};
+        uint64_t begun[2] = {7, 7}, saved[2] = {7, 7}, listed[2] = {7, 7}, length = 7;
+        CHECK(tulfasheq_begin(CASE.letters, 12, lengths, 3, 2, CASE.components, empty, 3, allowances, 1, 0, out, ROOM, &begun[0],
+                              &begun[1]),
+              CASE.answer);
+        CHECK(tulfasheq_save(CASE.letters, 12, lengths, 3, 2, CASE.components, empty, 3, allowances, 1, 0, 3, 12, 2, 99, out, ROOM,
+                             &saved[0], &saved[1]),
+              CASE.answer);
+        CHECK(tulfasheq_recover(CASE.letters, 12, lengths, 3, 2, CASE.components, empty, 3, allowances, 1, 99, 0, found, 16,
+                                &listed[0], &listed[1], &length),
+              CASE.answer);
+        CHECK_SAME(begun, CASE.told);
+        CHECK_SAME(saved, CASE.told);
+        CHECK_SAME(listed, CASE.told);
+        CHECK(length, 0);
+        CHECK_ARRAY(out, UNTOUCHED);
+        CHECK_ARRAY(found, SEVENS);
+    }
+}
+
 /* What the letters A C G T R Y K M S W B D H V stand for: 1 for A, 2 for C, 4 for G and 8 for T. 14 and 15 are no letters. */
 static void meaning(void) {
     static const uint32_t bases[16] = {1,     2,     4,     8,         1 + 4,     2 + 8,     4 + 8,
@@ -194,6 +228,7 @@ int main(void) {
     restore();
     save();
     recover();
+    none();
     meaning();
     return report();
 }

@@ -17,12 +17,12 @@ pub written-outcome : {A B : Type 0} (read : Told A → B) (w : Written A) {r : 
     → outcome r out ≡ outcome-of read w
 written-outcome read w e f g = rw (e, f, g)
 
--- a new search, which is saved
-pub begun-outcome : (letters lengths : List ℕ) (v : Verdict) (t : Template) (quorum : ℕ) (saved : List ℕ) {w : Verdict} {u : Template} {b : Told Search} {r : Count} {a : Told ℕ} {out : List ℕ}
-    → w ≡ v → u ≡ t → b ≡ on-refusal w refuses (begin-rule letters lengths u quorum) → r ≡ count-told a
+-- a new search, which is saved, once its template was checked
+pub begun-outcome : (letters lengths : List ℕ) (v : Template → Verdict) (t : Template) (quorum : ℕ) (saved : List ℕ) {w : Verdict} {u : Template} {b : Told Search} {r : Count} {a : Told ℕ} {out : List ℕ}
+    → w ≡ v u → u ≡ t → b ≡ on-refusal w refuses (begin-rule letters lengths u quorum) → r ≡ count-told a
     → (a ≡ (save-begun letters lengths b saved) .told) × (out ≡ (save-begun letters lengths b saved) .out)
-    → outcome r out ≡ outcome-of count-told (save-begun letters lengths (on-refusal v refuses (begin-rule letters lengths t quorum)) saved)
-begun-outcome letters lengths v t quorum saved d e f g h = rw (← d, ← e, ← f) (written-outcome count-told _ g (h .0) (h .1))
+    → outcome r out ≡ outcome-of count-told (save-begun letters lengths (on-refusal (v t) refuses (begin-rule letters lengths t quorum)) saved)
+begun-outcome letters lengths v t quorum saved d e f g h = rw (← e, ← d, ← f) (written-outcome count-told _ g (h .0) (h .1))
 
 -- a restore: the numbers, the shape and the allowances
 pub restored-outcome : (u : Told Search) (shape allowances : List ℕ) {r : Restored} {t : Told Search} {xs ys : List ℕ} → r ≡ search-told t → t ≡ u → (xs ≡ table-after shape-of t shape) × (ys ≡ table-after allowances-of t allowances)

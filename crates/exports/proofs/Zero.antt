@@ -85,9 +85,12 @@ unfolding check17
 room-numbered n out = if-numbered (ltb (length out) n) 17 0 (omega arith)
 
 module _ (letters lengths : List ℕ) where
-  profile-numbered : (profile : ℕ) → Numbered (profile-check letters lengths profile)
+  profile-numbered : (profile : ℕ) (t : Template) → Numbered (profile-check letters lengths profile t)
   unfolding profile-check Numbered
-  profile-numbered profile = fine-numbered (leb profile Profile-LAST) _ (two-numbered (first (set-checks letters lengths)) (refused 21 0) (all-numbered _ (set-numbered letters lengths)) (omega arith))
+  profile-numbered profile t =
+      fine-numbered (leb profile Profile-LAST) _
+      (two-numbered (first (set-checks letters lengths)) (check5 t else refused 21 0) (all-numbered _ (set-numbered letters lengths))
+      (two-numbered (check5 t) (refused 21 0) (template-numbered t .0) (omega arith)))
 
   new-numbered : (t : Template) (quorum : ℕ) → AllNumbered (new-checks letters lengths t quorum)
   unfolding new-checks check9
@@ -161,14 +164,14 @@ checked-zero (refused n p) vs a xs out h k = (λ e. absurd (omega (arith, h, e))
 module _ (letters lengths : List ℕ) where
   pub begin-zero : (profile components : ℕ) (shape allowances : List ℕ) (quorum : ℕ) (saved : List ℕ) → let t = template-of profile components shape allowances in
       ((begin-outcome letters lengths profile components shape allowances quorum saved) .numbers .number ≡ 0)
-      ↔ (first (profile-check letters lengths profile ∷ new-checks letters lengths t quorum ++ (check17 (length (bytes (begun letters lengths t quorum))) saved ∷ [])) ≡ fine)
+      ↔ (first (profile-check letters lengths profile t ∷ new-checks letters lengths t quorum ++ (check17 (length (bytes (begun letters lengths t quorum))) saved ∷ [])) ≡ fine)
   unfolding begin-outcome count-told
   begin-zero profile components shape allowances quorum saved =
       let t = template-of profile components shape allowances in
       let bs = bytes (begun letters lengths t quorum) in
       let vs = new-checks letters lengths t quorum ++ (check17 (length bs) saved ∷ []) in
-      rw (checked-saves letters lengths (profile-check letters lengths profile) t quorum saved)
-      (checked-zero (profile-check letters lengths profile) vs (length bs) bs saved (profile-numbered letters lengths profile)
+      rw (checked-saves letters lengths (profile-check letters lengths profile t) t quorum saved)
+      (checked-zero (profile-check letters lengths profile t) vs (length bs) bs saved (profile-numbered letters lengths profile t)
       (both-numbered (new-checks letters lengths t quorum) (check17 (length bs) saved ∷ []) (new-numbered letters lengths t quorum) (room-numbered _ saved, tt)))
 
   module _ (saved : List ℕ) (budget : ℕ) (motifs supports weights : List ℕ) where
@@ -189,17 +192,17 @@ module _ (letters lengths : List ℕ) where
   restore-zero saved shape allowances = unless-zero _ _ (all-numbered _ (restore-numbered letters lengths saved))
 
   pub save-zero : (profile : ℕ) (s : Search) (out : List ℕ)
-      → ((save-outcome letters lengths profile s out) .numbers .number ≡ 0) ↔ (first (profile-check letters lengths profile ∷ save-checks letters lengths s out) ≡ fine)
+      → ((save-outcome letters lengths profile s out) .numbers .number ≡ 0) ↔ (first (profile-check letters lengths profile (s .template) ∷ save-checks letters lengths s out) ≡ fine)
   unfolding save-outcome count-told save-rule
-  save-zero profile s out = checked-zero _ (save-checks letters lengths s out) _ _ out (profile-numbered letters lengths profile) (save-numbered letters lengths s out)
+  save-zero profile s out = checked-zero _ (save-checks letters lengths s out) _ _ out (profile-numbered letters lengths profile (s .template)) (save-numbered letters lengths s out)
 
   pub recover-zero : (profile components : ℕ) (shape allowances : List ℕ) (motif first-row : ℕ) (out : List ℕ) → let t = template-of profile components shape allowances in
       ((recover-outcome letters lengths profile components shape allowances motif first-row out) .numbers .number ≡ 0)
-      ↔ (first (profile-check letters lengths profile ∷ recover-checks letters lengths t motif first-row) ≡ fine)
+      ↔ (first (profile-check letters lengths profile t ∷ recover-checks letters lengths t motif first-row) ≡ fine)
   unfolding recover-outcome page-told recover-rule
   recover-zero profile components shape allowances motif first-row out =
       let t = template-of profile components shape allowances in
-      checked-zero _ (recover-checks letters lengths t motif first-row) _ _ out (profile-numbered letters lengths profile) (recover-numbered letters lengths t motif first-row)
+      checked-zero _ (recover-checks letters lengths t motif first-row) _ _ out (profile-numbered letters lengths profile t) (recover-numbered letters lengths t motif first-row)
 
 pub join-zero : (xs ys : List ℕ) (head low high : ℕ) (out : List ℕ) → ((join-outcome xs ys head low high out) .numbers .number ≡ 0) ↔ (first (join-checks xs ys head low high out) ≡ fine)
 unfolding join-outcome count-told join-rule

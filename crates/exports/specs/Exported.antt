@@ -7,7 +7,7 @@ use Rattle.rules.specs.Calls.{on-refusal, Written, begin-rule, leg-rule, save-r
 use Rattle.rules.specs.Fasta.{reader-rule}
 use Rattle.rules.specs.Limits.{Profile-LAST}
 use Rattle.rules.specs.Lists.{if}
-use Rattle.rules.specs.Refusals.{_else_, first, set-checks}
+use Rattle.rules.specs.Refusals.{_else_, first, check5, set-checks}
 use Rattle.rules.specs.Saved.{bytes}
 use Rattle.rules.specs.Told.{Verdict, fine, refused, Told, gives, refuses}
 use Rattle.rules.specs.Walk.{place}
@@ -42,9 +42,9 @@ abbrev pub search-of : ℕ → ℕ → List ℕ → List ℕ → ℕ → ℕ →
 search-of profile components shape allowances quorum sequences total letters number =
     record { template = template-of profile components shape allowances; quorum = quorum; set = record { sequences = sequences; letters = total }; place = place letters number }
 
--- THE PROFILE is a number here: one that is none is refused, with 21 and place 0, where 1 to 4 pass
-unfoldable pub profile-check : List ℕ → List ℕ → ℕ → Verdict
-profile-check letters lengths profile = if (leb profile Profile-LAST) fine (first (set-checks letters lengths) else refused 21 0)
+-- THE PROFILE is a number here: one that is none is refused, with 21 and place 0, where 1 to 5 pass, as a restore refuses it
+unfoldable pub profile-check : List ℕ → List ℕ → ℕ → Template → Verdict
+profile-check letters lengths profile t = if (leb profile Profile-LAST) fine (first (set-checks letters lengths) else check5 t else refused 21 0)
 
 -- what a save or a recovery comes to, unless it is
 abbrev pub checked-written : {A : Type 0} → Verdict → Written A → List ℕ → Written A
@@ -57,7 +57,7 @@ save-begun letters lengths begun out = on-told begun (λ n p. record { told = re
 unfoldable pub begin-outcome : List ℕ → List ℕ → ℕ → ℕ → List ℕ → List ℕ → ℕ → List ℕ → Outcome Count
 begin-outcome letters lengths profile components shape allowances quorum saved =
     let t = template-of profile components shape allowances in
-    outcome-of count-told (save-begun letters lengths (on-refusal (profile-check letters lengths profile) refuses (begin-rule letters lengths t quorum)) saved)
+    outcome-of count-told (save-begun letters lengths (on-refusal (profile-check letters lengths profile t) refuses (begin-rule letters lengths t quorum)) saved)
 
 -- LEG: the search is restored, and saved again at its new place
 pub record LegOutcome : Type 0 where
@@ -102,13 +102,13 @@ restore-outcome letters lengths saved shape allowances =
 -- SAVE
 unfoldable pub save-outcome : List ℕ → List ℕ → ℕ → Search → List ℕ → Outcome Count
 save-outcome letters lengths profile s out =
-    outcome-of count-told (checked-written (profile-check letters lengths profile) (save-rule letters lengths s out) out)
+    outcome-of count-told (checked-written (profile-check letters lengths profile (s .template)) (save-rule letters lengths s out) out)
 
 -- RECOVER
 unfoldable pub recover-outcome : List ℕ → List ℕ → ℕ → ℕ → List ℕ → List ℕ → ℕ → ℕ → List ℕ → Outcome Page
 recover-outcome letters lengths profile components shape allowances motif first out =
     let t = template-of profile components shape allowances in
-    outcome-of page-told (checked-written (profile-check letters lengths profile) (recover-rule letters lengths t motif first out) out)
+    outcome-of page-told (checked-written (profile-check letters lengths profile t) (recover-rule letters lengths t motif first out) out)
 
 -- JOIN
 unfoldable pub join-outcome : List ℕ → List ℕ → ℕ → ℕ → ℕ → List ℕ → Outcome Count

@@ -2,6 +2,7 @@
 // saved again, and its shape and allowances are told.
 use crate::shape;
 use crate::told::Stopped;
+use checks::check_count;
 use checks::check_set;
 use rules::Begun;
 use rules::Checked;
@@ -18,14 +19,20 @@ ghost use Rattle.exports.specs.Shape.{shape-of, allowances-of};
 ghost use Rattle.rules.specs.Calls.{on-refusal, begin-rule, save-rule, restore-rule, recover-rule};
 ghost use Rattle.rules.specs.Told.{gives, refuses, toldChecked, toldBegun, toldSaved, toldRecovered};
 
-// A number that is no profile's is refused where the sequences pass their checks.
-pub fn check_profile(letters: &[u8], lengths: &[u32], profile: u16) -> Checked
-    ensures { λ r. ⌜ toldChecked r ≡ profile-check (now (letters .entry)) (now (lengths .entry)) profile ⌝ }
+// A number that is no profile's is refused where the sequences and the number of components pass their checks.
+pub fn check_profile(
+    letters: &[u8],
+    lengths: &[u32],
+    profile: u16,
+    template: Template,
+) -> Checked
+    ensures { λ r. ⌜ toldChecked r ≡ profile-check (now (letters .entry)) (now (lengths .entry)) profile template ⌝ }
 {
     if Profile::is_number(profile as u64) {
         return Checked::Fine;
     }
-    check_set(letters, lengths).then(Checked::Refused(Refusal::SavedBlank(RecordNumber(0))))
+    let none = Checked::Refused(Refusal::SavedBlank(RecordNumber(0)));
+    check_set(letters, lengths).then(check_count(template).then(none))
 }
 
 // Begins a search, unless its profile was refused.

@@ -34,7 +34,7 @@ pub extern "C" fn tulfasheq_begin(
     ensures { λ r. ⌜ outcome (count r (now (place .exit)) (now (size .exit))) (now (saved .exit)) ≡ begin-outcome (now (letters .entry)) (now (lengths .entry)) profile components (now (shape .entry)) (now (allowances .entry)) quorum (now (saved .entry)) ⌝ }
 {
     let t = shape::read(profile, components, shape, allowances);
-    let checked = chain::check_profile(letters, lengths, profile);
+    let checked = chain::check_profile(letters, lengths, profile, t);
     let begun = chain::begin(letters, lengths, checked, t, quorum);
     let answer = chain::save_begun(letters, lengths, begun, saved);
     let told = Count::saved(answer);
@@ -134,7 +134,7 @@ pub extern "C" fn tulfasheq_save(
     ensures { λ r. ⌜ outcome (count r (now (place .exit)) (now (size .exit))) (now (out .exit)) ≡ save-outcome (now (letters .entry)) (now (lengths .entry)) profile (search-of profile components (now (shape .entry)) (now (allowances .entry)) quorum sequences total «next_letters» «next_number») (now (out .entry)) ⌝ }
 {
     let template = shape::read(profile, components, shape, allowances);
-    let checked = chain::check_profile(letters, lengths, profile);
+    let checked = chain::check_profile(letters, lengths, profile, template);
     let set = SequenceSet {
         sequences,
         letters: total,
@@ -175,7 +175,7 @@ pub extern "C" fn tulfasheq_recover(
     ensures { λ r. ⌜ outcome (page r (now (place .exit)) (now (rows .exit)) (now (length .exit))) (now (out .exit)) ≡ recover-outcome (now (letters .entry)) (now (lengths .entry)) profile components (now (shape .entry)) (now (allowances .entry)) motif first (now (out .entry)) ⌝ }
 {
     let t = shape::read(profile, components, shape, allowances);
-    let checked = chain::check_profile(letters, lengths, profile);
+    let checked = chain::check_profile(letters, lengths, profile, t);
     let told = Page::recovered(chain::recover(letters, lengths, checked, t, motif, first, out));
     *place = told.place;
     *rows = told.rows;
