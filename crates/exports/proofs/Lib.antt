@@ -6,3 +6,4 @@ pub mod Resaved
 pub mod Shapes
 pub mod Whole
 pub mod Zero
+pub mod ExportedLegs

@@ -2,3 +2,4 @@
 pub mod Shape
 pub mod Numbers
 pub mod Exported
+pub mod ExportedLegs

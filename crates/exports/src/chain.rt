@@ -20,12 +20,7 @@ ghost use Rattle.rules.specs.Calls.{on-refusal, begin-rule, save-rule, restore-
 ghost use Rattle.rules.specs.Told.{gives, refuses, toldChecked, toldBegun, toldSaved, toldRecovered};
 
 // A number that is no profile's is refused where the sequences and the number of components pass their checks.
-pub fn check_profile(
-    letters: &[u8],
-    lengths: &[u32],
-    profile: u16,
-    template: Template,
-) -> Checked
+pub fn check_profile(letters: &[u8], lengths: &[u32], profile: u16, template: Template) -> Checked
     ensures { λ r. ⌜ toldChecked r ≡ profile-check (now (letters .entry)) (now (lengths .entry)) profile template ⌝ }
 {
     if Profile::is_number(profile as u64) {
