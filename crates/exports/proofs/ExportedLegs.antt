@@ -3,7 +3,7 @@
 use mathlib.Core.Path.{_≡_, refl, sym, ap, _∙_}
 use mathlib.Core.Bool.{Bool, true, false, false≢true}
 use mathlib.Core.List.{List, [], _∷_, _++_, map, append-nil}
-use Prim.Native.Nat.{ℕ, _+_, _*_, _≤_, min}
+use Prim.Native.Nat.{ℕ, _+_, _≤_, min}
 use native.Mathlib.Omega.{arith}
 use lib.Dec.{eqb}
 use lib.ListN.{length, take, length-map}
@@ -12,7 +12,7 @@ use Rattle.rules.specs.Calls.{begun, stretch, begin-rule, LegRule, leg-rule, sa
 use Rattle.rules.specs.Legs.{Stop, ended, spent, full, ended?, leg}
 use Rattle.rules.specs.Lists.{if, each, sum}
 use Rattle.rules.specs.Refusals.{first, check17, new-checks, search-checks, save-checks}
-use Rattle.rules.specs.Relay.{whole-steps, Complete, Lent, Roomy, Ample, Relayed, stand, followed, relay}
+use Rattle.rules.specs.Relay.{whole-steps, Lent, Roomy, Ample, Relayed, stand, followed, relay}
 use Rattle.rules.specs.Saved.{bytes}
 use Rattle.rules.specs.Sequences.{sequences}
 use Rattle.rules.specs.Template.{trimmed}
@@ -34,7 +34,6 @@ use Rattle.rules.proofs.Verdicts.{first-cons, first-both}
 use Rattle.exports.specs.Exported.{LegOutcome, leg-of, leg-from, leg-outcome, begin-outcome, profile-check}
 use Rattle.exports.specs.ExportedLegs.{Asked, LegLent, AmpleLegs, legs-run, one-ended, NoneRefused, steps-in, rows-in, begin-asked, legs-asked, template-asked, Brought, ExportedLegs}
 use Rattle.exports.specs.Numbers.{stop-number, stopped, leg-told, count-told}
-use Rattle.exports.specs.Shape.{template-of}
 use Rattle.exports.proofs.Resaved.{after-sound, after-long}
 use Rattle.exports.proofs.Whole.{checked-saves, leg-restores}
 use Rattle.exports.proofs.Zero.{begin-zero}
@@ -49,13 +48,14 @@ record Same (k : ℕ) (os : List LegOutcome) (r : Relayed) : Type 0 where
   ended-too : one-ended os ≡ true → r .answer ≡ gives ended
   ends-too : (k ≡ 0 → ⊥) → r .answer ≡ gives ended → one-ended os ≡ true
 
+-- what says that it ended, did
 gives-ended : (st : Stop) → gives st ≡ gives ended → ended? st ≡ true
 gives-ended st e = let q : st ≡ ended = cc in rw q
 
 same-as : {k : ℕ} {os ps : List LegOutcome} {r u : Relayed} → os ≡ ps → r ≡ u → Same k ps u → Same k os r
 same-as e f m = rw (e, f) m
 
--- no leg: a search at a place of so many letters has not ended, unless it has none
+-- no leg: a search has not ended if its place has letters
 still-there : (k : ℕ) → (k ≡ 0 → ⊥) → gives (if (eqb k 0) ended spent) ≡ gives ended → ⊥
 still-there k z = go (eqb k 0) refl
   where
@@ -186,85 +186,68 @@ module _ (letters lengths buffer : List ℕ) where
       (relay-is g bs s e h (map lent gs) (x .0) (x .1))
       (same-on _ _ _ _ _ _ (s .place .letters) (b .place .letters) _ _ (relays gs (bytes b) b (left-restores g bs s e h) (omega (arith, h, left-long g bs s e h))) (x .0) (x .2))
 
--- A BEGIN THAT ANSWERS 0 writes the bytes of a new search, and these restore to it
-module _ (letters lengths : List ℕ) (profile components : ℕ) (shape allowances : List ℕ) (quorum : ℕ) (room : List ℕ) where
-  abbrev wanted : Template
-  wanted = template-of profile components shape allowances
+-- A BEGIN THAT ANSWERS 0, and legs on what it wrote
+module _ (a : Asked) (z : begin-asked a .numbers .number ≡ 0) where
+  open Asked a using (letters, lengths, profile, components, shape, allowances, quorum, room)
 
-  abbrev new : Search
-  new = begun letters lengths wanted quorum
+  abbrev t : Template
+  t = template-asked a
 
-  module _ (z : (begin-outcome letters lengths profile components shape allowances quorum room) .numbers .number ≡ 0) where
-    checked : (profile-check letters lengths profile wanted ≡ fine) × (first (new-checks letters lengths wanted quorum ++ (check17 (length (bytes new)) room ∷ [])) ≡ fine)
-    checked = first-cons _ _ .0 (begin-zero letters lengths profile components shape allowances quorum room .0 z)
-
-    begun-new : begin-rule letters lengths wanted quorum ≡ gives new
-    unfolding begin-rule
-    begun-new = rw (first-both (new-checks letters lengths wanted quorum) _ .0 (checked .1) .0)
-
-    new-sound : Beginning letters lengths wanted quorum new
-    new-sound = begins letters lengths wanted quorum new begun-new
-
-    new-restores : restore-rule letters lengths (bytes new) ≡ gives new
-    new-restores = restore-saved letters lengths new (search-fine letters lengths new (new-sound .sound)) ∙ ap gives (trimmed-same new (new-sound .trim))
-
-    written-new : let b = begin-outcome letters lengths profile components shape allowances quorum room in take (b .numbers .count) (b .table) ≡ bytes new
-    unfolding begin-outcome count-told
-    written-new =
-        rw (checked-saves letters lengths (profile-check letters lengths profile wanted) wanted quorum room, checked .0, checked .1)
-        (put-front (length (bytes new)) (bytes new) room refl)
-
-    -- the relay's buffers have room for it
-    lent-roomy : (gs : List LegLent) → Roomy wanted (map (lent letters lengths (bytes new)) gs)
-    unfolding begun trimmed
-    lent-roomy [] = tt
-    lent-roomy (g ∷ gs) = (omega (arith, bytes-counted new (new-sound .sound .template .few)), lent-roomy gs)
-
-    lent-ample : (gs : List LegLent) → AmpleLegs gs → Ample (map (lent letters lengths (bytes new)) gs)
-    lent-ample [] h = tt
-    lent-ample (g ∷ gs) h = (h .0, h .1, h .2, h .3, lent-ample gs (h .4))
-
-    -- so legs on what it wrote are those of the relay
-    same-legs : (gs : List LegLent) → let b = begin-outcome letters lengths profile components shape allowances quorum room in
-        Same (new .place .letters) (legs-run letters lengths gs (take (b .numbers .count) (b .table))) (relay letters lengths (map (lent letters lengths (bytes new)) gs) new)
-    same-legs gs = rw written-new (relays letters lengths (bytes new) gs (bytes new) new new-restores (omega arith))
-
-module _ (a : Asked) (gs : List LegLent) (z : begin-asked a .numbers .number ≡ 0) where
   abbrev s : Search
-  s = new (a .letters) (a .lengths) (a .profile) (a .components) (a .shape) (a .allowances) (a .quorum) (a .room)
+  s = begun letters lengths t quorum
 
-  abbrev ls : List Lent
-  ls = map (lent (a .letters) (a .lengths) (bytes s)) gs
+  -- nothing was refused, so it wrote the bytes of a new search,
+  checked : (profile-check letters lengths profile t ≡ fine) × (first (new-checks letters lengths t quorum ++ (check17 (length (bytes s)) room ∷ [])) ≡ fine)
+  checked = first-cons _ _ .0 (begin-zero letters lengths profile components shape allowances quorum room .0 z)
 
-  same-asked : Same (s .place .letters) (legs-asked a gs) (relay (a .letters) (a .lengths) ls s)
-  same-asked = same-legs (a .letters) (a .lengths) (a .profile) (a .components) (a .shape) (a .allowances) (a .quorum) (a .room) z gs
+  begins-so : begin-rule letters lengths t quorum ≡ gives s
+  unfolding begin-rule
+  begins-so = rw (first-both (new-checks letters lengths t quorum) _ .0 (checked .1) .0)
 
-  begun-asked : begin-rule (a .letters) (a .lengths) (template-asked a) (a .quorum) ≡ gives s
-  begun-asked = begun-new (a .letters) (a .lengths) (a .profile) (a .components) (a .shape) (a .allowances) (a .quorum) (a .room) z
+  new : Beginning letters lengths t quorum s
+  new = begins letters lengths t quorum s begins-so
 
-  brings : one-ended (legs-asked a gs) ≡ true → Brought a (legs-asked a gs)
-  brings h =
-      let m = same-asked in
-      let c = demand3 .end-to-end (a .letters) (a .lengths) (template-asked a) (a .quorum) s ls begun-asked (m .ended-too h) in
-      record {
-        motifs-are = m .motifs-are ∙ c .motifs-are;
-        supports-are = m .supports-are ∙ c .supports-are;
-        weights-are = m .weights-are ∙ c .weights-are;
-        steps-are = m .steps-are ∙ c .steps-are;
-      }
+  writes : take (begin-asked a .numbers .count) (begin-asked a .table) ≡ bytes s
+  unfolding begin-outcome count-told
+  writes =
+      rw (checked-saves letters lengths (profile-check letters lengths profile t) t quorum room, checked .0, checked .1)
+      (put-front (length (bytes s)) (bytes s) room refl)
 
-  ends-asked : AmpleLegs gs → whole-steps (template-asked a) (a .quorum) (sequences (a .letters) (a .lengths)) ≤ length gs → one-ended (legs-asked a gs) ≡ true
-  unfolding begun
-  ends-asked h k =
-      let roomy = lent-roomy (a .letters) (a .lengths) (a .profile) (a .components) (a .shape) (a .allowances) (a .quorum) (a .room) z gs in
-      let ample = lent-ample (a .letters) (a .lengths) (a .profile) (a .components) (a .shape) (a .allowances) (a .quorum) (a .room) z gs h in
-      same-asked .ends-too (λ q. omega (arith, q))
-      (demand3 .ends (a .letters) (a .lengths) (template-asked a) (a .quorum) s ls begun-asked roomy ample (omega (arith, k, length-map gs (lent (a .letters) (a .lengths) (bytes s)))))
+  -- which restore to it; a buffer as long as they are has room for each save of the relay
+  restores : restore-rule letters lengths (bytes s) ≡ gives s
+  restores = restore-saved letters lengths s (search-fine letters lengths s (new .sound)) ∙ ap gives (trimmed-same s (new .trim))
+
+  abbrev lents : List LegLent → List Lent
+  lents gs = map (lent letters lengths (bytes s)) gs
+
+  roomy : (gs : List LegLent) → Roomy t (lents gs)
+  unfolding begun trimmed
+  roomy [] = tt
+  roomy (g ∷ gs) = (omega (arith, bytes-counted s (new .sound .template .few)), roomy gs)
+
+  ample : (gs : List LegLent) → AmpleLegs gs → Ample (lents gs)
+  ample [] h = tt
+  ample (g ∷ gs) h = (h .0, h .1, h .2, h .3, ample gs (h .4))
+
+  module _ (gs : List LegLent) where
+    same : Same (s .place .letters) (legs-asked a gs) (relay letters lengths (lents gs) s)
+    same = rw writes (relays letters lengths (bytes s) gs (bytes s) s restores (omega arith))
+
+    brings : one-ended (legs-asked a gs) ≡ true → Brought a (legs-asked a gs)
+    brings h =
+        let c = demand3 .end-to-end letters lengths t quorum s (lents gs) begins-so (same .ended-too h) in
+        record {
+          motifs-are = same .motifs-are ∙ c .motifs-are;
+          supports-are = same .supports-are ∙ c .supports-are;
+          weights-are = same .weights-are ∙ c .weights-are;
+          steps-are = same .steps-are ∙ c .steps-are;
+        }
+
+    comes-to-end : AmpleLegs gs → whole-steps t quorum (sequences letters lengths) ≤ length gs → one-ended (legs-asked a gs) ≡ true
+    unfolding begun
+    comes-to-end h k =
+        same .ends-too (λ q. omega (arith, q))
+        (demand3 .ends letters lengths t quorum s (lents gs) begins-so (roomy gs) (ample gs h) (omega (arith, k, length-map gs (lent letters lengths (bytes s)))))
 
 pub exported-legs : ExportedLegs
-exported-legs =
-    record {
-      end-to-end = λ a gs z. brings a gs z;
-      ends = λ a gs z. ends-asked a gs z;
-      answers = λ a gs z. same-asked a gs z .answered;
-    }
+exported-legs = record { end-to-end = λ a gs z. brings a z gs; ends = λ a gs z. comes-to-end a z gs; answers = λ a gs z. same a z gs .answered }

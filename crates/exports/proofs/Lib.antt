@@ -1,4 +1,5 @@
--- The laws of the exported calls. `Whole` and `Zero` say what they come to; the others serve the proofs.
+-- The laws of the exported calls. `ExportedLegs` proves the statement of that name in `specs`, `Whole` and `Zero` say what each call
+-- comes to; the others serve the proofs.
 pub mod Filling
 pub mod Found
 pub mod Outcomes

@@ -23,7 +23,7 @@ use Rattle.rules.specs.Told.{Verdict, fine, refused, refuses}
 use Rattle.rules.specs.declared.Search.{Search}
 use Rattle.rules.specs.declared.Template.{Template}
 use Rattle.rules.proofs.Verdicts.{never}
-use Rattle.exports.specs.Exported.{LegOutcome, profile-check, checked-written, begin-outcome, leg-outcome, restore-outcome, save-outcome, recover-outcome, join-outcome, fasta-outcome}
+use Rattle.exports.specs.Exported.{LegOutcome, no-profile, profile-check, checked-written, begin-outcome, leg-outcome, restore-outcome, save-outcome, recover-outcome, join-outcome, fasta-outcome}
 use Rattle.exports.specs.Numbers.{refusal-number-told, count-told, page-told, search-told, found-told}
 use Rattle.exports.specs.Shape.{template-of}
 use Rattle.exports.proofs.Whole.{checked-saves, leg-refused, leg-runs}
@@ -86,7 +86,7 @@ room-numbered n out = if-numbered (ltb (length out) n) 17 0 (omega arith)
 
 module _ (letters lengths : List ℕ) where
   profile-numbered : (profile : ℕ) (t : Template) → Numbered (profile-check letters lengths profile t)
-  unfolding profile-check Numbered
+  unfolding profile-check no-profile Numbered
   profile-numbered profile t =
       fine-numbered (leb profile Profile-LAST) _
       (two-numbered (first (set-checks letters lengths)) (check5 t else refused 21 0) (all-numbered _ (set-numbered letters lengths))

@@ -43,8 +43,11 @@ search-of profile components shape allowances quorum sequences total letters num
     record { template = template-of profile components shape allowances; quorum = quorum; set = record { sequences = sequences; letters = total }; place = place letters number }
 
 -- THE PROFILE is a number here: one that is none is refused, with 21 and place 0, where 1 to 5 pass, as a restore refuses it
+unfoldable pub no-profile : List ℕ → List ℕ → Template → Verdict
+no-profile letters lengths t = first (set-checks letters lengths) else check5 t else refused 21 0
+
 unfoldable pub profile-check : List ℕ → List ℕ → ℕ → Template → Verdict
-profile-check letters lengths profile t = if (leb profile Profile-LAST) fine (first (set-checks letters lengths) else check5 t else refused 21 0)
+profile-check letters lengths profile t = if (leb profile Profile-LAST) fine (no-profile letters lengths t)
 
 -- what a save or a recovery comes to, unless it is
 abbrev pub checked-written : {A : Type 0} → Verdict → Written A → List ℕ → Written A

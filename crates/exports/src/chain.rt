@@ -14,20 +14,27 @@ use rules::Saved;
 use rules::Search;
 use rules::Template;
 ghost use mathlib.Core.Path.{_≡_};
-ghost use Rattle.exports.specs.Exported.{profile-check, checked-written, save-begun, leg-of, leg-from, table-after};
+ghost use Rattle.exports.specs.Exported.{no-profile, profile-check, checked-written, save-begun, leg-of, leg-from, table-after};
 ghost use Rattle.exports.specs.Shape.{shape-of, allowances-of};
 ghost use Rattle.rules.specs.Calls.{on-refusal, begin-rule, save-rule, restore-rule, recover-rule};
 ghost use Rattle.rules.specs.Told.{gives, refuses, toldChecked, toldBegun, toldSaved, toldRecovered};
 
-// A number that is no profile's is refused where the sequences and the number of components pass their checks.
+// What a call with a number that is no profile's is refused with: that comes after the sequences and the number of components.
+fn no_profile(letters: &[u8], lengths: &[u32], template: Template) -> Checked
+    ensures { λ r. ⌜ toldChecked r ≡ no-profile (now (letters .entry)) (now (lengths .entry)) template ⌝ }
+{
+    let none = Checked::Refused(Refusal::SavedBlank(RecordNumber(0)));
+    check_set(letters, lengths).then(check_count(template).then(none))
+}
+
+// A number that is no profile's is refused.
 pub fn check_profile(letters: &[u8], lengths: &[u32], profile: u16, template: Template) -> Checked
     ensures { λ r. ⌜ toldChecked r ≡ profile-check (now (letters .entry)) (now (lengths .entry)) profile template ⌝ }
 {
     if Profile::is_number(profile as u64) {
         return Checked::Fine;
     }
-    let none = Checked::Refused(Refusal::SavedBlank(RecordNumber(0)));
-    check_set(letters, lengths).then(check_count(template).then(none))
+    no_profile(letters, lengths, template)
 }
 
 // Begins a search, unless its profile was refused.
