@@ -4,6 +4,7 @@
 
 pub mod faults;
 pub mod naive;
+pub mod quotes;
 pub mod saves;
 
 use second::{begin, leg, Answer, Component, Leg, Place, Profile, Refusal, Search, Template};
