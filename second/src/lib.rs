@@ -35,7 +35,7 @@ pub use join::join;
 pub use leg::{leg, Answer, Leg};
 pub use place::Place;
 pub use printing::printout;
-pub use profile::Profile;
+pub use profile::{profile_of, Profile};
 pub use recovery::{recover, Recovered};
 pub use refusal::Refusal;
 pub use saved::{restore, save};

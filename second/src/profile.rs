@@ -1,5 +1,9 @@
 //! The two profiles: which letters a motif can have, and what they mean.
 
+use crate::refusal::Refusal;
+use crate::sequences::SequenceSet;
+use crate::template::Template;
+
 /// Which letters a motif can have. "Demands 2 and 3 hold of both profiles."
 #[derive(Clone, Copy, Debug, Default, PartialEq, Eq)]
 pub enum Profile {
@@ -45,6 +49,26 @@ impl Profile {
             Profile::Mixed => 16,
         }
     }
+}
+
+/// The profile that a number passed to a call means: "0 or 1 for the profile,
+/// else 21", with 0 for the place, the record that would hold it. A save checks
+/// in restore's order, where 21 comes after 1 to 5; so it does in a new search
+/// and a recovery.
+pub fn profile_of(
+    letters: &[u8],
+    lengths: &[u32],
+    components: usize,
+    number: u16,
+) -> Result<Profile, Refusal> {
+    for profile in [Profile::Exact, Profile::Mixed] {
+        if profile.number() == number {
+            return Ok(profile);
+        }
+    }
+    SequenceSet::lent(letters, lengths)?;
+    Template::check_number(components)?;
+    Err(Refusal::at(Refusal::UNNAMED_BYTE, 0))
 }
 
 /// The values of a sequence's letters: "A 0, C 1, G 2, T 3".

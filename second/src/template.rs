@@ -109,7 +109,12 @@ impl Template {
 
     /// Refusal 5, "number of components".
     pub(crate) fn check_number_of_components(&self) -> Result<(), Refusal> {
-        if (1..=Self::MOST_COMPONENTS).contains(&self.components.len()) {
+        Self::check_number(self.components.len())
+    }
+
+    /// The same of a number alone.
+    pub(crate) fn check_number(components: usize) -> Result<(), Refusal> {
+        if (1..=Self::MOST_COMPONENTS).contains(&components) {
             Ok(())
         } else {
             Err(Refusal::plain(Refusal::NUMBER_OF_COMPONENTS))

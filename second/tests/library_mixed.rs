@@ -101,16 +101,29 @@ fn allowances_above_the_length() {
     }
 }
 
-/// "A profile number that is neither 0 nor 1 is answered 21 with place 0, after
-/// 4 and before 5."
+/// A number that is no profile's is refused with 21 and place 0, after 1 to 5 and
+/// before all else.
 #[test]
 fn a_profile_that_there_is_not() {
     let spoilt = b"ACGTACAGGTAN";
     let (mut saved, mut out) = ([7; 64], [7; 6]);
     for profile in [2, 3, 255, 256, 257, 65_535] {
-        for (letters, told) in [(LETTERS, refused(21, 0)), (&spoilt[..], refused(4, 11))] {
+        for letters in [LETTERS, spoilt] {
             // All else right, and all else wrong.
-            for (components, quorum) in [(2, 3), (0, 0), (7, 9), (65_535, u64::MAX)] {
+            for (components, quorum) in [
+                (2, 3),
+                (1, 0),
+                (6, u64::MAX),
+                (0, 0),
+                (0, 3),
+                (7, 9),
+                (65_535, u64::MAX),
+            ] {
+                let told = match components {
+                    _ if letters == spoilt => refused(4, 11),
+                    1..=6 => refused(21, 0),
+                    _ => refused(5, 0),
+                };
                 for allowances in [[0, 1], [9, 65_535]] {
                     let template = Template {
                         profile,
@@ -134,6 +147,28 @@ fn a_profile_that_there_is_not() {
                     }
                 }
             }
+        }
+        // Lengths (6), letters in all (7) and ranges (8) come behind it.
+        for shape in [
+            [0, 0, 0, 1, 0, 1],
+            [1, 0, 0, 13, 0, 1],
+            [12, 0, 0, 12, 0, 1],
+            [1, 0, 1, 1, 0, 1],
+            [1, 0, 0, 1, 2, 1],
+        ] {
+            let told = refused(21, 0);
+            let template = Template {
+                profile,
+                shape: &shape,
+                ..MIXED
+            };
+            let begun = begin(LETTERS, LENGTHS, template, 3, &mut saved);
+            assert_eq!(begun, Err(told), "{template:?}");
+            let search = at(template, 3, 1, 0);
+            let size = save(LETTERS, LENGTHS, &search, &shape, &[0, 1], &mut saved);
+            assert_eq!(size, Err(told), "{template:?}");
+            let rows = recover(LETTERS, LENGTHS, template, 0, 0, &mut out);
+            assert_eq!(rows, Err(told), "{template:?}");
         }
         // 1 to 3 come first, too.
         let template = Template { profile, ..MIXED };

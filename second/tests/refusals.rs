@@ -3,7 +3,7 @@
 mod common;
 
 use common::*;
-use second::{begin, leg, save, Answer, Search};
+use second::{begin, leg, profile_of, save, Answer, Profile, Search};
 
 /// What a leg and a save say of a search value; they must agree.
 fn refused(lent: &Lent, search: &Search) -> Option<(u8, u64)> {
@@ -221,5 +221,35 @@ fn the_place_rule_comes_before_bad_lengths_and_allowances() {
         };
         let refused = refused(&e(), &search);
         assert_eq!(refused, Some((number, told)), "{components:?} {letters}");
+    }
+}
+
+/// "0 or 1 for the profile, else 21", where a call is passed its number: after the
+/// sequences and the number of components.
+#[test]
+fn a_number_that_is_no_profile() {
+    let e = e();
+    let (letters, lengths) = (&e.letters[..], &e.lengths[..]);
+    for (number, profile) in [(0, Profile::Exact), (1, Profile::Mixed)] {
+        for components in [0, 1, 7, 65_535] {
+            let told = profile_of(b"N", &[], components, number);
+            assert_eq!(told, Ok(profile));
+        }
+    }
+    for number in [2, 3, 255, 256, 257, 65_535] {
+        for components in 0..=9 {
+            let told = match components {
+                1..=6 => refusal(21, 0),
+                _ => refusal(5, 0),
+            };
+            let no_profile = profile_of(letters, lengths, components, number);
+            assert_eq!(no_profile, Err(told));
+            let spoilt = profile_of(b"ACN", &[3], components, number);
+            assert_eq!(spoilt, Err(refusal(4, 2)));
+            let longer = profile_of(letters, &[5, 5, 3], components, number);
+            assert_eq!(longer, Err(refusal(3, 0)));
+            let none = profile_of(b"", &[], components, number);
+            assert_eq!(none, Err(refusal(1, 0)));
+        }
     }
 }
