@@ -86,7 +86,7 @@ fn place_record(place: &Place) -> Record {
 }
 
 /// All records of a search, one after another.
-fn records(search: &Search) -> Vec<u8> {
+pub(crate) fn records(search: &Search) -> Vec<u8> {
     let mut bytes = Vec::new();
     bytes.extend(size_record(search).0);
     for (number, component) in (1..).zip(&search.template.components) {

@@ -1,7 +1,8 @@
 //! Search values of the library's as the second program has them, and back.
 
 use super::request::{Slot, Value};
-use crate::{Component, Place, Search, Template};
+use crate::saved::records;
+use crate::{Component, Place, Profile, Search, Template};
 
 /// The second program's search as a value of the library's.
 pub fn value_of(search: &Search) -> Value {
@@ -59,4 +60,19 @@ pub fn search(value: &Value) -> Search {
             number: value.number,
         },
     }
+}
+
+/// The bytes that a save of the value would have if it were not checked; none
+/// where a number does not go into its record. What a save does not hold, slots
+/// that are not counted and allowances of the exact profile, may be anything.
+pub fn records_of(value: &Value) -> Option<Vec<u8>> {
+    let goes = |number: u64, bits: u32| number >> bits == 0;
+    let slots = value.slots.iter().take(value.count.into());
+    let all = goes(u64::from(value.count) + 2, 8)
+        && goes(value.quorum, 16)
+        && goes(value.sequences.into(), 16)
+        && slots.clone().all(|slot| goes(slot.length.into(), 8))
+        && (value.profile == Profile::Exact
+            || slots.clone().all(|slot| goes(slot.allowance.into(), 8)));
+    all.then(|| records(&search(value)))
 }

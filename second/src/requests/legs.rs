@@ -6,7 +6,7 @@ use super::request::{Kind, Request, Set, Value};
 use crate::Profile;
 use std::rc::Rc;
 
-/// The most rows that the program has tables for.
+/// The most rows that a leg's tables have.
 pub const ROOM: u64 = 4_096;
 
 /// A leg with three tables of these lengths.

@@ -1,5 +1,6 @@
 //! New searches in the mixed profile: each limit of its own from both sides;
-//! and in the exact one with allowances, which it does not look at.
+//! in the exact one with allowances, which it does not look at; and in both into
+//! buffers of any length.
 
 use super::alphabets::{exact, shape};
 use super::begins::{faulty_set, faulty_value};
@@ -97,6 +98,28 @@ fn sets(random: &mut Random) -> Vec<Request> {
         .collect()
 }
 
+/// Searches of one to six components in either profile, into buffers just short
+/// and just long enough; and ones that are refused, where there is no room too.
+fn rooms(random: &mut Random) -> Vec<Request> {
+    let e = Rc::new(Set::e());
+    let mut requests = Vec::new();
+    for components in 1..=6 {
+        let length = 16 * (components + 2);
+        let parts = vec![(1, 1); components];
+        for value in both(shape(Profile::Mixed, &parts, 2)) {
+            for room in [0, 1, 16, length - 16, length - 1, length, length + 1, 1_024] {
+                for quorum in [0, 1, 3, 4] {
+                    requests.push(Request {
+                        saved: random.bytes(room),
+                        ..begin(&e, value.with_quorum(quorum))
+                    });
+                }
+            }
+        }
+    }
+    requests
+}
+
 pub fn requests(random: &mut Random) -> Vec<Request> {
     let e = Rc::new(Set::e());
     let mut requests = sets(random);
@@ -110,5 +133,6 @@ pub fn requests(random: &mut Random) -> Vec<Request> {
             requests.push(begin(&set, exact(value, random)));
         }
     }
+    requests.extend(rooms(random));
     requests
 }

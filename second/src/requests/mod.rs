@@ -1,6 +1,6 @@
-//! Requests, and what the second program answers to them: what another program
-//! is compared by, the program `calls` (bin/compare) and the linked library
-//! (tests/library_compare.rs). Every request follows from a group's seed.
+//! Requests, and what the second program answers to them: what the linked
+//! library is compared by (tests/library_compare.rs). Every request follows from
+//! a group's seed.
 
 mod alphabets;
 pub mod answer;
@@ -15,6 +15,7 @@ mod forgeries;
 mod joins;
 mod legs;
 mod mixed_begins;
+mod profiles;
 pub mod random;
 mod recoveries;
 mod relays;
@@ -94,9 +95,14 @@ const IN_EACH: [InEach; 8] = [
 /// What has no profile, is made in both at once, or differs in them.
 type Plain = (&'static str, u64, fn(&mut Random) -> Vec<Request>);
 
-const PLAIN: [Plain; 15] = [
+const PLAIN: [Plain; 16] = [
     ("new searches", 101, begins::requests),
     ("new searches with allowances", 131, mixed_begins::requests),
+    (
+        "calls with a number that is no profile's",
+        141,
+        profiles::requests,
+    ),
     (
         "restores of damaged saves of E",
         105,

@@ -145,27 +145,6 @@ impl Value {
         counted.map(|slot| u64::from(slot.length)).sum()
     }
 
-    /// The 24 numbers in the order of a head and of an answer: all but the
-    /// profile and the allowances.
-    pub fn words(&self) -> Vec<u64> {
-        let mut words = vec![u64::from(self.count)];
-        for slot in &self.slots {
-            words.extend([slot.length, slot.low, slot.high].map(u64::from));
-        }
-        words.push(self.quorum);
-        words.extend([self.sequences, self.letters].map(u64::from));
-        words.extend([u64::from(self.place), self.number]);
-        words
-    }
-
-    /// The profile and the allowances, the last 7 numbers of a head and of an
-    /// answer.
-    pub fn profile_words(&self) -> Vec<u64> {
-        let mut words = vec![u64::from(self.profile.number())];
-        words.extend(self.slots.iter().map(|slot| u64::from(slot.allowance)));
-        words
-    }
-
     /// The digits of a place as letters, the first letter the highest; a digit
     /// that is no letter's as `?`.
     pub fn place_letters(&self) -> String {
@@ -181,16 +160,16 @@ impl Value {
     }
 }
 
-/// The calls, by the numbers that the program knows them by.
-#[derive(Clone, Copy, Debug, PartialEq, Eq)]
+/// The calls.
+#[derive(Clone, Copy, Debug, PartialEq, Eq, PartialOrd, Ord)]
 pub enum Kind {
-    Begin = 1,
-    Leg = 2,
-    Save = 3,
-    Restore = 4,
-    Recover = 5,
-    Join = 6,
-    Fasta = 7,
+    Begin,
+    Leg,
+    Save,
+    Restore,
+    Recover,
+    Join,
+    Fasta,
 }
 
 /// One call, with all that is lent to it. What a call does not take is empty
@@ -209,7 +188,7 @@ pub struct Request {
     pub weights: Vec<u64>,
     /// The FASTA reader's lengths, too.
     pub rows: Vec<u32>,
-    /// The buffer for the FASTA reader's letters, too.
+    /// The buffer for a new search and for the FASTA reader's letters, too.
     pub saved: Vec<u8>,
     pub budget: u64,
     pub motif: u64,
@@ -218,6 +197,9 @@ pub struct Request {
     pub low: u16,
     pub high: u16,
     pub value: Value,
+    /// What a new search, a save or a recovery is passed for the profile instead
+    /// of the value's: a number that is none's.
+    pub no_profile: Option<u16>,
     /// The FASTA reader's cursor.
     pub at: u64,
     /// How many letters and lengths its tables hold already.
@@ -225,8 +207,17 @@ pub struct Request {
     pub count: u64,
 }
 
+/// More bytes than any save has.
+pub const MORE_THAN_A_SAVE: usize = 140;
+
 impl Request {
+    /// A call to which nothing is lent but the sequences, and for a new search a
+    /// buffer with some room over.
     pub fn new(kind: Kind, set: &Rc<Set>, value: Value) -> Request {
+        let room = match kind {
+            Kind::Begin => MORE_THAN_A_SAVE,
+            _ => 0,
+        };
         Request {
             kind,
             set: Rc::clone(set),
@@ -235,7 +226,7 @@ impl Request {
             supports: Vec::new(),
             weights: Vec::new(),
             rows: Vec::new(),
-            saved: Vec::new(),
+            saved: vec![7; room],
             budget: 0,
             motif: 0,
             first_row: 0,
@@ -243,6 +234,7 @@ impl Request {
             low: 0,
             high: 0,
             value,
+            no_profile: None,
             at: 0,
             used: 0,
             count: 0,

@@ -1,5 +1,6 @@
-//! What came up in the requests: how often each kind of call came out in each
-//! way, in each profile. All that can come about has to.
+//! What came up in the calls that were made: how often each kind of call came
+//! out in each way, in each profile, and where it was passed a number that is
+//! none's. All that can come about has to.
 
 use super::answer::{Answer, REFUSED};
 use super::request::{Kind, Request, Value};
@@ -11,28 +12,27 @@ use std::ops::RangeInclusive;
 use Profile::{Exact, Mixed};
 
 /// How each call can come out, and the refusals that it can give. In the mixed
-/// profile each can also give 24.
+/// profile each can also give 24. A leg is one of saved bytes.
 const ANSWERS: [(Kind, &[u64], &[u64]); 7] = [
-    (Kind::Begin, &[1], &[1, 2, 3, 4, 5, 6, 7, 8, 9]),
-    (
-        Kind::Leg,
-        &[1, 2, 3],
-        &[1, 2, 3, 4, 5, 6, 7, 8, 9, 12, 13, 23],
-    ),
+    (Kind::Begin, &[1], &[1, 2, 3, 4, 5, 6, 7, 8, 9, 17]),
+    (Kind::Leg, &[1, 2, 3], &OF_SAVED),
     (
         Kind::Save,
         &[1],
         &[1, 2, 3, 4, 5, 6, 7, 8, 9, 12, 13, 17, 23],
     ),
-    (
-        Kind::Restore,
-        &[1],
-        &[1, 2, 3, 4, 5, 6, 7, 8, 9, 10, 11, 12, 13, 21, 22, 23],
-    ),
+    (Kind::Restore, &[1], &OF_SAVED),
     (Kind::Recover, &[1], &[1, 2, 3, 4, 5, 6, 7, 8, 14, 15]),
     (Kind::Join, &[1], &[6, 8, 16, 17]),
     (Kind::Fasta, &[1, 2], &[4, 19, 20]),
 ];
+
+const OF_SAVED: [u64; 16] = [1, 2, 3, 4, 5, 6, 7, 8, 9, 10, 11, 12, 13, 21, 22, 23];
+
+/// What a number that is no profile's can come to, and the calls that are passed
+/// one.
+const NO_PROFILE: [u64; 6] = [1, 2, 3, 4, 5, 21];
+const PASSED_ONE: [Kind; 3] = [Kind::Begin, Kind::Save, Kind::Recover];
 
 /// The profiles in which a call is made. A join and the FASTA reader have none,
 /// and are counted with the exact one.
@@ -46,7 +46,10 @@ fn profiles(kind: Kind) -> &'static [Profile] {
 /// The refusals that tell a record, and the records from 0 that each kind of
 /// call can tell: of saves of one to six components, whose place record is
 /// the third to the eighth.
-const RECORDS: [(Kind, u64, RangeInclusive<u64>); 6] = [
+const RECORDS: [(Kind, u64, RangeInclusive<u64>); 9] = [
+    (Kind::Leg, 11, 0..=7),
+    (Kind::Leg, 21, 0..=7),
+    (Kind::Leg, 22, 0..=0),
     (Kind::Leg, 23, 2..=7),
     (Kind::Save, 23, 2..=7),
     (Kind::Restore, 11, 0..=7),
@@ -92,13 +95,19 @@ impl fmt::Display for Why {
 }
 
 /// The profile that a request is in: that of its search value, or of its saved
-/// bytes, as the size record tells it.
-fn profile(request: &Request) -> Profile {
+/// bytes, as the size record tells it; none where another number is passed.
+fn profile(request: &Request) -> Option<Profile> {
     match request.kind {
-        Kind::Restore if request.saved.get(12) == Some(&1) => Mixed,
-        Kind::Restore | Kind::Join | Kind::Fasta => Exact,
-        _ => request.value.profile,
+        Kind::Leg | Kind::Restore if request.saved.get(12) == Some(&1) => Some(Mixed),
+        Kind::Leg | Kind::Restore | Kind::Join | Kind::Fasta => Some(Exact),
+        _ if request.no_profile.is_some() => None,
+        _ => Some(request.value.profile),
     }
+}
+
+/// The number that a profile is counted by; 2 is none.
+fn number(profile: Option<Profile>) -> u16 {
+    profile.map_or(2, Profile::number)
 }
 
 /// The part of a search value that some saved bytes hold whose place breaks its
@@ -144,31 +153,31 @@ fn why(value: &Value) -> Why {
 /// a record, and for which reason, where there are several.
 #[derive(Default)]
 pub struct Seen {
-    outcomes: BTreeMap<(u64, u16, u64), u64>,
-    refusals: BTreeMap<(u64, u16, u64), u64>,
-    records: BTreeMap<(u64, u16, u64, u64), u64>,
-    reasons: BTreeMap<(u64, Why), u64>,
+    outcomes: BTreeMap<(Kind, u16, u64), u64>,
+    refusals: BTreeMap<(Kind, u16, u64), u64>,
+    records: BTreeMap<(Kind, u16, u64, u64), u64>,
+    reasons: BTreeMap<(Kind, Why), u64>,
 }
 
 impl Seen {
     pub fn count(&mut self, request: &Request, answer: &Answer) {
-        let kind = request.kind as u64;
+        let kind = request.kind;
         let profile = profile(request);
-        let of = (kind, profile.number());
+        let of = (kind, number(profile));
         if answer.outcome() != REFUSED {
             let outcome = (of.0, of.1, answer.outcome());
             *self.outcomes.entry(outcome).or_default() += 1;
             return;
         }
-        let refusal = answer.refusal();
+        let refusal = answer.told.refusal;
         *self.refusals.entry((of.0, of.1, refusal)).or_default() += 1;
         if let 11 | 21..=23 = refusal {
-            let record = (of.0, of.1, refusal, answer.place_told());
+            let record = (of.0, of.1, refusal, answer.told.place);
             *self.records.entry(record).or_default() += 1;
         }
-        if profile == Mixed && (refusal == 23 || refusal == 14) {
+        if profile == Some(Mixed) && (refusal == 23 || refusal == 14) {
             let value = match request.kind {
-                Kind::Restore => held(&request.saved),
+                Kind::Leg | Kind::Restore => held(&request.saved),
                 Kind::Recover => Value {
                     place: request.value.letters_in_all() as u8,
                     number: request.motif,
@@ -188,7 +197,7 @@ impl Seen {
         for (kind, outcomes, refusals) in ANSWERS {
             for profile in profiles(kind) {
                 let which = format!("{kind:?}, {profile:?}");
-                let of = |what| (kind as u64, profile.number(), what);
+                let of = |what| (kind, profile.number(), what);
                 let outcome = |what| self.outcomes.get(&of(what)).copied();
                 let outcomes = counts(&which, "outcome", outcomes.iter().copied(), outcome)?;
                 let also = (*profile == Mixed).then_some(24);
@@ -198,9 +207,16 @@ impl Seen {
                 lines.push(format!("{which}, {outcomes}; {refusals}"));
             }
         }
+        for kind in PASSED_ONE {
+            let which = format!("{kind:?}, a number that is no profile's,");
+            let of = |what| (kind, number(None), what);
+            let refusal = |what| self.refusals.get(&of(what)).copied();
+            let refusals = counts(&which, "refusal", NO_PROFILE.into_iter(), refusal)?;
+            lines.push(format!("{which} {refusals}"));
+        }
         for (kind, refusal, records) in RECORDS {
             for profile in profiles(kind) {
-                let of = |record| (kind as u64, profile.number(), refusal, record);
+                let of = |record| (kind, profile.number(), refusal, record);
                 let count = |record| self.records.get(&of(record)).copied();
                 let which = format!("{kind:?}, {profile:?}, refusal {refusal},");
                 let records = counts(&which, "record", records.clone(), count)?;
@@ -208,7 +224,7 @@ impl Seen {
             }
         }
         for (kind, refusal, reasons) in REASONS {
-            let count = |why| self.reasons.get(&(kind as u64, why)).copied();
+            let count = |why| self.reasons.get(&(kind, why)).copied();
             let which = format!("{kind:?}, Mixed, refusal {refusal},");
             let reasons = counts(&which, "reason", reasons.iter().copied(), count)?;
             lines.push(format!("{which} {reasons}"));

@@ -72,16 +72,20 @@ impl fmt::Display for Request {
             return writeln!(out, "  table {}", listed(&self.rows));
         }
         write!(out, "{}{}", self.set, self.value)?;
+        if let Some(number) = self.no_profile {
+            writeln!(out, "  {number} passed for the profile")?;
+        }
         match self.kind {
             Kind::Leg => writeln!(
                 out,
-                "  budget {}, tables of {}, {} and {}",
+                "  budget {}, tables of {}, {} and {}, from bytes {:02x?}",
                 self.budget,
                 self.motifs.len(),
                 self.supports.len(),
-                self.weights.len()
+                self.weights.len(),
+                self.saved
             ),
-            Kind::Save | Kind::Restore => {
+            Kind::Begin | Kind::Save | Kind::Restore => {
                 writeln!(out, "  {} bytes {:02x?}", self.saved.len(), self.saved)
             }
             Kind::Recover => writeln!(
@@ -91,7 +95,7 @@ impl fmt::Display for Request {
                 self.first_row,
                 self.rows.len()
             ),
-            Kind::Begin | Kind::Join | Kind::Fasta => Ok(()),
+            Kind::Join | Kind::Fasta => Ok(()),
         }
     }
 }

@@ -1,7 +1,9 @@
 //! What the tests of the linked library share: the paper's set E, its template
-//! N[0,1]N in both profiles, and searches of it.
+//! N[0,1]N in both profiles, and searches of it; and requests made of it.
 
 #![allow(dead_code)]
+
+pub mod asked;
 
 use second::requests::request::{Slot, Value};
 use tulfasheq::{begin, leg, Leg, Refusal, Search, Stop, Template};

@@ -1,61 +1,36 @@
-//! Compares the proved library with the second program: thousands of calls,
-//! made of the program `calls`, which only passes them on to the library, and
-//! of the second program. Every number told and every lent table has to be the
-//! same, refused calls too. Then hundreds of texts, printed by the program
-//! `motifs` and by the second program, and hundreds of FASTA files, cut to
-//! lines by the program `lines` and by the second program: every byte has to
-//! be the same.
+//! Compares the printing programs with the second program: hundreds of texts,
+//! printed by the program `motifs` and by the second one, and hundreds of FASTA
+//! files, cut to lines by the program `lines` and by the second one. Every byte
+//! has to be the same. (The library's calls are compared linked, in
+//! tests/library_compare.rs.)
 //!
-//!     compare CALLS.. -- MOTIFS.. -- LINES..
+//!     compare MOTIFS.. -- LINES..
 //!
-//! CALLS, MOTIFS and LINES are the commands that run the three programs. Every
-//! input follows from the seeds that are printed. The first difference is
-//! printed with its input, and ends the run with status 1.
+//! MOTIFS and LINES are the commands that run the two programs. Every input
+//! follows from the seeds that are printed. The first difference is printed with
+//! its input, and ends the run with status 1.
 
+mod faulty;
 mod lines;
 mod program;
 mod texts;
-mod wire;
 
-use program::Program;
-use second::requests::groups;
 use std::process::ExitCode;
-
-fn compare(program: &mut Program) -> Result<(), String> {
-    for group in groups() {
-        let (name, seed, requests) = (&group.name, group.seed, group.requests());
-        program
-            .compare(&requests)
-            .map_err(|difference| format!("{name}, seed {seed}: {difference}"))?;
-        println!("{name}: {} requests, seed {seed}", requests.len());
-    }
-    println!("{}", program.seen.told()?.join("\n"));
-    Ok(())
-}
 
 fn main() -> ExitCode {
     let words: Vec<String> = std::env::args().skip(1).collect();
     let commands: Vec<&[String]> = words.split(|word| word == "--").collect();
-    let [calls, motifs, lines] = commands[..] else {
-        eprintln!(
-            "compare CALLS.. -- MOTIFS.. -- LINES..: the commands that run the three programs"
-        );
+    let [motifs, lines] = commands[..] else {
+        eprintln!("compare MOTIFS.. -- LINES..: the commands that run the two programs");
         return ExitCode::from(2);
     };
     if commands.iter().any(|command| command.is_empty()) {
-        eprintln!("compare CALLS.. -- MOTIFS.. -- LINES..: a command has at least one word");
+        eprintln!("compare MOTIFS.. -- LINES..: a command has at least one word");
         return ExitCode::from(2);
     }
-    let mut program = Program {
-        command: calls.to_vec(),
-        seen: Default::default(),
-    };
-    let compared = compare(&mut program)
-        .and_then(|()| texts::compare(motifs))
-        .and_then(|()| lines::compare(lines));
-    match compared {
+    match texts::compare(motifs).and_then(|()| lines::compare(lines)) {
         Ok(()) => {
-            println!("every answer is the same");
+            println!("every byte is the same");
             ExitCode::SUCCESS
         }
         Err(difference) => {

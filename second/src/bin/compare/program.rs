@@ -1,23 +1,14 @@
-//! A program run on an input, with the comparison of what it prints; and the
-//! program `calls`, run on requests, with the comparison of its answers with
-//! the second program's.
+//! A program run on an input, with the comparison of what it prints.
 
-use crate::wire::{decode, encode};
-use second::requests::answer::Answer;
-use second::requests::request::Request;
-use second::requests::Seen;
 use std::collections::BTreeMap;
 use std::io::{Read, Write};
 use std::process::{Command, Stdio};
 use std::thread;
 
-/// Requests to one run of the program, so that neither side holds too much.
-const BATCH: usize = 20_000;
-
 /// What a program writes when it reads this input. The command is the program
 /// and what it is run with: an emulator and a loader before it, where the
 /// machine wants them.
-pub fn run(command: &[String], input: Vec<u8>) -> Result<Vec<u8>, String> {
+fn run(command: &[String], input: Vec<u8>) -> Result<Vec<u8>, String> {
     let mut child = Command::new(&command[0])
         .args(&command[1..])
         .stdin(Stdio::piped())
@@ -76,46 +67,5 @@ pub fn all_seen(name: &str, expected: &[u64], seen: &BTreeMap<u64, usize>) -> Re
             Err(format!("one of the {name} came to another refusal"))
         }
         None => Ok(()),
-    }
-}
-
-pub struct Program {
-    pub command: Vec<String>,
-    pub seen: Seen,
-}
-
-impl Program {
-    /// What the program writes when it reads these requests.
-    fn answers(&self, requests: &[Request]) -> Result<Vec<u8>, String> {
-        let mut input = (requests.len() as u64).to_le_bytes().to_vec();
-        for request in requests {
-            encode(request, &mut input);
-        }
-        run(&self.command, input)
-    }
-
-    /// Makes the requests of the program and of the second one, and compares
-    /// the answers; at the first difference, says what it is.
-    pub fn compare(&mut self, requests: &[Request]) -> Result<(), String> {
-        for batch in requests.chunks(BATCH) {
-            let output = self.answers(batch)?;
-            let mut rest = &output[..];
-            for request in batch {
-                let expected = Answer::expected(request);
-                let Some(answer) = decode(request, &mut rest) else {
-                    return Err(format!("no answer to this request:\n{request}"));
-                };
-                if let Some(difference) = answer.difference(&expected) {
-                    return Err(format!(
-                        "the program differs from the second one in {difference}\n{request}"
-                    ));
-                }
-                self.seen.count(request, &answer);
-            }
-            if !rest.is_empty() {
-                return Err(format!("{} bytes after the last answer", rest.len()));
-            }
-        }
-        Ok(())
     }
 }
