@@ -1,2 +1,0 @@
--- The laws of the program that compares.
-pub mod Counting
