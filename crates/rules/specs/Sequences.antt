@@ -4,6 +4,7 @@ use mathlib.Core.List.{List, [], _∷_, map}
 use Prim.Native.Nat.{ℕ}
 use lib.ListN.{take, drop}
 use Rattle.rules.specs.Letters.{value}
+use Rattle.rules.specs.declared.SequenceSet.{SequenceSet}
 
 -- a buffer's parts, in order, each as long as its length says
 unfoldable pub split : List ℕ → List ℕ → List (List ℕ)
@@ -13,3 +14,7 @@ split (n ∷ ns) buffer = take n buffer ∷ split ns (drop n buffer)
 -- the sequences: a list of letter values for each
 unfoldable pub sequences : List ℕ → List ℕ → List (List ℕ)
 sequences letters lengths = split lengths (map value letters)
+
+-- the size of a set: how many sequences, and their letters in all
+abbrev pub set-of : ℕ → ℕ → SequenceSet
+set-of n letters = record { sequences = n; letters = letters }

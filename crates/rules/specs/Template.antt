@@ -21,6 +21,10 @@ allowing a c = record { length = c .length; low = c .low; high = c .high; allowa
 abbrev pub none : Component
 none = component 0 0 0
 
+-- a template of a kind of search, so many components and its six slots
+abbrev pub with-slots : declared.Profile → ℕ → Component → Component → Component → Component → Component → Component → Template
+with-slots p n c1 c2 c3 c4 c5 c6 = record { profile = p; count = n; c1 = c1; c2 = c2; c3 = c3; c4 = c4; c5 = c5; c6 = c6 }
+
 -- the slots of a template, and its components: the first of them, as many as it counts
 abbrev pub slots : Template → List Component
 slots t = t .c1 ∷ t .c2 ∷ t .c3 ∷ t .c4 ∷ t .c5 ∷ t .c6 ∷ []

@@ -2,7 +2,8 @@
 ghost use mathlib.Core.Path.{_≡_};
 ghost use Prim.Native.Nat.{min};
 ghost use Rattle.rules.specs.Limits.{Template-COMPONENTS};
-ghost use Rattle.rules.specs.Template.{slots, component, allowing, allowance-in, none, kept, trimmed, size};
+ghost use Rattle.rules.specs.Sequences.{set-of};
+ghost use Rattle.rules.specs.Template.{slots, component, allowing, allowance-in, none, kept, trimmed, size, with-slots};
 ghost use Rattle.rules.specs.Walk.{place, first-place, ended-place};
 use crate::Component;
 use crate::Place;
@@ -77,6 +78,31 @@ impl Template {
 
     pub const GAP: u16 = 255;
 
+    // A template of a kind of search and so many components, from its six slots.
+    pub fn new(
+        profile: Profile,
+        count: u16,
+        c1: Component,
+        c2: Component,
+        c3: Component,
+        c4: Component,
+        c5: Component,
+        c6: Component,
+    ) -> Template
+        ensures { λ r. ⌜ r ≡ with-slots profile count c1 c2 c3 c4 c5 c6 ⌝ }
+    {
+        Template {
+            profile,
+            count,
+            c1,
+            c2,
+            c3,
+            c4,
+            c5,
+            c6,
+        }
+    }
+
     // The slots in order, for loops.
     pub fn components(self) -> [Component; Template::COMPONENTS as usize]
         ensures { λ r. ⌜ r ≡ slots self ⌝ }
@@ -108,16 +134,16 @@ impl Template {
     {
         let p = self.profile;
         let n = self.count;
-        Template {
-            profile: p,
-            count: n,
-            c1: self.c1.keep(p, n, 1),
-            c2: self.c2.keep(p, n, 2),
-            c3: self.c3.keep(p, n, 3),
-            c4: self.c4.keep(p, n, 4),
-            c5: self.c5.keep(p, n, 5),
-            c6: self.c6.keep(p, n, 6),
-        }
+        Template::new(
+            p,
+            n,
+            self.c1.keep(p, n, 1),
+            self.c2.keep(p, n, 2),
+            self.c3.keep(p, n, 3),
+            self.c4.keep(p, n, 4),
+            self.c5.keep(p, n, 5),
+            self.c6.keep(p, n, 6),
+        )
     }
 
     // K, the letters in all.
@@ -142,7 +168,7 @@ impl SequenceSet {
     pub const LETTERS: usize = 65536;
 
     pub fn new(sequences: u32, letters: u32) -> SequenceSet
-        ensures { λ r. ⌜ (r .sequences ≡ sequences) × (r .letters ≡ letters) ⌝ }
+        ensures { λ r. ⌜ r ≡ set-of sequences letters ⌝ }
     {
         SequenceSet { sequences, letters }
     }

@@ -22,16 +22,20 @@ keep-requires-5 c κs = search needs
 keep-requires-6 : tie.Need-keep-requires-6
 keep-requires-6 c κs = search needs
 
+new-requires : tie.Need-new-requires
+new-requires c κs = search needs
+
 returns : tie.Need-returns
 unfolding trimmed
 returns c =
     rw (
-      c .before .before .before .before .before .keep .ensures,
-      c .before .before .before .before .keep2 .ensures,
-      c .before .before .before .keep3 .ensures,
-      c .before .before .keep4 .ensures,
-      c .before .keep5 .ensures,
-      c .keep6 .ensures,
+      c .new .ensures,
+      c .before .before .before .before .before .before .keep .ensures,
+      c .before .before .before .before .before .keep2 .ensures,
+      c .before .before .before .before .keep3 .ensures,
+      c .before .before .before .keep4 .ensures,
+      c .before .before .keep5 .ensures,
+      c .before .keep6 .ensures,
     )
 
 pub trim-spec : {M : Type 1} → statement M
@@ -44,4 +48,5 @@ trim-spec =
     keep-requires-4
     keep-requires-5
     keep-requires-6
+    new-requires
     returns)
