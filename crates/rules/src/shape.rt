@@ -1,13 +1,16 @@
 // What a search is over and where it stands: the limits, the constructors, and a template's components and letters.
 ghost use mathlib.Core.Path.{_≡_};
-ghost use Prim.Native.Nat.{min};
+ghost use Prim.Native.Nat.{min, _-_, _≤_};
+ghost use lib.ListN.{length, take, drop};
 ghost use Rattle.rules.specs.Limits.{Template-COMPONENTS};
 ghost use Rattle.rules.specs.Sequences.{set-of};
 ghost use Rattle.rules.specs.Template.{slots, component, allowing, allowance-in, none, kept, trimmed, size, with-slots};
 ghost use Rattle.rules.specs.Walk.{place, first-place, ended-place};
 use crate::Component;
+use crate::Offset;
 use crate::Place;
 use crate::Profile;
+use crate::Search;
 use crate::SequenceSet;
 use crate::Template;
 
@@ -172,6 +175,17 @@ impl SequenceSet {
     {
         SequenceSet { sequences, letters }
     }
+
+    // The letters of the buffer from one offset up to another. Nothing else cuts the buffer, so that neither a position nor a
+    // sequence's number can be taken for an offset in it.
+    pub fn part(letters: &[u8], from: Offset, to: Offset) -> &[u8]
+        requires { ⌜ (from .0 ≤ to .0) × (to .0 ≤ length (now letters)) ⌝ }
+        ensures { λ r. ⌜ now r ≡ take (to .0 - from .0) (drop (from .0) (now (letters .entry))) ⌝ }
+    {
+        let start = from.0;
+        let end = to.0;
+        &letters[start..end]
+    }
 }
 
 impl Place {
@@ -197,6 +211,19 @@ impl Place {
         Place {
             letters: 0,
             number: 0,
+        }
+    }
+}
+
+impl Search {
+    pub fn new(template: Template, quorum: u64, set: SequenceSet, place: Place) -> Search
+        ensures { λ r. ⌜ r ≡ record { template = template; quorum = quorum; set = set; place = place } ⌝ }
+    {
+        Search {
+            template,
+            quorum,
+            set,
+            place,
         }
     }
 }
