@@ -250,14 +250,5 @@ pub(crate) fn parse_template(text: &[u8]) -> Template
     let c5 = component_at(4, count, text);
     let c6 = component_at(5, count, text);
     let components = count as u16;
-    Template {
-        profile: Profile::Exact,
-        count: components,
-        c1,
-        c2,
-        c3,
-        c4,
-        c5,
-        c6,
-    }
+    Template::new(Profile::Exact, components, c1, c2, c3, c4, c5, c6)
 }

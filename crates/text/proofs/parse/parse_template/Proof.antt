@@ -41,19 +41,23 @@ component-at-requires-5 c κs = (search needs, c .before .before .before .before
 cast-components : tie.Need-cast-components
 cast-components c = omega (arith, c .before .before .before .before .before .before .before .before .before .tail .ensures, c .before .before .before .before .before .before .before .before .before .before .before .pre .0)
 
+new-requires : tie.Need-new-requires
+new-requires c κs = search needs
+
 returns : tie.Need-returns
 returns c =
-    let l = c .before .before .before .before .before .before .before .before .before .before .before .args .text .now in
-    let w = c .before .before .before .before .before .before .before .before .before .before .before .pre .1 in
-    let f = c .before .before .before .before .before .before .before .find .ensures ∙ zero-add _ in
-    template-is _
-    (c .before .before .before .before .before .before .before .before .before .tail .ensures .0 ∙ sym (slot-count l w))
-    (c .before .before .before .before .before .component .ensures ∙ rw (c .before .before .before .before .before .before .first-in .ensures, f) (sym (slot-first l w)))
-    (c .before .before .before .before .component-at .ensures)
-    (c .before .before .before .component-at2 .ensures)
-    (c .before .before .component-at3 .ensures)
-    (c .before .component-at4 .ensures)
-    (c .component-at5 .ensures)
+    let l = c .before .before .before .before .before .before .before .before .before .before .before .before .args .text .now in
+    let w = c .before .before .before .before .before .before .before .before .before .before .before .before .pre .1 in
+    let f = c .before .before .before .before .before .before .before .before .find .ensures ∙ zero-add _ in
+    c .new .ensures
+    ∙ template-is _
+    (c .before .before .before .before .before .before .before .before .before .before .tail .ensures .0 ∙ sym (slot-count l w))
+    (c .before .before .before .before .before .before .component .ensures ∙ rw (c .before .before .before .before .before .before .before .first-in .ensures, f) (sym (slot-first l w)))
+    (c .before .before .before .before .before .component-at .ensures)
+    (c .before .before .before .before .component-at2 .ensures)
+    (c .before .before .before .component-at3 .ensures)
+    (c .before .before .component-at4 .ensures)
+    (c .before .component-at5 .ensures)
 
 pub parse-template-spec : {M : Type 1} → statement M
 parse-template-spec =
@@ -70,4 +74,5 @@ parse-template-spec =
     component-at-requires-4
     component-at-requires-5
     cast-components
+    new-requires
     returns)
