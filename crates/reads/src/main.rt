@@ -20,7 +20,7 @@ fn next_from(
     ensures { λ _. ⌜ now (lengths .exit) ≡ (reader-rule (now (file .entry)) at (now (letters .entry)) used (now (lengths .entry)) count) .lengths ⌝ }
 {
     let mut reader = fasta::new(file);
-    reader.at = at;
+    reader.at += at;
     let handed = fasta::next(&mut reader, letters, used, lengths, count);
     Step {
         handed,
