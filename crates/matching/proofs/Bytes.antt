@@ -162,15 +162,15 @@ whole-none ns l standing n z = record { rows = λ x o. filled-none _ _ ns (row-s
 
 pub whole-more : (ns l : List ℕ) (k : ℕ) → k < length ns → {a e from to : ℕ}
     → a ≡ offset-of ns k → e ≡ offset-of ns (k + 1) → from ≡ first-word ns k → to ≡ first-word ns (k + 1)
+    → {s : List ℕ} → s ≡ take (e - a) (drop a l)
     → (standing standing' : List ℕ) → ((x : ℕ) → x < 4 → take from (row-slot x standing') ≡ take from (row-slot x standing))
-    → ((x : ℕ) → x < 4
-    → held (between from to (row-slot x standing')) ≡ lettered eqb (letter x) (take (e - a) (drop a l)) (64 * (to - from)))
+    → ((x : ℕ) → x < 4 → held (between from to (row-slot x standing')) ≡ lettered eqb (letter x) s (64 * (to - from)))
     → Whole ns l k standing → Whole ns l (k + 1) standing'
 unfolding between
-whole-more ns l k h a e f t standing standing' left here before = record {
+whole-more ns l k h {from = from} {to = to} a e f t is standing standing' left here before = record {
   rows = λ x o.
       filled-turn _ (lettered-at eqb (letter x) ns l) ns (row-slot x standing) (row-slot x standing') k h (before .rows x o) f t (left x o)
-      (λ _. lettered-turn ns k h a e f t eqb (letter x) l (here x o));
+      (λ _. lettered-turn ns k h a e f t eqb (letter x) l (here x o ∙ ap (λ s. lettered eqb (letter x) s (64 * (to - from))) is));
 }
 
 pub whole-end : (ns l : List ℕ) (n : ℕ) (standing : List ℕ) → n ≡ length ns → 4 * Row-WORDS ≤ length standing → Whole ns l n standing → BaseRows ns l standing

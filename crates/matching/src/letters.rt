@@ -10,7 +10,9 @@ use rows::shift;
 use rows::words;
 use rows::words::Bases;
 use rules::Letter;
+use rules::Offset;
 use rules::Profile;
+use rules::SequenceSet;
 use rules::Template;
 use rules::least;
 ghost use mathlib.Core.Bool.{true};
@@ -97,7 +99,8 @@ pub fn letter_slots(
         let e = offsets[k + 1] as usize;
         let from = firsts[k] as usize;
         let to = firsts[k + 1] as usize;
-        sequence_slots(&letters[a..e], from, to, standing);
+        let sequence = SequenceSet::part(letters, Offset(a), Offset(e));
+        sequence_slots(sequence, from, to, standing);
         k += 1;
     }
 }

@@ -72,19 +72,8 @@ shared-slice-read-to c =
 cast-to : tie.Need-cast-to Inv-loop μ-loop
 cast-to c = omega (arith, c .shared-slice-known8 .given (c .before .before .before .before .before .loop .k + 1) .fits)
 
-sub-sequence-slots : tie.Need-sub-sequence-slots Inv-loop μ-loop
-sub-sequence-slots c =
-    let s = c .before .before .before .before .before .before .before .before .before .before .before in
-    let l = c .before .before .before .before .before .loop in
-    let h : l .k < length (s .args .lengths .now) = c .before .before .before .before .loop-test .taken in
-    let a = s .pre .1 .1 .0 .same (l .k) (omega arith) in
-    let e = s .pre .1 .1 .0 .same (l .k + 1) (omega arith) in
-    let f = s .pre .1 .0 .same (l .k) (omega arith) in
-    let t = s .pre .1 .0 .same (l .k + 1) (omega arith) in
-    turn-letters _ _ h a e f t .0
-
-part-sequence-slots-start : tie.Need-part-sequence-slots-start Inv-loop μ-loop
-part-sequence-slots-start c =
+part-requires : tie.Need-part-requires Inv-loop μ-loop
+part-requires c κs =
     let s = c .before .before .before .before .before .before .before .before .before .before .before in
     let l = c .before .before .before .before .before .loop in
     let h : l .k < length (s .args .lengths .now) = c .before .before .before .before .loop-test .taken in
@@ -93,18 +82,7 @@ part-sequence-slots-start c =
     let f = s .pre .1 .0 .same (l .k) (omega arith) in
     let t = s .pre .1 .0 .same (l .k + 1) (omega arith) in
     let m = turn-letters _ _ h a e f t in
-    omega (arith, m .0, m .1, s .pre .0 .adds)
-
-part-sequence-slots-end : tie.Need-part-sequence-slots-end Inv-loop μ-loop
-part-sequence-slots-end c =
-    let s = c .before .before .before .before .before .before .before .before .before .before .before in
-    let l = c .before .before .before .before .before .loop in
-    let h : l .k < length (s .args .lengths .now) = c .before .before .before .before .loop-test .taken in
-    let a = s .pre .1 .1 .0 .same (l .k) (omega arith) in
-    let e = s .pre .1 .1 .0 .same (l .k + 1) (omega arith) in
-    let f = s .pre .1 .0 .same (l .k) (omega arith) in
-    let t = s .pre .1 .0 .same (l .k + 1) (omega arith) in
-    omega (arith, turn-letters _ _ h a e f t .1, s .pre .0 .adds)
+    (m .0, omega (arith, m .1, s .pre .0 .adds))
 
 sequence-slots-requires : tie.Need-sequence-slots-requires Inv-loop μ-loop
 sequence-slots-requires c κs =
@@ -120,7 +98,8 @@ sequence-slots-requires c κs =
     let g = s .args .letters .now in
     let begin = getD (s .args .offsets .now) (l .k) 0 in
     let end = getD (s .args .offsets .now) (l .k + 1) 0 in
-    let n = mid-len begin end g (omega (arith, m .1, s .pre .0 .adds)) in (
+    let n = mid-len begin end g (omega (arith, m .1, s .pre .0 .adds)) in
+    rw (c .before .part .ensures) (
       spelt-part g (s .pre .0 .spelt) begin end,
       (
         (w .0, omega (arith, w .1, enough g (s .args .lengths .now) (s .pre .0)), omega (arith, n, m .2), omega (arith, n, m .3)),
@@ -144,7 +123,7 @@ loop-again c =
     let f = s .pre .1 .0 .same (l .k) (omega arith) in
     let t = s .pre .1 .0 .same (l .k + 1) (omega arith) in
     let o = c .before .before .sequence-slots .ensures in
-    (search needs, o .1 .1 ∙ l .inv .1, whole-more _ (s .args .letters .now) _ h a e f t (l .standing) _ (o .0) (o .1 .0) (l .inv .2))
+    (search needs, o .1 .1 ∙ l .inv .1, whole-more _ (s .args .letters .now) _ h a e f t (c .before .before .before .before .part .ensures) (l .standing) _ (o .0) (o .1 .0) (l .inv .2))
 
 same-length : tie.Need-same-length Inv-loop μ-loop
 same-length c = search needs
@@ -176,9 +155,7 @@ letter-slots-spec =
     mul-to
     shared-slice-read-to
     cast-to
-    sub-sequence-slots
-    part-sequence-slots-start
-    part-sequence-slots-end
+    part-requires
     sequence-slots-requires
     add-k
     loop-less
