@@ -158,8 +158,15 @@ while read -r _ edit; do tried+=("$edit"); done < <(
     done | sort -s -n -r
 )
 
-# What is not proved is proved first.
-rt check >"$work/check" 2>&1 || {
+# What is not proved is proved first. rt expects to be alone in target/: this is the lock that `run` takes too.
+(
+    if command -v flock >/dev/null 2>&1; then
+        mkdir -p target/run
+        exec 9>target/run/lock
+        flock 9
+    fi
+    rt check
+) >"$work/check" 2>&1 </dev/null || {
     cat "$work/check"
     exit 1
 }

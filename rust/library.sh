@@ -1,13 +1,19 @@
 #!/bin/sh
 # Puts the library, as an archive that this machine's programs can link, at target/host/libtulfasheq.a.
 #
-# `rt staticlib exports` proves the crate `exports` and compiles its LLVM module for x86-64; there, that archive is the one. On
-# another processor it cannot be linked, and x86-64 programs run under an emulator, whose times say nothing. So there the same
-# module is compiled once more, for the processor at hand: by the kit's own compiler, at the same call, with the same words but
-# for the target. To get at the module, rt is run over a folder of links to the kit in which the compiler alone is replaced, by a
-# few lines of shell that compile for x86-64 as asked and then for this machine. (The module names an x86-64 processor to tune for,
-# which the other back end does not know and leaves aside.) What is tested and measured is then the proved crate's module through
-# the same compiler, with another back end.
+# `rt check exports` proves the crate `exports`, and `rt staticlib exports` compiles its LLVM module for x86-64. By itself rt would have
+# the crate proved once more for that, since the prover takes nothing over from the check of a library as other crates use it. So the
+# prover is given a folder with all that was checked just now: the program logic as it came with the kit, and the modules of each
+# library as its own check wrote them. It takes from there what is up to date, checks what is not, and builds only what is proved.
+# Where the kit lies otherwise, or its prover does not take that, the crate is proved once more.
+#
+# On x86-64 that archive is the one. On another processor it cannot be linked, and x86-64 programs run under an emulator, whose times
+# say nothing. So there the same module is compiled once more, for the processor at hand: by the kit's own compiler, at the same call,
+# with the same words but for the target. (The module names an x86-64 processor to tune for, which the other back end does not know and
+# leaves aside.) What is tested and measured is then the proved crate's module through the same compiler, with another back end.
+#
+# For both, rt is run over a folder of links to the kit in which the prover, and the compiler, are a few lines of shell that call the
+# kit's own.
 #
 # An archive made from the same proved sources is kept: rt's own mark of what it proved is beside it.
 set -eu
@@ -37,32 +43,19 @@ if [ -f "$host/libtulfasheq.a" ] && [ -f target/staticlib/libexports.a ] && cmp 
 fi
 rm -f "$host/libtulfasheq.a" "$host/stamp"
 
-# The kit's folder: rt names a page that stands in it, KIT/docs/START-HERE.md.
-kit=$(dirname "$(dirname "$(rt doc)")")
-machine=$(uname -m)
-
-if [ "$machine" = x86_64 ]; then
-    quietly rt staticlib exports
-    cp target/staticlib/libexports.a "$host/libtulfasheq.a"
-    cp target/stamp/exports "$host/stamp"
-    echo "target/host/libtulfasheq.a: as rt staticlib exports makes it"
-    exit 0
-fi
-
-work=$(mktemp -d)
+# shellcheck source=rust/kit.sh
+. rust/kit.sh
+work=$(mktemp -d "$PWD/target/library.XXXXXX")
 trap 'rm -rf "$work"' EXIT
-tools=on/$machine/toolchain
-mkdir -p "$work/kit/$tools/bin"
-for from in "$kit"/* "$kit/on/$machine"/* "$kit/$tools"/* "$kit/$tools"/bin/*; do
-    to=$work/kit/${from#"$kit/"}
-    [ -e "$to" ] || ln -s "$from" "$to"
-done
-rm "$work/kit/$tools/bin/clang"
-cat >"$work/kit/$tools/bin/clang" <<END
-#!/bin/sh
+trap 'exit 1' HUP INT TERM
+link_kit "$work/kit"
+
 # The kit's compiler, as asked; then for this machine, to an object of its own.
+if [ "$machine" != x86_64 ]; then
+    replace "$work/kit/$own/toolchain/bin/clang" <<END_OF_COMPILER
+#!/bin/sh
 set -eu
-"$kit/$tools/bin/clang" "\$@"
+"$kit/$own/toolchain/bin/clang" "\$@"
 for word; do
     shift
     case \$word in
@@ -72,11 +65,47 @@ for word; do
     *) set -- "\$@" "\$word" ;;
     esac
 done
-exec "$kit/$tools/bin/clang" "\$@"
-END
-chmod +x "$work/kit/$tools/bin/clang"
+exec "$kit/$own/toolchain/bin/clang" "\$@"
+END_OF_COMPILER
+fi
 
-quietly env RATTLE_HOME="$work/kit" rt staticlib exports
-"$kit/$tools/bin/llvm-ar" rcs "$host/libtulfasheq.a" "$work/host.o"
+# The kit's prover, with the folder of what was checked in the place of the kit's own. That is a copy: the prover writes to it too.
+staticlib() {
+    RATTLE_HOME=$work/kit rt staticlib exports
+}
+over_checked() {
+    prover=$(prover_of exports)
+    can_link && [ -n "$prover" ] || return 1
+    mkdir -p "$work/checked/$prover"
+    for from in "$kit/$own/logic-built" "$kit/$own"/rlib/*.rlib/toolchain/checked target/rlib/*.rlib/toolchain/checked; do
+        cp -R "$from/." "$work/checked/$prover" || return 1
+    done
+    replace "$work/kit/$own/bin/rattle" <<END_OF_PROVER
+#!/bin/sh
+for word; do
+    shift
+    case \$word in
+    --logic-built) set -- "\$@" --cache ;;
+    */logic-built) set -- "\$@" "$work/checked" ;;
+    *) set -- "\$@" "\$word" ;;
+    esac
+done
+exec "$kit/$own/bin/rattle" "\$@"
+END_OF_PROVER
+    staticlib >/dev/null 2>&1 </dev/null
+}
+how='from what was proved'
+over_checked || {
+    how='proved once more'
+    [ ! -e "$work/kit/$own/bin/rattle" ] || ln -s -f "$kit/$own/bin/rattle" "$work/kit/$own/bin/rattle"
+    quietly staticlib
+}
+
+if [ "$machine" = x86_64 ]; then
+    cp target/staticlib/libexports.a "$host/libtulfasheq.a"
+    echo "target/host/libtulfasheq.a: as rt staticlib exports makes it, $how"
+else
+    "$kit/$own/toolchain/bin/llvm-ar" rcs "$host/libtulfasheq.a" "$work/host.o"
+    echo "target/host/libtulfasheq.a: the same module as rt staticlib exports compiles, $how, for $machine"
+fi
 cp target/stamp/exports "$host/stamp"
-echo "target/host/libtulfasheq.a: the same module, compiled for $machine"
