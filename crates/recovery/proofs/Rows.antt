@@ -44,9 +44,9 @@ module _ (w : ℕ) (cs : List Part) (ns l : List ℕ) where
       (emits-append w _ _ s)
 
   -- so after the turn of sequence i there is as much left to do
-  pub through-again : (i b e : ℕ) (s : Buffer) {s′ x : Buffer} → i < length ns → e ≡ b + getD ns i 0
-      → s′ ≡ emits w (after ((i + 1) ∷ []) (occurrences cs (map value (take (e - b) (drop b l))))) s → going-through i b s ≡ x → going-through (i + 1) e s′ ≡ x
-  through-again i b e s h q k r = let d : e - b ≡ getD ns i 0 = omega arith in rw (k, d, q) (sym (through-on i b s h) ∙ r)
+  pub through-again : (i b e : ℕ) (s : Buffer) {s′ x : Buffer} {z : List ℕ} → i < length ns → e ≡ b + getD ns i 0 → z ≡ take (e - b) (drop b l)
+      → s′ ≡ emits w (after ((i + 1) ∷ []) (occurrences cs (map value z))) s → going-through i b s ≡ x → going-through (i + 1) e s′ ≡ x
+  through-again i b e s h q p k r = let d : e - b ≡ getD ns i 0 = omega arith in rw (k, p, d, q) (sym (through-on i b s h) ∙ r)
 
 -- ---- how many there are
 
@@ -69,11 +69,12 @@ module _ (cs : List Part) (ns l : List ℕ) where
   left-none i b h = rw (drop-of-length-le ns {i = i} h)
 
   -- those of sequence i, and of the later ones
-  pub left-more : (i b e : ℕ) → i < length ns → e ≡ b + getD ns i 0 → left i b ≡ length (occurrences cs (map value (take (e - b) (drop b l)))) + left (i + 1) e
+  pub left-more : (i b e : ℕ) {z : List ℕ} → i < length ns → e ≡ b + getD ns i 0 → z ≡ take (e - b) (drop b l)
+      → left i b ≡ length (occurrences cs (map value z)) + left (i + 1) e
   unfolding left split rows-from
-  left-more i b e h q =
+  left-more i b e h q p =
       let d : e - b ≡ getD ns i 0 = omega arith in
-      rw (d, q, add-one i, drop-cons ns i 0 h, drop-drop (getD ns i 0) b (map value l), add-one (suc i), map-drop value b l, map-take value (getD ns i 0) (drop b l))
+      rw (p, d, q, add-one i, drop-cons ns i 0 h, drop-drop (getD ns i 0) b (map value l), add-one (suc i), map-drop value b l, map-take value (getD ns i 0) (drop b l))
       (numbered-length (suc i) (occurrences cs (map value (take (getD ns i 0) (drop b l)))) (rows-from (suc (suc i)) cs (split (drop (suc i) ns) (drop (b + getD ns i 0) (map value l)))))
 
 -- fewer than a number of 64 bits holds

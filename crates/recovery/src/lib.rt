@@ -5,6 +5,7 @@ use checks::spelled::valid;
 use descent::Progress;
 use descent::list_starts;
 use rules::Checked;
+use rules::Offset;
 use rules::Recovered;
 use rules::Refusal;
 use rules::SequenceNumber;
@@ -145,10 +146,10 @@ fn list_sequences(
     while i < lengths.len() {
         let n = lengths[i] as usize;
         let end = begin + n;
-        let number = SequenceNumber(i + 1);
+        let number = i + 1;
         let listed = list_sequence(
-            &letters[begin..end],
-            number,
+            SequenceSet::part(letters, Offset(begin), Offset(end)),
+            SequenceNumber(number),
             template,
             motif,
             ways,

@@ -50,21 +50,15 @@ add-end c =
     let h : l .i < length (a .lengths .now) = omega arith in
     omega (arith, sum-more (a .lengths .now) (l .i) h)
 
-add-list-sequence : tie.Need-add-list-sequence Inv-loop μ-loop
-add-list-sequence c = search needs
+add-number : tie.Need-add-number Inv-loop μ-loop
+add-number c = search needs
 
-sub-list-sequence : tie.Need-sub-list-sequence Inv-loop μ-loop
-sub-list-sequence c = search needs
-
-part-list-sequence-start : tie.Need-part-list-sequence-start Inv-loop μ-loop
-part-list-sequence-start c = search needs
-
-part-list-sequence-end : tie.Need-part-list-sequence-end Inv-loop μ-loop
-part-list-sequence-end c =
+part-requires : tie.Need-part-requires Inv-loop μ-loop
+part-requires c κs =
     let a = c .before .before .before .before .before .before .before .before .args in
     let l = c .before .before .loop in
     let h : l .i < length (a .lengths .now) = omega arith in
-    omega (arith, sum-more (a .lengths .now) (l .i) h)
+    (omega arith, omega (arith, sum-more (a .lengths .now) (l .i) h))
 
 list-sequence-requires : tie.Need-list-sequence-requires Inv-loop μ-loop
 list-sequence-requires c κs =
@@ -72,16 +66,16 @@ list-sequence-requires c κs =
     let a = b .args in
     let l = c .before .before .before .before .before .before .loop in
     let short = b .pre .0 .short in
-    let more = left-more (parts (a .template) (size (a .template)) (a .motif)) (a .lengths .now) (a .letters .now) (l .i) (l .begin) _ (c .before .before .before .before .before .loop-test .taken) refl in
+    let more = left-more (parts (a .template) (size (a .template)) (a .motif)) (a .lengths .now) (a .letters .now) (l .i) (l .begin) _ (c .before .before .before .before .before .loop-test .taken) refl (c .before .before .before .part .ensures) in
     let few = left-few (b .pre .1 .0) (a .letters .now) (a .lengths .now) (b .pre .0) (a .motif) in
-    (b .pre .1 .0, ((omega (arith, b .pre .0 .few), simp (length-take, length-drop) (omega arith), search needs, search needs), (l .inv .4, omega (arith, more, few, l .inv .7))))
+    (b .pre .1 .0, ((omega (arith, b .pre .0 .few), rw (c .before .before .before .part .ensures) (simp (length-take, length-drop) (omega arith)), search needs, search needs), (l .inv .4, omega (arith, more, few, l .inv .7))))
 
 add-length : tie.Need-add-length Inv-loop μ-loop
 add-length c =
     let b = c .before .before .before .before .before .before .before .before .before .before .before .before .before .before .before .before .before .before .before .before .before in
     let a = b .args in
     let l = c .before .before .before .before .before .before .before .before .before .before .before .before .before .before .before .loop in
-    let more = left-more (parts (a .template) (size (a .template)) (a .motif)) (a .lengths .now) (a .letters .now) (l .i) (l .begin) _ (c .before .before .before .before .before .before .before .before .before .before .before .before .before .before .loop-test .taken) refl in
+    let more = left-more (parts (a .template) (size (a .template)) (a .motif)) (a .lengths .now) (a .letters .now) (l .i) (l .begin) _ (c .before .before .before .before .before .before .before .before .before .before .before .before .before .before .loop-test .taken) refl (c .before .before .before .before .before .before .before .before .before .before .before .before .part .ensures) in
     omega (arith, more, left-few (b .pre .1 .0) (a .letters .now) (a .lengths .now) (b .pre .0) (a .motif), l .inv .7, c .before .before .before .before .before .before .before .before .list-sequence .ensures .1 .1)
 
 add-i : tie.Need-add-i Inv-loop μ-loop
@@ -95,6 +89,7 @@ loop-again c =
     let a = c .before .before .before .before .before .before .before .before .before .before .before .before .before .before .before .before .before .before .before .before .before .args in
     let l = c .before .before .before .before .before .before .before .before .before .before .before .before .before .before .before .loop in
     let r = c .before .before .before .before .before .before .before .before .list-sequence .ensures in
+    let p = c .before .before .before .before .before .before .before .before .before .before .before .before .part .ensures in
     let h : l .i < length (a .lengths .now) = c .before .before .before .before .before .before .before .before .before .before .before .before .before .before .loop-test .taken in
     let cs = parts (a .template) (size (a .template)) (a .motif) in (
       omega arith,
@@ -103,8 +98,8 @@ loop-again c =
       search needs,
       r .0,
       omega (arith, sum-more (a .lengths .now) (l .i) h),
-      through-again (suc (a .template .count)) cs (a .lengths .now) (a .letters .now) (l .i) (l .begin) _ (buffer (l .progress) (l .out)) h refl (r .1 .0) (l .inv .6),
-      omega (arith, left-more cs (a .lengths .now) (a .letters .now) (l .i) (l .begin) _ h refl, l .inv .7, r .1 .1),
+      through-again (suc (a .template .count)) cs (a .lengths .now) (a .letters .now) (l .i) (l .begin) _ (buffer (l .progress) (l .out)) h refl p (r .1 .0) (l .inv .6),
+      omega (arith, left-more cs (a .lengths .now) (a .letters .now) (l .i) (l .begin) _ h refl p, l .inv .7, r .1 .1),
     )
 
 same-length : tie.Need-same-length Inv-loop μ-loop
@@ -137,10 +132,8 @@ list-sequences-spec =
     shared-slice-read-n
     cast-n
     add-end
-    add-list-sequence
-    sub-list-sequence
-    part-list-sequence-start
-    part-list-sequence-end
+    add-number
+    part-requires
     list-sequence-requires
     add-length
     add-i
