@@ -82,7 +82,7 @@ part-requires c κs =
     let f = s .pre .1 .0 .same (l .k) (omega arith) in
     let t = s .pre .1 .0 .same (l .k + 1) (omega arith) in
     let m = turn-letters _ _ h a e f t in
-    (m .0, omega (arith, m .1, s .pre .0 .adds))
+    (omega (arith, m .0), omega (arith, m .1, s .pre .0 .adds))
 
 sequence-slots-requires : tie.Need-sequence-slots-requires Inv-loop μ-loop
 sequence-slots-requires c κs =
