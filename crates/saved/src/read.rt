@@ -87,17 +87,7 @@ fn read_template(bytes: &[u8]) -> Template
     let c4 = read_component(bytes, RecordNumber(4));
     let c5 = read_component(bytes, RecordNumber(5));
     let c6 = read_component(bytes, RecordNumber(6));
-    let t = Template {
-        profile,
-        count,
-        c1,
-        c2,
-        c3,
-        c4,
-        c5,
-        c6,
-    };
-    t.trim()
+    Template::new(profile, count, c1, c2, c3, c4, c5, c6).trim()
 }
 
 // The place that record i holds.
@@ -117,13 +107,8 @@ pub(crate) fn read_search(bytes: &[u8]) -> Search
     let quorum = field(bytes, RecordNumber(0), 2, 2);
     let sequences = field(bytes, RecordNumber(0), 4, 2) as u32;
     let letters = field(bytes, RecordNumber(0), 8, 4) as u32;
-    let set = SequenceSet { sequences, letters };
+    let set = SequenceSet::new(sequences, letters);
     let last = component_count(bytes) as u32 + 1;
     let place = read_place(bytes, RecordNumber(last));
-    Search {
-        template,
-        quorum,
-        set,
-        place,
-    }
+    Search::new(template, quorum, set, place)
 }

@@ -23,6 +23,9 @@ field-requires-3 c κs = search needs
 cast-letters : tie.Need-cast-letters
 cast-letters c = search needs
 
+new-requires : tie.Need-new-requires
+new-requires c κs = search needs
+
 component-count-requires : tie.Need-component-count-requires
 component-count-requires c κs = search needs
 
@@ -35,17 +38,22 @@ add-last c = search needs
 read-place-requires : tie.Need-read-place-requires
 read-place-requires c κs = search needs
 
+new-requires-2 : tie.Need-new-requires-2
+new-requires-2 c κs = search needs
+
 returns : tie.Need-returns
 unfolding read-search
 returns c =
     rw (
-      c .read-place .ensures,
+      c .new2 .ensures,
+      c .before .read-place .ensures,
       add-one,
-      c .before .component-count .ensures,
-      c .before .before .field3 .ensures .0,
-      c .before .before .before .field2 .ensures .0,
-      c .before .before .before .before .field .ensures .0,
-      c .before .before .before .before .before .read-template .ensures,
+      c .before .before .component-count .ensures,
+      c .before .before .before .new .ensures,
+      c .before .before .before .before .field3 .ensures .0,
+      c .before .before .before .before .before .field2 .ensures .0,
+      c .before .before .before .before .before .before .field .ensures .0,
+      c .before .before .before .before .before .before .before .read-template .ensures,
     )
 
 pub read-search-spec : {M : Type 1} → statement M
@@ -58,8 +66,10 @@ read-search-spec =
     cast-sequences
     field-requires-3
     cast-letters
+    new-requires
     component-count-requires
     cast-last
     add-last
     read-place-requires
+    new-requires-2
     returns)

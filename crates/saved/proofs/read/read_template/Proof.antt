@@ -33,6 +33,9 @@ read-component-requires-5 c κs = search needs
 read-component-requires-6 : tie.Need-read-component-requires-6
 read-component-requires-6 c κs = search needs
 
+new-requires : tie.Need-new-requires
+new-requires c κs = search needs
+
 trim-requires : tie.Need-trim-requires
 trim-requires c κs = search needs
 
@@ -41,14 +44,15 @@ unfolding read-template trimmed
 returns c =
     c .trim .ensures
     ∙ rw (
-      c .before .read-component6 .ensures,
-      c .before .before .read-component5 .ensures,
-      c .before .before .before .read-component4 .ensures,
-      c .before .before .before .before .read-component3 .ensures,
-      c .before .before .before .before .before .read-component2 .ensures,
-      c .before .before .before .before .before .before .read-component .ensures,
-      c .before .before .before .before .before .before .before .component-count .ensures,
-      c .before .before .before .before .before .before .before .before .read-profile .ensures,
+      c .before .new .ensures,
+      c .before .before .read-component6 .ensures,
+      c .before .before .before .read-component5 .ensures,
+      c .before .before .before .before .read-component4 .ensures,
+      c .before .before .before .before .before .read-component3 .ensures,
+      c .before .before .before .before .before .before .read-component2 .ensures,
+      c .before .before .before .before .before .before .before .read-component .ensures,
+      c .before .before .before .before .before .before .before .before .component-count .ensures,
+      c .before .before .before .before .before .before .before .before .before .read-profile .ensures,
     )
 
 pub read-template-spec : {M : Type 1} → statement M
@@ -64,5 +68,6 @@ read-template-spec =
     read-component-requires-4
     read-component-requires-5
     read-component-requires-6
+    new-requires
     trim-requires
     returns)
