@@ -81,7 +81,7 @@ Brought a os =
 pub record ExportedLegs : Type 0 where
   -- a begin that answers 0, and then legs of which one stops with 1, have brought the whole list
   pub end-to-end : (a : Asked) (gs : List LegLent) → begin-asked a .numbers .number ≡ 0 → one-ended (legs-asked a gs) ≡ true → Brought a (legs-asked a gs)
-  -- one of them does, if each has a budget and room of at least one and there are as many as the whole list has steps
+  -- one of them does, if each has a budget and room of at least one and there are as many as the whole search has steps
   pub ends : (a : Asked) (gs : List LegLent) → begin-asked a .numbers .number ≡ 0 → AmpleLegs gs
       → whole-steps (template-asked a) (a .quorum) (sequences (a .letters) (a .lengths)) ≤ length gs → one-ended (legs-asked a gs) ≡ true
   -- and no leg after such a begin is refused
