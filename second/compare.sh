@@ -1,7 +1,8 @@
 #!/bin/sh
 # Compares the proved library, the printing program and the program that cuts FASTA to lines with the second program. The programs
-# are run on hundreds of inputs (src/bin/compare). The library is called through its exports, linked as any program would link them
-# (../rust): a million calls (src/requests, tests/library*.rs); before that, the limits in ../rust are held to the header's.
+# are run on hundreds of inputs (src/bin/compare). The library is called through its exports, linked as any program would link
+# them (../rust): nearly two million calls (src/requests, tests/library*.rs); before that, the limits in ../rust are held to the
+# header's.
 set -eu
 cd "$(dirname "$0")/.."
 
