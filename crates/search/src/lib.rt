@@ -31,12 +31,7 @@ pub fn begin(letters: &[u8], lengths: &[u32], template: Template, quorum: u64) -
             let trimmed = template.trim();
             let set = SequenceSet::new(sequences, total);
             let place = Place::first();
-            Begun::Search(Search {
-                template: trimmed,
-                quorum,
-                set,
-                place,
-            })
+            Begun::Search(Search::new(trimmed, quorum, set, place))
         }
     }
 }

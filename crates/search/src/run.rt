@@ -45,12 +45,7 @@ fn stopped(answer: LegAnswer, steps: u64, rows: usize, s: Search, letters: u8, n
     let quorum = s.quorum;
     let set = s.set;
     let place = Place::new(letters, number);
-    let search = Search {
-        template,
-        quorum,
-        set,
-        place,
-    };
+    let search = Search::new(template, quorum, set, place);
     Leg {
         answer,
         steps,

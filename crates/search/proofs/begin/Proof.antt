@@ -17,13 +17,6 @@ use borrow.Author.Needs.{needs}
 use Rattle.search.proofs.begin.Statement.{statement}
 use Rattle.search.proofs.begin.Tie as tie
 
--- the search that is answered, from what its parts are
-is-begun : (letters lengths : List ℕ) (t : Template) (quorum : ℕ) {u : Template} {g : SequenceSet} {p : Place} → u ≡ trimmed t
-    → (g .sequences ≡ length lengths) × (g .letters ≡ length letters) → p ≡ first-place
-    → record { template = u; quorum = quorum; set = g; place = p } ≡ begun letters lengths t quorum
-unfolding begun
-is-begun letters lengths t quorum e n f = rw (e, f, ← n .0, ← n .1)
-
 check-new-requires : tie.Need-check-new-requires
 check-new-requires c κs = search needs
 
@@ -52,15 +45,18 @@ new-requires c κs = search needs
 first-requires : tie.Need-first-requires
 first-requires c κs = search needs
 
+new-requires-2 : tie.Need-new-requires-2
+new-requires-2 c κs = search needs
+
 returns : tie.Need-returns
 unfolding begin-rule
 returns c = rw (← c .before .before .before .check-new .ensures, c .before .checked .given .1)
 
 returns-2 : tie.Need-returns-2
-unfolding begin-rule
+unfolding begin-rule begun
 returns-2 c =
-    let s = c .before .before .before in
-    rw (← s .before .before .check-new .ensures, s .enum-told .given .1) (ap gives (is-begun _ _ _ _ (c .before .before .trim .ensures) (c .before .new .ensures) (c .first .ensures)))
+    let s = c .before .before .before .before in
+    rw (← s .before .before .check-new .ensures, s .enum-told .given .1) (ap gives (rw (c .new2 .ensures, c .before .before .before .trim .ensures, c .before .before .new .ensures, c .before .first .ensures)))
 
 pub begin-spec : {M : Type 1} → statement M
 begin-spec =
@@ -74,5 +70,6 @@ begin-spec =
     trim-requires
     new-requires
     first-requires
+    new-requires-2
     returns
     returns-2)
