@@ -2,10 +2,10 @@
 -- it, and after as many pages as there is to print nothing is left.
 use mathlib.Core.Path.{_≡_, refl, sym, ap, _∙_}
 use mathlib.Core.List.{List, _++_, append-assoc, append-nil}
-use Prim.Native.Nat.{ℕ, zero, suc, _≤_}
+use Prim.Native.Nat.{ℕ, zero, suc, _-_, _≤_}
 use native.Mathlib.Nat.{zero-add}
 use native.Mathlib.Omega.{arith}
-use lib.ListN.{length, take}
+use lib.ListN.{length, take, drop}
 use Rattle.rules.specs.Calls.{begin-rule}
 use Rattle.rules.specs.Refusals.{first}
 use Rattle.rules.specs.Relay.{whole-steps}
@@ -26,7 +26,7 @@ use Rattle.motifs.specs.Left.{nothing, rows, at-first, opening}
 use Rattle.motifs.specs.Pages.{print-rows, page-of, left-after, pages, left-at, text-left, Goes, Ready}
 use Rattle.motifs.specs.Program.{pages-of, left-of, Program}
 use Rattle.motifs.proofs.Laid.{amount, page-then, ready-after, less-after}
-use Rattle.motifs.proofs.Reading.{declined, sound, fronts-are}
+use Rattle.motifs.proofs.Reading.{declined, sound, front-part, fronts-are}
 
 module _ (letters lengths : List ℕ) where
   -- the first n pages, and the text of what is left after them
@@ -137,9 +137,9 @@ module _ (input letters lengths : List ℕ) {n k : ℕ} {ls ns : List ℕ} (c : 
           let i = declined input letters lengths e in
           (omega (arith, c .0, ap (λ (i : InputRule). i .count) i), omega (arith, c .1, ap (λ (i : InputRule). i .sequences) i))
 
-  pub read-ready : {b : Told Search} {s : Left} → b ≡ (input-rule input letters lengths) .told → s ≡ opening b → Ready (take n ls) (take k ns) s
+  pub read-ready : {front : List ℕ} {b : Told Search} {s : Left} → front ≡ take (n - 0) (drop 0 ls) → b ≡ (input-rule input letters lengths) .told → s ≡ opening b → Ready front (take k ns) s
   unfolding input-told
-  read-ready {b} {s} t o = go (first (text-checks input)) refl
+  read-ready {front} {b} {s} p t o = rw (front-part n ls p) (go (first (text-checks input)) refl)
     where
       go : (v : Verdict) → first (text-checks input) ≡ v → Ready (take n ls) (take k ns) s
       go fine e =

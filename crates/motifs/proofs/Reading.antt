@@ -1,9 +1,9 @@
 -- What an input comes to, once its text is checked; and a new search over what was read of it.
 use mathlib.Core.Path.{_≡_, sym, ap, _∙_}
 use mathlib.Core.List.{List}
-use Prim.Native.Nat.{ℕ, _≤_}
+use Prim.Native.Nat.{ℕ, _-_, _≤_}
 use native.Mathlib.Omega.{arith}
-use lib.ListN.{length, take, length-append}
+use lib.ListN.{length, take, drop, length-append}
 use Rattle.rules.specs.Calls.{begin-rule}
 use Rattle.rules.specs.Lists.{put}
 use Rattle.rules.specs.Refusals.{first}
@@ -34,11 +34,15 @@ module _ (input letters lengths : List ℕ) where
   unfolding input-rule input-told
   sound e = rw e
 
+-- the part of a buffer from offset 0 on is its front
+pub front-part : {front : List ℕ} (n : ℕ) (l : List ℕ) → front ≡ take (n - 0) (drop 0 l) → front ≡ take n l
+front-part n l e = let z : n - 0 ≡ n = omega arith in rw z at e
+
 -- a new search over the fronts of two tables is one over what was put there
-pub begin-fronts : (xs ys letters lengths : List ℕ) {t u : Template} {q r n k : ℕ} {told : Told Search} {ls ns : List ℕ}
+pub begin-fronts : (xs ys letters lengths : List ℕ) {t u : Template} {q r n k : ℕ} {told : Told Search} {ls ns front : List ℕ}
     → n ≡ length xs → k ≡ length ys → ls ≡ put xs letters → ns ≡ put ys lengths → t ≡ u → q ≡ r
-    → told ≡ begin-rule (take n ls) (take k ns) t q → told ≡ begin-rule xs ys u r
-begin-fronts xs ys letters lengths a b c d e f h = rw (c, d, put-front _ xs letters (sym a), put-front _ ys lengths (sym b), e, f) at h
+    → front ≡ take (n - 0) (drop 0 ls) → told ≡ begin-rule front (take k ns) t q → told ≡ begin-rule xs ys u r
+begin-fronts xs ys letters lengths {n = n} {ls = ls} a b c d e f g h = rw (front-part n ls g, c, d, put-front _ xs letters (sym a), put-front _ ys lengths (sym b), e, f) at h
 
 -- what was put to the front of a table is there
 pub put-room : {A : Type 0} (xs table : List A) → length xs ≤ length (put xs table)

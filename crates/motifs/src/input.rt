@@ -1,6 +1,8 @@
 // What an input says, begun as a search.
 use rules::Begun;
 use rules::Checked;
+use rules::Offset;
+use rules::SequenceSet;
 use text::read::check_text;
 use text::read::read_quorum;
 use text::read::read_sequences;
@@ -35,7 +37,8 @@ fn begin(input: &[u8], letters: &mut [u8], lengths: &mut [u32]) -> Input
     let read = read_sequences(input, letters, lengths);
     let n = read.letters;
     let k = read.sequences;
-    let begun = search::begin(&letters[..n], &lengths[..k], template, quorum);
+    let front = SequenceSet::part(letters, Offset(0), Offset(n));
+    let begun = search::begin(front, &lengths[..k], template, quorum);
     Input {
         begun,
         letters: n,

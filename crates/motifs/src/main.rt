@@ -13,6 +13,8 @@ use pages::if_written;
 use pages::more;
 use pages::next;
 use pages::opening;
+use rules::Offset;
+use rules::SequenceSet;
 use rules::Text;
 use stdin::Came;
 use stdin::not_read;
@@ -58,8 +60,9 @@ fn answer(input: &[u8], letters: &mut [u8], lengths: &mut [u32], out: &mut [u8])
     let mut motifs = [0u64; ROWS];
     let mut supports = [0u32; ROWS];
     let mut weights = [0u64; ROWS];
+    let front = SequenceSet::part(letters, Offset(0), Offset(n));
     write_pages(
-        &letters[..n],
+        front,
         &lengths[..k],
         left,
         &mut motifs,
