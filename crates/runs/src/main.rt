@@ -11,16 +11,7 @@ use rules::Template;
 // A template of the first of six components, of which the last three have one letter and no gap.
 fn template(count: u16, c1: Component, c2: Component, c3: Component) -> Template {
     let c = Component::new(1, 0, 0);
-    Template {
-        profile: Profile::Exact,
-        count,
-        c1,
-        c2,
-        c3,
-        c4: c,
-        c5: c,
-        c6: c,
-    }
+    Template::new(Profile::Exact, count, c1, c2, c3, c, c, c)
 }
 
 // One letter, and after at most one more another: N[0,1]N.
