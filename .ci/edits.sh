@@ -134,7 +134,7 @@ try() { # N EDIT
     [ ! -d "$room/$folder" ] || mv "$room/$folder" "$folder"
     how=$how awk '
         / proved \(unchanged since / || /^rt: ok, / || /^rt: FAILED/ { next }
-        /^rt: must-fail / { $0 = $0 "; " ENVIRON["how"] }
+        /^rt: must-fail .* [0-9]+ s\)$/ { $0 = $0 "; " ENVIRON["how"] }
         { text = text $0 "\n" }
         END { printf "%s", text }' "$room/said"
     rm -rf "$room"

@@ -57,7 +57,7 @@ each-one c = 1
 
 -- a whole search: its steps, then the motifs that it lists
 whole : Walk → List ℕ
-whole W = length (from W (start W)) ∷ listed W (from W (start W))
+whole W = let visited = from W (start W) in length visited ∷ listed W visited
 
 -- the bases that each of the fourteen letters stands for, A 0 to T 3, each list ended by 9
 meanings : List ℕ
