@@ -86,18 +86,17 @@ exec "$kit/$own/bin/rattle" "\$@" --incremental "\$OVER"
 PROVER
 fi
 
-# Makes the folder that rt takes for a repository.
+# Makes the folder that rt takes for a repository. The other crates have no edits there: rt would try those of all that the crate builds on.
 make_room() { # ROOM CRATE EDIT
-    local part
-    mkdir -p "$1/crates/$2/must-fail" "$1/target"
-    for part in crates/*; do
-        [ "$part" = "crates/$2" ] || ln -s "$PWD/$part" "$1/$part"
+    local other
+    mkdir -p "$1/crates" "$1/target"
+    for other in "$work"/crates/*; do
+        [ "$other" = "$work/crates/$2" ] || ln -s "$other" "$1/crates"
     done
-    for part in "crates/$2"/*; do
-        [ "$part" = "crates/$2/must-fail" ] || cp -R "$part" "$1/$part"
-    done
-    cp crates.txt "$1"
+    cp -R "$work/crates/$2" "$1/crates"
+    mkdir "$1/crates/$2/must-fail"
     cp "$3" "$1/crates/$2/must-fail"
+    cp crates.txt "$1"
     ln -s "$PWD/target/rlib" "$1/target/rlib"
     cp -R target/stamp "$1/target/stamp"
 }
@@ -171,6 +170,8 @@ while read -r _ edit; do tried+=("$edit"); done < <(
     exit 1
 }
 mkdir "$work/begun" "$work/room" "$work/refused"
+cp -R crates "$work/crates"
+rm -rf "$work"/crates/*/must-fail
 set -m
 for ((i = 0; i < jobs; i++)); do
     worker </dev/null &
