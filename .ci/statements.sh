@@ -97,7 +97,7 @@ anything of its caller: none has a \`requires\`.
 
 EOF
     statements Demand1 Demand2 Demand3
-    if [ -f crates/exports/specs/ExportedLegs.antt ]; then statements ExportedLegs; fi
+    statements ExportedLegs
     statements Program
 
     cat <<EOF

@@ -21,7 +21,7 @@ use Rattle.rules.specs.Walk.{walk-of}
 use Rattle.rules.specs.declared.Search.{Search}
 use Rattle.rules.specs.declared.Template.{Template}
 use Rattle.rules.proofs.Begins.{Beginning, begins}
-use Rattle.rules.proofs.Demand3.{demand3}
+use Rattle.rules.proofs.Demands.{demand3}
 use Rattle.rules.proofs.Legs.{leg-law}
 use Rattle.rules.proofs.Places.{place-deep}
 use Rattle.rules.proofs.Records.{bytes-counted}

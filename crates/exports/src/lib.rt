@@ -135,20 +135,9 @@ pub extern "C" fn tulfasheq_save(
 {
     let template = shape::read(profile, components, shape, allowances);
     let checked = chain::check_profile(letters, lengths, profile, template);
-    let set = SequenceSet {
-        sequences,
-        letters: total,
-    };
-    let next = Place {
-        letters: next_letters,
-        number: next_number,
-    };
-    let search = Search {
-        template,
-        quorum,
-        set,
-        place: next,
-    };
+    let set = SequenceSet::new(sequences, total);
+    let next = Place::new(next_letters, next_number);
+    let search = Search::new(template, quorum, set, next);
     let told = Count::saved(chain::save(letters, lengths, checked, search, out));
     *place = told.place;
     *size = told.count;

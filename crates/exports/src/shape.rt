@@ -35,16 +35,16 @@ pub fn read(profile: u16, components: u16, shape: &[u16], allowances: &[u16]) ->
     ensures { λ r. ⌜ r ≡ template-of profile components (now (shape .entry)) (now (allowances .entry)) ⌝ }
 {
     let number = profile as u64;
-    Template {
-        profile: Profile::of(number),
-        count: components,
-        c1: slot(shape, 0).allowing(at(allowances, 0)),
-        c2: slot(shape, 3).allowing(at(allowances, 1)),
-        c3: slot(shape, 6).allowing(at(allowances, 2)),
-        c4: slot(shape, 9).allowing(at(allowances, 3)),
-        c5: slot(shape, 12).allowing(at(allowances, 4)),
-        c6: slot(shape, 15).allowing(at(allowances, 5)),
-    }
+    Template::new(
+        Profile::of(number),
+        components,
+        slot(shape, 0).allowing(at(allowances, 0)),
+        slot(shape, 3).allowing(at(allowances, 1)),
+        slot(shape, 6).allowing(at(allowances, 2)),
+        slot(shape, 9).allowing(at(allowances, 3)),
+        slot(shape, 12).allowing(at(allowances, 4)),
+        slot(shape, 15).allowing(at(allowances, 5)),
+    )
 }
 
 // The shape of a template.

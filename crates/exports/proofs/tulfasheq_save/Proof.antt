@@ -12,6 +12,15 @@ read-requires c κs = search needs
 check-profile-requires : tie.Need-check-profile-requires
 check-profile-requires c κs = search needs
 
+new-requires : tie.Need-new-requires
+new-requires c κs = search needs
+
+new-requires-2 : tie.Need-new-requires-2
+new-requires-2 c κs = search needs
+
+new-requires-3 : tie.Need-new-requires-3
+new-requires-3 c κs = search needs
+
 save-requires : tie.Need-save-requires
 save-requires c κs = search needs
 
@@ -23,8 +32,18 @@ same-length c = search needs
 
 returns : tie.Need-returns
 unfolding save-outcome
-returns c = rw (← c .before .before .before .before .before .before .read .ensures, ← c .before .before .before .before .before .check-profile .ensures) (written-outcome count-told _ (c .saved .ensures) (c .before .before .before .save .ensures .0) (c .before .before .before .save .ensures .1))
+returns c =
+    let made = c .before .before .before .before .before in
+    let checked = made .before .before .before in
+    rw (
+      ← checked .before .read .ensures,
+      ← checked .check-profile .ensures,
+      ← made .before .before .new .ensures,
+      ← made .before .new2 .ensures,
+      ← made .new3 .ensures,
+    )
+    (written-outcome count-told _ (c .saved .ensures) (c .before .before .before .save .ensures .0) (c .before .before .before .save .ensures .1))
 
 pub tulfasheq-save-spec : {M : Type 1} → statement M
 tulfasheq-save-spec =
-    tie.close (tie.spec read-requires check-profile-requires save-requires saved-requires same-length returns)
+    tie.close (tie.spec read-requires check-profile-requires new-requires new-requires-2 new-requires-3 save-requires saved-requires same-length returns)

@@ -61,18 +61,23 @@ at-requires-6 c κs = search needs
 allowing-requires-6 : tie.Need-allowing-requires-6
 allowing-requires-6 c κs = search needs
 
+new-requires : tie.Need-new-requires
+new-requires c κs = search needs
+
 returns : tie.Need-returns
 unfolding template-of
 returns c =
-    let e = c .before .before .before in
+    let f = c .before in
+    let e = f .before .before .before in
     let d = e .before .before .before in
     let b = d .before .before .before in
     let a = b .before .before .before in
     let s = a .before .before .before in
     rw (
-      c .allowing6 .ensures,
-      c .before .at6 .ensures,
-      c .before .before .slot6 .ensures,
+      c .new .ensures,
+      f .allowing6 .ensures,
+      f .before .at6 .ensures,
+      f .before .before .slot6 .ensures,
       e .allowing5 .ensures,
       e .before .at5 .ensures,
       e .before .before .slot5 .ensures,
@@ -114,4 +119,5 @@ read-spec =
     slot-requires-6
     at-requires-6
     allowing-requires-6
+    new-requires
     returns)
