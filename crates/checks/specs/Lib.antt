@@ -1,3 +1,3 @@
 -- What the contracts of this crate say, beside the definitions of `rules`.
-pub mod Orders
-pub mod Scanned
+pub mod CheckOrders
+pub mod ScannedLetters

@@ -8,7 +8,7 @@ use native.Mathlib.Omega.{arith}
 use lib.ListN.{length, take, drop, length-map, drop-of-length-le}
 use lib.Seq.{drop-nil}
 use borrow.Author.Tests.{lt-ltb, le-ltb, le-leb, lt-leb}
-use Rattle.descent.specs.Buffer.{Buffer, buffer, progress, emit, emits, after}
+use Rattle.descent.specs.Buffer.{Buffer, buffer, progress, emit, emits, with-front}
 use Rattle.descent.specs.declared.Progress.{Progress}
 
 -- ---- one row
@@ -68,28 +68,28 @@ module _ (w : ℕ) where
 
 module _ (front : List ℕ) where
   -- none and one
-  pub after-none : after front [] ≡ []
-  unfolding after
-  after-none = refl
+  pub with-front-none : with-front front [] ≡ []
+  unfolding with-front
+  with-front-none = refl
 
-  pub after-one : (row : List ℕ) → after front (row ∷ []) ≡ (front ++ row) ∷ []
-  unfolding after
-  after-one row = refl
+  pub with-front-one : (row : List ℕ) → with-front front (row ∷ []) ≡ (front ++ row) ∷ []
+  unfolding with-front
+  with-front-one row = refl
 
   -- those of a list and then those of another
-  pub after-append : (xs ys : List (List ℕ)) → after front (xs ++ ys) ≡ after front xs ++ after front ys
-  unfolding after
-  after-append xs ys = map-append (λ t. front ++ t) xs ys
+  pub with-front-append : (xs ys : List (List ℕ)) → with-front front (xs ++ ys) ≡ with-front front xs ++ with-front front ys
+  unfolding with-front
+  with-front-append xs ys = map-append (λ t. front ++ t) xs ys
 
   -- a number more that they begin with
-  pub after-more : (p : ℕ) (xs : List (List ℕ)) → after front (map (λ t. p ∷ t) xs) ≡ after (front ++ (p ∷ [])) xs
-  unfolding after
-  after-more p [] = refl
-  after-more p (x ∷ xs) = rw (append-assoc front (p ∷ []) x) (ap (λ l. (front ++ (p ∷ x)) ∷ l) (unfold after in after-more p xs))
+  pub with-front-more : (p : ℕ) (xs : List (List ℕ)) → with-front front (map (λ t. p ∷ t) xs) ≡ with-front (front ++ (p ∷ [])) xs
+  unfolding with-front
+  with-front-more p [] = refl
+  with-front-more p (x ∷ xs) = rw (append-assoc front (p ∷ []) x) (ap (λ l. (front ++ (p ∷ x)) ∷ l) (unfold with-front in with-front-more p xs))
 
   -- all of them at once, where none is asked for: u is how many there are
   pub passed-over : (w : ℕ) (xs : List (List ℕ)) (g : Progress) (l : List ℕ) {u : ℕ} → u ≡ length xs → u ≤ g .skip
-      → buffer (progress (g .skip - u) (g .rows) (g .at)) l ≡ emits w (after front xs) (buffer g l)
+      → buffer (progress (g .skip - u) (g .rows) (g .at)) l ≡ emits w (with-front front xs) (buffer g l)
   passed-over w xs g l {u} e h =
-      let n : length (after front xs) ≡ u = unfold after in length-map xs (λ t. front ++ t) ∙ sym e in
-      sym (emits-passed w (after front xs) (g .skip) (g .rows) (g .at) l ∙ rw (drop-of-length-le (after front xs) {i = g .skip} (rw n h), n) (emits-none w _))
+      let n : length (with-front front xs) ≡ u = unfold with-front in length-map xs (λ t. front ++ t) ∙ sym e in
+      sym (emits-passed w (with-front front xs) (g .skip) (g .rows) (g .at) l ∙ rw (drop-of-length-le (with-front front xs) {i = g .skip} (rw n h), n) (emits-none w _))

@@ -11,10 +11,10 @@ use lib.Dec.{leb, ltb}
 use lib.ListN.{length, take, drop, getD, set, length-set, length-drop}
 use lib.Seq.{take-suc-set, length-take-le}
 use borrow.Author.Tests.{leb-true, ltb-true}
-use Rattle.descent.specs.Buffer.{Buffer, buffer, emit, emits, after}
-use Rattle.descent.specs.Paths.{flag, paths, handed, listed}
+use Rattle.descent.specs.Buffer.{Buffer, buffer, emit, emits, with-front}
+use Rattle.descent.specs.Paths.{flag, paths, handed, listed-rows}
 use Rattle.descent.specs.declared.Progress.{Progress}
-use Rattle.descent.proofs.Buffer.{emits-one, emits-full, after-one, after-more}
+use Rattle.descent.proofs.Buffer.{emits-one, emits-full, with-front-one, with-front-more}
 use Rattle.rules.proofs.Components.{components-length, components-more, components-none}
 use Rattle.descent.proofs.Paths.{paths-last, paths-more, handed-within}
 use Rattle.rules.specs.Limits.{Template-COMPONENTS}
@@ -41,7 +41,7 @@ row-more row c p h = rw (take-suc-set row (c + 1) p h, add-one c)
 
 module _ (n : ℕ) (flags row : List ℕ) (c : ℕ) where
   -- of one start, the rows under it
-  pub handed-one : (xs : List Component) (q : ℕ) (s : Buffer) → handed xs n flags row c q (q + 1) s ≡ emits (suc (c + length xs)) (after (take (suc c) row) (paths n flags xs c q)) s
+  pub handed-one : (xs : List Component) (q : ℕ) (s : Buffer) → handed xs n flags row c q (q + 1) s ≡ emits (suc (c + length xs)) (with-front (take (suc c) row) (paths n flags xs c q)) s
   unfolding handed each run
   handed-one xs q s = let one : q + 1 - q ≡ 1 = omega arith in rw (one, append-nil (paths n flags xs c q))
 
@@ -51,7 +51,7 @@ module _ (n : ℕ) (flags row : List ℕ) (c : ℕ) where
     last-turn {r} {row′} e k =
         let z : row′ ≡ take (suc c) row ++ (q ∷ []) = e ∙ rw (add-one (c + 1), row-more longer c q h, same) in
         let w : length row′ ≡ suc (c + 1) = rw e (length-take-le (c + 1 + 1) (set longer (c + 1) q) (rw (length-set longer (c + 1) q) (omega arith)) ∙ add-one (c + 1)) in
-        k ∙ rw (w, z, handed-one (none ∷ []) q s, paths-last n flags c q none refl flagged, after-one (take (suc c) row) (q ∷ [])) (sym (emits-one (suc (c + 1)) (take (suc c) row ++ (q ∷ [])) s))
+        k ∙ rw (w, z, handed-one (none ∷ []) q s, paths-last n flags c q none refl flagged, with-front-one (take (suc c) row) (q ∷ [])) (sym (emits-one (suc (c + 1)) (take (suc c) row ++ (q ∷ [])) s))
 
     -- of any other component, what stands under the next starts
     module _ (t : Template) (few : t .count ≤ Template-COMPONENTS) (l : c + 1 < t .count) where
@@ -62,7 +62,7 @@ module _ (n : ℕ) (flags row : List ℕ) (c : ℕ) where
       to = q + getD (slots t) c none .length + getD (slots t) (c + 1) none .high
 
       under : handed (drop (c + 1) (components t)) n flags (set longer (c + 1) q) (c + 1) from (to + 1) s
-          ≡ emits (suc (c + length (drop c (components t)))) (after (take (suc c) row) (paths n flags (drop c (components t)) c q)) s
+          ≡ emits (suc (c + length (drop c (components t)))) (with-front (take (suc c) row) (paths n flags (drop c (components t)) c q)) s
       unfolding handed reach
       under =
           let x = getD (slots t) c none in
@@ -71,7 +71,7 @@ module _ (n : ℕ) (flags row : List ℕ) (c : ℕ) where
           let f : from ≡ q + (x .length + y .low) = omega arith in
           let z : drop c (components t) ≡ x ∷ drop (c + 1) (components t) = rw (add-one c) (components-more t few c (omega arith)) in
           let w : c + length (drop c (components t)) ≡ c + 1 + length (drop (c + 1) (components t)) = rw z (omega arith) in
-          rw (w, k, f, row-more longer c q h, same, paths-more n flags c q x y (drop (suc (c + 1)) (components t)) z (components-more t few (c + 1) l) flagged, after-more (take (suc c) row) q, add-one c)
+          rw (w, k, f, row-more longer c q h, same, paths-more n flags c q x y (drop (suc (c + 1)) (components t)) z (components-more t few (c + 1) l) flagged, with-front-more (take (suc c) row) q, add-one c)
 
       pub next-turn : {a e : ℕ} {r : Buffer} → a ≡ from → e ≡ min n to + 1
           → r ≡ handed (drop (c + 1) (components t)) n flags (set longer (c + 1) q) (c + 1) a e s → r ≡ handed (drop c (components t)) n flags row c q (q + 1) s
@@ -87,7 +87,7 @@ module _ (t : Template) (few : t .count ≤ Template-COMPONENTS) (n : ℕ) (flag
   handed-last a e s h k =
       let x = getD (slots t) c none in
       let f : drop c (components t) ≡ x ∷ [] = components-more t few c (omega arith) ∙ ap (λ l. x ∷ l) (components-none t few (suc c) (omega arith)) in
-      k ∙ rw f (ap (λ l. emits (suc (c + 1)) (after (take (suc c) row) l) s) (each-same (paths n flags (none ∷ []) c) (paths n flags (x ∷ []) c) (run a (e - a)) (λ p. refl)))
+      k ∙ rw f (ap (λ l. emits (suc (c + 1)) (with-front (take (suc c) row) l) s) (each-same (paths n flags (none ∷ []) c) (paths n flags (x ∷ []) c) (run a (e - a)) (λ p. refl)))
 
   -- nothing is left to hand out into a full buffer
   pub handed-full : (q e : ℕ) (g : Progress) (l : List ℕ) {full : Bool} → c ≤ t .count → g .at ≤ length l → full ≡ leb (g .skip) 0 && ltb (length l - g .at) (t .count + 1) → full ≡ true
@@ -99,7 +99,7 @@ module _ (t : Template) (few : t .count ≤ Template-COMPONENTS) (n : ℕ) (flag
 
 -- from the first component and position on, all that there is
 pub handed-all : (t : Template) → t .count ≤ Template-COMPONENTS → (n : ℕ) (flags row : List ℕ) (i : ℕ) (s : Buffer) → take 1 row ≡ i ∷ []
-    → handed (components t) n flags row 0 1 (n + 1) s ≡ listed t n flags i s
+    → handed (components t) n flags row 0 1 (n + 1) s ≡ listed-rows t n flags i s
 unfolding handed
 handed-all t few n flags row i s e =
     let k : n + 1 - 1 ≡ n = omega arith in

@@ -3,4 +3,4 @@ pub mod Parts
 pub mod Buffer
 pub mod Paths
 pub mod Descent
-pub mod Flags
+pub mod RightFlags

@@ -10,9 +10,9 @@ use native.Mathlib.Omega.{arith}
 use lib.Dec.{ltb, eqb}
 use lib.ListN.{length, take, getD}
 use borrow.Author.Tests.{le-leb, lt-leb, ltb-true, ltb-false}
-use Rattle.descent.specs.Buffer.{Buffer, emits, after}
+use Rattle.descent.specs.Buffer.{Buffer, emits, with-front}
 use Rattle.descent.specs.Paths.{flag, Unflagged, paths, handed}
-use Rattle.descent.proofs.Buffer.{emits-append, after-none, after-append}
+use Rattle.descent.proofs.Buffer.{emits-append, with-front-none, with-front-append}
 use Rattle.rules.specs.Limits.{SequenceSet-LETTERS}
 use Rattle.rules.specs.Lists.{run, each}
 use Rattle.rules.specs.Occurrence.{reach}
@@ -91,8 +91,8 @@ module _ (xs : List Component) (n : ℕ) (flags row : List ℕ) (c : ℕ) where
   handed-on q e s h =
       let k : e - q ≡ suc (e - (q + 1)) = omega arith in
       let one : q + 1 - q ≡ 1 = omega arith in
-      rw (k, one, add-one q, append-nil (paths n flags xs c q), after-append (take (suc c) row) (paths n flags xs c q) (each (paths n flags xs c) (run (suc q) (e - suc q))))
-      (emits-append _ (after (take (suc c) row) (paths n flags xs c q)) (after (take (suc c) row) (each (paths n flags xs c) (run (suc q) (e - suc q)))) s)
+      rw (k, one, add-one q, append-nil (paths n flags xs c q), with-front-append (take (suc c) row) (paths n flags xs c q) (each (paths n flags xs c) (run (suc q) (e - suc q))))
+      (emits-append _ (with-front (take (suc c) row) (paths n flags xs c q)) (with-front (take (suc c) row) (each (paths n flags xs c) (run (suc q) (e - suc q)))) s)
 
   -- those without a flag may be passed over
   pub handed-past : (q r e : ℕ) (s : Buffer) → (q ≤ r) × Unflagged n flags c q r → handed xs n flags row c q e s ≡ handed xs n flags row c r e s
@@ -100,7 +100,7 @@ module _ (xs : List Component) (n : ℕ) (flags row : List ℕ) (c : ℕ) where
   handed-past q r e s h =
       let k : q + (r - q) ≡ r = omega arith in
       let m : e - q - (r - q) ≡ e - r = omega arith in
-      ap (λ l. emits (suc (c + length xs)) (after (take (suc c) row) l) s) (each-unflagged n flags xs c (r - q) q (e - q) (λ p l j. h .1 p l (omega arith)) ∙ rw (k, m))
+      ap (λ l. emits (suc (c + length xs)) (with-front (take (suc c) row) l) s) (each-unflagged n flags xs c (r - q) q (e - q) (λ p l j. h .1 p l (omega arith)) ∙ rw (k, m))
 
   -- so after the turn at q, with r the next that has one, there is as much left to do
   pub handed-again : (q r e : ℕ) (s : Buffer) {s′ x : Buffer} → q < e → (q + 1 ≤ r) × Unflagged n flags c (q + 1) r
@@ -110,12 +110,12 @@ module _ (xs : List Component) (n : ℕ) (flags row : List ℕ) (c : ℕ) where
   -- at the end nothing is left
   pub handed-done : (q e : ℕ) (s : Buffer) → e ≤ q → handed xs n flags row c q e s ≡ s
   unfolding handed emits each run
-  handed-done q e s h = let k : e - q ≡ 0 = omega arith in rw (k, after-none (take (suc c) row))
+  handed-done q e s h = let k : e - q ≡ 0 = omega arith in rw (k, with-front-none (take (suc c) row))
 
   -- nor past the end of the sequence
   pub handed-within : (q m : ℕ) (s : Buffer) → handed xs n flags row c q (min n m + 1) s ≡ handed xs n flags row c q (m + 1) s
   unfolding handed
-  handed-within q m s = ap (λ l. emits (suc (c + length xs)) (after (take (suc c) row) l) s) (go (ltb n (q + (min n m + 1 - q))) refl)
+  handed-within q m s = ap (λ l. emits (suc (c + length xs)) (with-front (take (suc c) row) l) s) (go (ltb n (q + (min n m + 1 - q))) refl)
     where
       go : (b : Bool) → ltb n (q + (min n m + 1 - q)) ≡ b → each (paths n flags xs c) (run q (min n m + 1 - q)) ≡ each (paths n flags xs c) (run q (m + 1 - q))
       go true e =

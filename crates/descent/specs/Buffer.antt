@@ -19,7 +19,7 @@ abbrev pub progress : ℕ → ℕ → ℕ → Progress
 progress skip rows at = record { skip = skip; rows = rows; at = at }
 
 -- the numbers written stand in a buffer of n, and no row was written without one
-pub record Inside (g : Progress) (n : ℕ) : Type 0 where
+pub record InBuffer (g : Progress) (n : ℕ) : Type 0 where
   pub ends : g .at ≤ n
   pub some : g .rows ≤ g .at
 
@@ -37,5 +37,5 @@ emits w [] s = s
 emits w (row ∷ rows) s = emits w rows (emit w row s)
 
 -- the rows that begin with some numbers
-unfoldable pub after : List ℕ → List (List ℕ) → List (List ℕ)
-after front rows = map (λ t. front ++ t) rows
+unfoldable pub with-front : List ℕ → List (List ℕ) → List (List ℕ)
+with-front front rows = map (λ t. front ++ t) rows

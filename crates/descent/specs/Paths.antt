@@ -6,7 +6,7 @@ use mathlib.Core.Path.{_≡_}
 use Prim.Native.Nat.{ℕ, suc, _+_, _-_, _*_, _≤_, _<_}
 use lib.Dec.{leb, eqb}
 use lib.ListN.{length, take, drop, getD}
-use Rattle.descent.specs.Buffer.{Buffer, emits, after}
+use Rattle.descent.specs.Buffer.{Buffer, emits, with-front}
 use Rattle.rules.specs.Limits.{SequenceSet-LETTERS}
 use Rattle.rules.specs.Lists.{run, if, each, some?}
 use Rattle.rules.specs.Occurrence.{reach, starts}
@@ -31,16 +31,16 @@ paths n flags (x ∷ y ∷ ys) c p =
 
 -- a buffer after the rows whose numbers before component c stand in `row`, and whose start of c is one of those from a up to e
 unfoldable pub handed : List Component → ℕ → List ℕ → List ℕ → ℕ → ℕ → ℕ → Buffer → Buffer
-handed xs n flags row c a e s = emits (suc (c + length xs)) (after (take (suc c) row) (each (paths n flags xs c) (run a (e - a)))) s
+handed xs n flags row c a e s = emits (suc (c + length xs)) (with-front (take (suc c) row) (each (paths n flags xs c) (run a (e - a)))) s
 
 -- a buffer after all rows of the sequence with number i
-abbrev pub listed : Template → ℕ → List ℕ → ℕ → Buffer → Buffer
-listed t n flags i s = emits (suc (t .count)) (after (i ∷ []) (each (paths n flags (components t) 0) (run 1 n))) s
+abbrev pub listed-rows : Template → ℕ → List ℕ → ℕ → Buffer → Buffer
+listed-rows t n flags i s = emits (suc (t .count)) (with-front (i ∷ []) (each (paths n flags (components t) 0) (run 1 n))) s
 
 -- the flags of the parts from number c on are set where an occurrence of them and those after them starts
 abbrev pub Flagged : List Part → List ℕ → List ℕ → ℕ → Type 0
 Flagged cs s flags c = (i : ℕ) → c ≤ i → i < length cs → (p : ℕ) → 1 ≤ p → p ≤ length s → flag (length s) flags i p ≡ some? (starts (drop i cs) s p)
 
 -- the ways have, for each position of a sequence of n letters, how many rows are read off under it
-abbrev pub Counted : ℕ → List ℕ → List Component → List ℕ → Type 0
-Counted n flags xs ways = (p : ℕ) → 1 ≤ p → p ≤ n → getD ways (p - 1) 0 ≡ length (paths n flags xs 0 p)
+abbrev pub WaysCounted : ℕ → List ℕ → List Component → List ℕ → Type 0
+WaysCounted n flags xs ways = (p : ℕ) → 1 ≤ p → p ≤ n → getD ways (p - 1) 0 ≡ length (paths n flags xs 0 p)

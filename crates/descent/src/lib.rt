@@ -11,8 +11,8 @@ ghost use mathlib.Core.Path.{_≡_};
 ghost use Prim.Native.Nat.{min, _+_, _-_, _*_, _^_, _≤_, _<_};
 ghost use lib.Dec.{leb, ltb};
 ghost use lib.ListN.{length, take, drop, getD};
-ghost use Rattle.descent.specs.Buffer.{buffer, Inside, emit};
-ghost use Rattle.descent.specs.Paths.{flag, Unflagged, paths, handed, listed, Counted};
+ghost use Rattle.descent.specs.Buffer.{buffer, InBuffer, emit};
+ghost use Rattle.descent.specs.Paths.{flag, Unflagged, paths, handed, listed-rows, WaysCounted};
 ghost use Rattle.rules.specs.Limits.{SequenceSet-LETTERS, SequenceSet-SEQUENCES, Template-COMPONENTS};
 ghost use Rattle.rules.specs.Sound.{SoundTemplate};
 ghost use Rattle.rules.specs.Template.{components, slots, none};
@@ -50,8 +50,8 @@ fn write(row: &[u32], at: usize, out: &mut [u32])
 
 // A row more: it is passed over, written, or left out for want of room.
 fn emit(row: &[u32], done: Progress, out: &mut [u32]) -> Progress
-    requires { ⌜ (0 < length (now row)) × Inside done (length (now out)) ⌝ }
-    ensures { λ r. ⌜ Inside r (length (now (out .exit))) ⌝ }
+    requires { ⌜ (0 < length (now row)) × InBuffer done (length (now out)) ⌝ }
+    ensures { λ r. ⌜ InBuffer r (length (now (out .exit))) ⌝ }
     ensures { λ r. ⌜ buffer r (now (out .exit)) ≡ emit (length (now (row .entry))) (now (row .entry)) (buffer done (now (out .entry))) ⌝ }
 {
     let skip = done.skip;
@@ -157,8 +157,8 @@ fn list_last(
 ) -> Progress
     requires { ⌜ (component < Template-COMPONENTS) × (1 ≤ starts .from .0) × (starts .end .0 ≤ letters + 1) × (letters ≤ SequenceSet-LETTERS) ⌝ }
     requires { ⌜ (length row ≡ Template-COMPONENTS + 1) × (length (now flags) ≡ Template-COMPONENTS * SequenceSet-LETTERS) ⌝ }
-    requires { ⌜ Inside done (length (now out)) ⌝ }
-    ensures { λ r. ⌜ Inside r (length (now (out .exit))) ⌝ }
+    requires { ⌜ InBuffer done (length (now out)) ⌝ }
+    ensures { λ r. ⌜ InBuffer r (length (now (out .exit))) ⌝ }
     ensures { λ r. ⌜ buffer r (now (out .exit)) ≡ handed (none ∷ []) letters (now (flags .entry)) row component (starts .from .0) (starts .end .0) (buffer done (now (out .entry))) ⌝ }
 {
     let last = component + 1;
@@ -190,8 +190,8 @@ fn descend(
     requires { ⌜ SoundTemplate template ⌝ }
     requires { ⌜ (component < template .count) × (1 ≤ starts .from .0) × (starts .end .0 ≤ letters + 1) × (letters ≤ SequenceSet-LETTERS) ⌝ }
     requires { ⌜ (length row ≡ Template-COMPONENTS + 1) × (length (now flags) ≡ Template-COMPONENTS * SequenceSet-LETTERS) ⌝ }
-    requires { ⌜ Inside done (length (now out)) ⌝ }
-    ensures { λ r. ⌜ Inside r (length (now (out .exit))) ⌝ }
+    requires { ⌜ InBuffer done (length (now out)) ⌝ }
+    ensures { λ r. ⌜ InBuffer r (length (now (out .exit))) ⌝ }
     ensures { λ r. ⌜ buffer r (now (out .exit)) ≡ handed (drop component (components template)) letters (now (flags .entry)) row component (starts .from .0) (starts .end .0) (buffer done (now (out .entry))) ⌝ }
 {
     let count = template.count as usize;
@@ -231,9 +231,9 @@ fn list_start(
     requires { ⌜ SoundTemplate template ⌝ }
     requires { ⌜ (1 ≤ at .0) × (at .0 ≤ letters) × (letters ≤ SequenceSet-LETTERS) × (letters ≤ length (now ways)) ⌝ }
     requires { ⌜ (length row ≡ Template-COMPONENTS + 1) × (length (now flags) ≡ Template-COMPONENTS * SequenceSet-LETTERS) ⌝ }
-    requires { ⌜ Inside done (length (now out)) ⌝ }
+    requires { ⌜ InBuffer done (length (now out)) ⌝ }
     requires { ⌜ getD (now ways) (at .0 - 1) 0 ≡ length (paths letters (now flags) (components template) 0 (at .0)) ⌝ }
-    ensures { λ r. ⌜ Inside r (length (now (out .exit))) ⌝ }
+    ensures { λ r. ⌜ InBuffer r (length (now (out .exit))) ⌝ }
     ensures { λ r. ⌜ buffer r (now (out .exit)) ≡ handed (components template) letters (now (flags .entry)) row 0 (at .0) (at .0 + 1) (buffer done (now (out .entry))) ⌝ }
 {
     let from = at.0;
@@ -267,10 +267,10 @@ pub fn list_starts(
     requires { ⌜ SoundTemplate template ⌝ }
     requires { ⌜ (number .0 ≤ SequenceSet-SEQUENCES) × (letters ≤ SequenceSet-LETTERS) × (letters ≤ length (now ways)) ⌝ }
     requires { ⌜ length (now flags) ≡ Template-COMPONENTS * SequenceSet-LETTERS ⌝ }
-    requires { ⌜ Inside done (length (now out)) ⌝ }
-    requires { ⌜ Counted letters (now flags) (components template) (now ways) ⌝ }
-    ensures { λ r. ⌜ Inside r (length (now (out .exit))) ⌝ }
-    ensures { λ r. ⌜ buffer r (now (out .exit)) ≡ listed template letters (now (flags .entry)) (number .0) (buffer done (now (out .entry))) ⌝ }
+    requires { ⌜ InBuffer done (length (now out)) ⌝ }
+    requires { ⌜ WaysCounted letters (now flags) (components template) (now ways) ⌝ }
+    ensures { λ r. ⌜ InBuffer r (length (now (out .exit))) ⌝ }
+    ensures { λ r. ⌜ buffer r (now (out .exit)) ≡ listed-rows template letters (now (flags .entry)) (number .0) (buffer done (now (out .entry))) ⌝ }
 {
     let width = template.count as usize + 1;
     let mut row = [0u32; ROW];

@@ -33,9 +33,9 @@ use Rattle.rules.proofs.Trimmed.{trimmed-same}
 use Rattle.rules.proofs.Verdicts.{first-cons, first-both}
 use Rattle.exports.specs.Exported.{LegOutcome, leg-of, leg-from, leg-outcome, begin-outcome, profile-check}
 use Rattle.exports.specs.ExportedLegs.{Asked, LegLent, AmpleLegs, legs-run, one-ended, NoneRefused, steps-in, rows-in, begin-asked, legs-asked, template-asked, Brought, ExportedLegs}
-use Rattle.exports.specs.Numbers.{stop-number, stopped, leg-told, count-told}
+use Rattle.exports.specs.Numbers.{stop-number, stopped-answer, leg-told, count-told}
 use Rattle.exports.proofs.Resaved.{after-sound, after-long}
-use Rattle.exports.proofs.Whole.{checked-saves, leg-restores}
+use Rattle.exports.proofs.MadeOfTwo.{checked-saves, leg-restores}
 use Rattle.exports.proofs.Zero.{begin-zero}
 
 -- LEGS BESIDE A RELAY that starts at a place of k letters: the same steps and rows, and where one ends so does the other
@@ -79,7 +79,7 @@ same-none s =
 -- a leg that stops so, with its steps and its rows of three tables; and what is run after it
 module _ (steps rows : ℕ) (saved motifs supports weights : List ℕ) where
   abbrev exported : Stop → LegOutcome
-  exported st = leg-of (stopped 0 0 (stop-number st) steps rows) saved motifs supports weights
+  exported st = leg-of (stopped-answer 0 0 (stop-number st) steps rows) saved motifs supports weights
 
   abbrev inner : Stop → Relayed
   inner st = record { answer = gives st; steps = steps; motifs = take rows motifs; supports = take rows supports; weights = take rows weights }

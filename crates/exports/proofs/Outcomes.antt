@@ -7,7 +7,7 @@ use Rattle.rules.specs.Told.{Verdict, Told, refuses}
 use Rattle.rules.specs.declared.Search.{Search}
 use Rattle.rules.specs.declared.Template.{Template}
 use Rattle.exports.specs.Exported.{outcome, outcome-of, save-begun, restore-of, table-after}
-use Rattle.exports.specs.Numbers.{count-told, search-told}
+use Rattle.exports.specs.Numbers.{count-told, restored-told}
 use Rattle.exports.specs.Shape.{shape-of, allowances-of}
 use Rattle.exports.specs.declared.told.Count.{Count}
 use Rattle.exports.specs.declared.told.Restored.{Restored}
@@ -25,6 +25,6 @@ pub begun-outcome : (letters lengths : List ℕ) (v : Template → Verdict) (t :
 begun-outcome letters lengths v t quorum saved d e f g h = rw (← e, ← d, ← f) (written-outcome count-told _ g (h .0) (h .1))
 
 -- a restore: the numbers, the shape and the allowances
-pub restored-outcome : (u : Told Search) (shape allowances : List ℕ) {r : Restored} {t : Told Search} {xs ys : List ℕ} → r ≡ search-told t → t ≡ u → (xs ≡ table-after shape-of t shape) × (ys ≡ table-after allowances-of t allowances)
-    → restore-of r xs ys ≡ restore-of (search-told u) (table-after shape-of u shape) (table-after allowances-of u allowances)
+pub restored-outcome : (u : Told Search) (shape allowances : List ℕ) {r : Restored} {t : Told Search} {xs ys : List ℕ} → r ≡ restored-told t → t ≡ u → (xs ≡ table-after shape-of t shape) × (ys ≡ table-after allowances-of t allowances)
+    → restore-of r xs ys ≡ restore-of (restored-told u) (table-after shape-of u shape) (table-after allowances-of u allowances)
 restored-outcome u shape allowances e f g = rw (e, g .0, g .1, f)

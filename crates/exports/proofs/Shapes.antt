@@ -7,14 +7,14 @@ use Rattle.rules.specs.declared.Profile.the-variants.{Exact, Mixed}
 use Rattle.rules.specs.declared.Search.{Search}
 use Rattle.rules.specs.declared.Template.{Template}
 use Rattle.exports.specs.Exported.{search-of}
-use Rattle.exports.specs.Shape.{slot-at, template-of, shape-of, allowances-of}
+use Rattle.exports.specs.Shape.{slot-at, shaped-template, shape-of, allowances-of}
 
 profile-back : (p : Profile) → numbered-profile (profile-number p) ≡ p
 profile-back Exact = refl
 profile-back Mixed = refl
 
-pub template-back : (t : Template) → template-of (profile-number (t .profile)) (t .count) (shape-of t) (allowances-of t) ≡ t
-unfolding template-of slot-at shape-of allowances-of each
+pub template-back : (t : Template) → shaped-template (profile-number (t .profile)) (t .count) (shape-of t) (allowances-of t) ≡ t
+unfolding shaped-template slot-at shape-of allowances-of each
 template-back t =
     ap (λ p. record { profile = p; count = t .count; c1 = t .c1; c2 = t .c2; c3 = t .c3; c4 = t .c4; c5 = t .c5; c6 = t .c6 })
     (profile-back (t .profile))

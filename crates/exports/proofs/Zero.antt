@@ -24,9 +24,9 @@ use Rattle.rules.specs.declared.Search.{Search}
 use Rattle.rules.specs.declared.Template.{Template}
 use Rattle.rules.proofs.Verdicts.{never}
 use Rattle.exports.specs.Exported.{LegOutcome, no-profile, profile-check, checked-written, begin-outcome, leg-outcome, restore-outcome, save-outcome, recover-outcome, join-outcome, fasta-outcome}
-use Rattle.exports.specs.Numbers.{refusal-number-told, count-told, page-told, search-told, found-told}
-use Rattle.exports.specs.Shape.{template-of}
-use Rattle.exports.proofs.Whole.{checked-saves, leg-refused, leg-runs}
+use Rattle.exports.specs.Numbers.{refusal-number-told, count-told, page-told, restored-told, found-told}
+use Rattle.exports.specs.Shape.{shaped-template}
+use Rattle.exports.proofs.MadeOfTwo.{checked-saves, leg-refused, leg-runs}
 
 -- a refusal of at least 1, and every one of a list
 unfoldable Numbered : Verdict → Type 0
@@ -162,12 +162,12 @@ checked-zero fine vs a xs out h k = written-zero (first vs) a xs out (all-number
 checked-zero (refused n p) vs a xs out h k = (λ e. absurd (omega (arith, h, e)), λ e. never n p e)
 
 module _ (letters lengths : List ℕ) where
-  pub begin-zero : (profile components : ℕ) (shape allowances : List ℕ) (quorum : ℕ) (saved : List ℕ) → let t = template-of profile components shape allowances in
+  pub begin-zero : (profile components : ℕ) (shape allowances : List ℕ) (quorum : ℕ) (saved : List ℕ) → let t = shaped-template profile components shape allowances in
       ((begin-outcome letters lengths profile components shape allowances quorum saved) .numbers .number ≡ 0)
       ↔ (first (profile-check letters lengths profile t ∷ new-checks letters lengths t quorum ++ (check17 (length (bytes (begun letters lengths t quorum))) saved ∷ [])) ≡ fine)
   unfolding begin-outcome count-told
   begin-zero profile components shape allowances quorum saved =
-      let t = template-of profile components shape allowances in
+      let t = shaped-template profile components shape allowances in
       let bs = bytes (begun letters lengths t quorum) in
       let vs = new-checks letters lengths t quorum ++ (check17 (length bs) saved ∷ []) in
       rw (checked-saves letters lengths (profile-check letters lengths profile t) t quorum saved)
@@ -188,7 +188,7 @@ module _ (letters lengths : List ℕ) where
     leg-zero = leg-told-zero (first (restore-checks letters lengths saved)) refl (all-numbered _ (restore-numbered letters lengths saved))
 
   pub restore-zero : (saved shape allowances : List ℕ) → ((restore-outcome letters lengths saved shape allowances) .numbers .number ≡ 0) ↔ (first (restore-checks letters lengths saved) ≡ fine)
-  unfolding restore-outcome search-told restore-rule
+  unfolding restore-outcome restored-told restore-rule
   restore-zero saved shape allowances = unless-zero _ _ (all-numbered _ (restore-numbered letters lengths saved))
 
   pub save-zero : (profile : ℕ) (s : Search) (out : List ℕ)
@@ -196,12 +196,12 @@ module _ (letters lengths : List ℕ) where
   unfolding save-outcome count-told save-rule
   save-zero profile s out = checked-zero _ (save-checks letters lengths s out) _ _ out (profile-numbered letters lengths profile (s .template)) (save-numbered letters lengths s out)
 
-  pub recover-zero : (profile components : ℕ) (shape allowances : List ℕ) (motif first-row : ℕ) (out : List ℕ) → let t = template-of profile components shape allowances in
+  pub recover-zero : (profile components : ℕ) (shape allowances : List ℕ) (motif first-row : ℕ) (out : List ℕ) → let t = shaped-template profile components shape allowances in
       ((recover-outcome letters lengths profile components shape allowances motif first-row out) .numbers .number ≡ 0)
       ↔ (first (profile-check letters lengths profile t ∷ recover-checks letters lengths t motif first-row) ≡ fine)
   unfolding recover-outcome page-told recover-rule
   recover-zero profile components shape allowances motif first-row out =
-      let t = template-of profile components shape allowances in
+      let t = shaped-template profile components shape allowances in
       checked-zero _ (recover-checks letters lengths t motif first-row) _ _ out (profile-numbered letters lengths profile t) (recover-numbered letters lengths t motif first-row)
 
 pub join-zero : (xs ys : List ℕ) (head low high : ℕ) (out : List ℕ) → ((join-outcome xs ys head low high out) .numbers .number ≡ 0) ↔ (first (join-checks xs ys head low high out) ≡ fine)

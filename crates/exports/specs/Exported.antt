@@ -13,8 +13,8 @@ use Rattle.rules.specs.Told.{Verdict, fine, refused, Told, gives, refuses}
 use Rattle.rules.specs.Walk.{place}
 use Rattle.rules.specs.declared.Search.{Search}
 use Rattle.rules.specs.declared.Template.{Template}
-use Rattle.exports.specs.Numbers.{count-told, page-told, stopped, leg-told, search-told, found-told}
-use Rattle.exports.specs.Shape.{template-of, shape-of, allowances-of, fill}
+use Rattle.exports.specs.Numbers.{count-told, page-told, stopped-answer, leg-told, restored-told, found-told}
+use Rattle.exports.specs.Shape.{shaped-template, shape-of, allowances-of, fill}
 use Rattle.exports.specs.declared.told.Count.{Count}
 use Rattle.exports.specs.declared.told.Page.{Page}
 use Rattle.exports.specs.declared.told.Restored.{Restored}
@@ -40,7 +40,7 @@ outcome-of read w = outcome (read (w .told)) (w .out)
 -- the search of a profile, so many components, a shape, allowances and the rest
 abbrev pub search-of : ℕ → ℕ → List ℕ → List ℕ → ℕ → ℕ → ℕ → ℕ → ℕ → Search
 search-of profile components shape allowances quorum sequences total letters number =
-    record { template = template-of profile components shape allowances; quorum = quorum; set = record { sequences = sequences; letters = total }; place = place letters number }
+    record { template = shaped-template profile components shape allowances; quorum = quorum; set = record { sequences = sequences; letters = total }; place = place letters number }
 
 -- THE PROFILE is a number here: one that is none is refused, with 21 and place 0, where 1 to 5 pass, as a restore refuses it
 unfoldable pub no-profile : List ℕ → List ℕ → Template → Verdict
@@ -59,7 +59,7 @@ save-begun letters lengths begun out = on-told begun (λ n p. record { told = re
 
 unfoldable pub begin-outcome : List ℕ → List ℕ → ℕ → ℕ → List ℕ → List ℕ → ℕ → List ℕ → Outcome Count
 begin-outcome letters lengths profile components shape allowances quorum saved =
-    let t = template-of profile components shape allowances in
+    let t = shaped-template profile components shape allowances in
     outcome-of count-told (save-begun letters lengths (on-refusal (profile-check letters lengths profile t) refuses (begin-rule letters lengths t quorum)) saved)
 
 -- LEG: the search is restored, and saved again at its new place
@@ -77,7 +77,7 @@ module _ (letters lengths : List ℕ) (restored : Told Search) (budget : ℕ) (s
   unfoldable pub leg-from : LegOutcome
   leg-from =
       on-told restored
-      (λ n p. leg-of (stopped n p 0 0 0) saved motifs supports weights)
+      (λ n p. leg-of (stopped-answer n p 0 0 0) saved motifs supports weights)
       (λ s. let l = leg-rule letters lengths s budget motifs supports weights in
       leg-of (leg-told (l .told)) (bytes (l .told .search)) (l .motifs) (l .supports) (l .weights))
 
@@ -100,7 +100,7 @@ table-after numbers t table = on-told t (λ n p. table) (λ s. fill (numbers (s 
 
 unfoldable pub restore-outcome : List ℕ → List ℕ → List ℕ → List ℕ → List ℕ → RestoreOutcome
 restore-outcome letters lengths saved shape allowances =
-    let t = restore-rule letters lengths saved in restore-of (search-told t) (table-after shape-of t shape) (table-after allowances-of t allowances)
+    let t = restore-rule letters lengths saved in restore-of (restored-told t) (table-after shape-of t shape) (table-after allowances-of t allowances)
 
 -- SAVE
 unfoldable pub save-outcome : List ℕ → List ℕ → ℕ → Search → List ℕ → Outcome Count
@@ -110,7 +110,7 @@ save-outcome letters lengths profile s out =
 -- RECOVER
 unfoldable pub recover-outcome : List ℕ → List ℕ → ℕ → ℕ → List ℕ → List ℕ → ℕ → ℕ → List ℕ → Outcome Page
 recover-outcome letters lengths profile components shape allowances motif first out =
-    let t = template-of profile components shape allowances in
+    let t = shaped-template profile components shape allowances in
     outcome-of page-told (checked-written (profile-check letters lengths profile t) (recover-rule letters lengths t motif first out) out)
 
 -- JOIN

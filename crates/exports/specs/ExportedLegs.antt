@@ -11,7 +11,7 @@ use Rattle.rules.specs.Relay.{Complete, whole-steps}
 use Rattle.rules.specs.Sequences.{sequences}
 use Rattle.rules.specs.declared.Template.{Template}
 use Rattle.exports.specs.Exported.{Outcome, begin-outcome, LegOutcome, leg-outcome}
-use Rattle.exports.specs.Shape.{template-of}
+use Rattle.exports.specs.Shape.{shaped-template}
 use Rattle.exports.specs.declared.told.Count.{Count}
 
 -- what a caller passes to a begin: `room` is the buffer that it lends
@@ -72,7 +72,7 @@ legs-asked a gs = let b = begin-asked a in legs-run (a .letters) (a .lengths) gs
 
 -- what is asked for, and what legs that have brought it hold: demand 2's list, its supports, its weighted supports and its steps
 abbrev pub template-asked : Asked → Template
-template-asked a = template-of (a .profile) (a .components) (a .shape) (a .allowances)
+template-asked a = shaped-template (a .profile) (a .components) (a .shape) (a .allowances)
 
 abbrev pub Brought : Asked → List LegOutcome → Type 0
 Brought a os =

@@ -20,9 +20,9 @@ refusal-place-told (gives a) = 0
 refusal-place-told (refuses n p) = p
 
 -- the number that f reads off what is given, and 0 in a refusal
-abbrev pub told-of : {A : Type 0} → (A → ℕ) → Told A → ℕ
-told-of f (gives a) = f a
-told-of f (refuses n p) = 0
+abbrev pub number-given : {A : Type 0} → (A → ℕ) → Told A → ℕ
+number-given f (gives a) = f a
+number-given f (refuses n p) = 0
 
 -- why a leg stopped
 abbrev pub stop-number : Stop → ℕ
@@ -31,47 +31,47 @@ stop-number spent = 2
 stop-number full = 3
 
 -- a save's bytes, or a join's positions
-abbrev pub count : ℕ → ℕ → ℕ → Count
-count n p c = record { number = n; place = p; count = c }
+abbrev pub count-answer : ℕ → ℕ → ℕ → Count
+count-answer n p c = record { number = n; place = p; count = c }
 
 unfoldable pub count-told : Told ℕ → Count
-count-told t = count (refusal-number-told t) (refusal-place-told t) (told-of (λ n. n) t)
+count-told t = count-answer (refusal-number-told t) (refusal-place-told t) (number-given (λ n. n) t)
 
 -- a recovery's rows and the length of its whole list
-abbrev pub page : ℕ → ℕ → ℕ → ℕ → Page
-page n p rows length = record { number = n; place = p; rows = rows; length = length }
+abbrev pub page-answer : ℕ → ℕ → ℕ → ℕ → Page
+page-answer n p rows length = record { number = n; place = p; rows = rows; length = length }
 
 unfoldable pub page-told : Told Counts → Page
-page-told t = page (refusal-number-told t) (refusal-place-told t) (told-of (λ c. c .rows) t) (told-of (λ c. c .length) t)
+page-told t = page-answer (refusal-number-told t) (refusal-place-told t) (number-given (λ c. c .rows) t) (number-given (λ c. c .length) t)
 
 -- why a leg stopped, its steps and its rows
-abbrev pub stopped : ℕ → ℕ → ℕ → ℕ → ℕ → Stopped
-stopped n p stop steps rows = record { number = n; place = p; stop = stop; steps = steps; rows = rows }
+abbrev pub stopped-answer : ℕ → ℕ → ℕ → ℕ → ℕ → Stopped
+stopped-answer n p stop steps rows = record { number = n; place = p; stop = stop; steps = steps; rows = rows }
 
 unfoldable pub leg-told : LegTold → Stopped
-leg-told l = stopped (refusal-number-told (l .answer)) (refusal-place-told (l .answer)) (told-of stop-number (l .answer)) (l .steps) (l .rows)
+leg-told l = stopped-answer (refusal-number-told (l .answer)) (refusal-place-told (l .answer)) (number-given stop-number (l .answer)) (l .steps) (l .rows)
 
 -- a search, but for the shape of its template and the allowances
-abbrev pub restored : ℕ → ℕ → ℕ → ℕ → ℕ → ℕ → ℕ → ℕ → ℕ → Restored
-restored n p profile components quorum sequences total letters candidate =
+abbrev pub restored-answer : ℕ → ℕ → ℕ → ℕ → ℕ → ℕ → ℕ → ℕ → ℕ → Restored
+restored-answer n p profile components quorum sequences total letters candidate =
     record { number = n; place = p; profile = profile; components = components; quorum = quorum; sequences = sequences; total = total; letters = letters; candidate = candidate }
 
-unfoldable pub search-told : Told Search → Restored
-search-told t =
-    restored
+unfoldable pub restored-told : Told Search → Restored
+restored-told t =
+    restored-answer
     (refusal-number-told t)
     (refusal-place-told t)
-    (told-of (λ s. profile-number (s .template .profile)) t)
-    (told-of (λ s. s .template .count) t)
-    (told-of (λ s. s .quorum) t)
-    (told-of (λ s. s .set .sequences) t)
-    (told-of (λ s. s .set .letters) t)
-    (told-of (λ s. s .place .letters) t)
-    (told-of (λ s. s .place .number) t)
+    (number-given (λ s. profile-number (s .template .profile)) t)
+    (number-given (λ s. s .template .count) t)
+    (number-given (λ s. s .quorum) t)
+    (number-given (λ s. s .set .sequences) t)
+    (number-given (λ s. s .set .letters) t)
+    (number-given (λ s. s .place .letters) t)
+    (number-given (λ s. s .place .number) t)
 
 -- a record of a FASTA file: 1 where one was found, where its name starts and ends, and its letters; and 0 where none was
-abbrev pub found : ℕ → ℕ → ℕ → ℕ → ℕ → ℕ → Found
-found n p one start end letters = record { number = n; place = p; found = one; «name_start» = start; «name_end» = end; letters = letters }
+abbrev pub found-answer : ℕ → ℕ → ℕ → ℕ → ℕ → ℕ → Found
+found-answer n p one start end letters = record { number = n; place = p; found = one; «name_start» = start; «name_end» = end; letters = letters }
 
 abbrev pub of-record : (ℕ → ℕ → ℕ → ℕ) → Handing → ℕ
 of-record f (entry start end letters) = f start end letters
@@ -79,10 +79,10 @@ of-record f no-entry = 0
 
 unfoldable pub found-told : Told Handing → Found
 found-told t =
-    found
+    found-answer
     (refusal-number-told t)
     (refusal-place-told t)
-    (told-of (of-record (λ start end letters. 1)) t)
-    (told-of (of-record (λ start end letters. start)) t)
-    (told-of (of-record (λ start end letters. end)) t)
-    (told-of (of-record (λ start end letters. letters)) t)
+    (number-given (of-record (λ start end letters. 1)) t)
+    (number-given (of-record (λ start end letters. start)) t)
+    (number-given (of-record (λ start end letters. end)) t)
+    (number-given (of-record (λ start end letters. letters)) t)

@@ -14,8 +14,8 @@ unfoldable pub slot-at : List ℕ → ℕ → Component
 slot-at shape i = component (getD shape i 0) (getD shape (i + 1) 0) (getD shape (i + 2) 0)
 
 -- the template of a profile, so many components, a shape and allowances
-unfoldable pub template-of : ℕ → ℕ → List ℕ → List ℕ → Template
-template-of profile components shape allowances = record {
+unfoldable pub shaped-template : ℕ → ℕ → List ℕ → List ℕ → Template
+shaped-template profile components shape allowances = record {
   profile = numbered-profile profile;
   count = components;
   c1 = allowing (getD allowances 0 0) (slot-at shape 0);

@@ -8,7 +8,7 @@ mod told;
 
 ghost use mathlib.Core.Path.{_≡_};
 ghost use Rattle.exports.specs.Exported.{outcome, leg-of, search-of, begin-outcome, leg-outcome, restore-of, restore-outcome, save-outcome, recover-outcome, join-outcome, fasta-of, fasta-outcome};
-ghost use Rattle.exports.specs.Numbers.{count, page, stopped, restored};
+ghost use Rattle.exports.specs.Numbers.{count-answer, page-answer, stopped-answer, restored-answer};
 use rules::Place;
 use rules::Search;
 use rules::SequenceSet;
@@ -31,7 +31,7 @@ pub extern "C" fn tulfasheq_begin(
     place: &mut u64,
     size: &mut u64,
 ) -> u64
-    ensures { λ r. ⌜ outcome (count r (now (place .exit)) (now (size .exit))) (now (saved .exit)) ≡ begin-outcome (now (letters .entry)) (now (lengths .entry)) profile components (now (shape .entry)) (now (allowances .entry)) quorum (now (saved .entry)) ⌝ }
+    ensures { λ r. ⌜ outcome (count-answer r (now (place .exit)) (now (size .exit))) (now (saved .exit)) ≡ begin-outcome (now (letters .entry)) (now (lengths .entry)) profile components (now (shape .entry)) (now (allowances .entry)) quorum (now (saved .entry)) ⌝ }
 {
     let t = shape::read(profile, components, shape, allowances);
     let checked = chain::check_profile(letters, lengths, profile, t);
@@ -59,7 +59,7 @@ pub extern "C" fn tulfasheq_leg(
     steps: &mut u64,
     rows: &mut u64,
 ) -> u64
-    ensures { λ r. ⌜ leg-of (stopped r (now (place .exit)) (now (stop .exit)) (now (steps .exit)) (now (rows .exit))) (now (saved .exit)) (now (motifs .exit)) (now (supports .exit)) (now (weights .exit)) ≡ leg-outcome (now (letters .entry)) (now (lengths .entry)) (now (saved .entry)) budget (now (motifs .entry)) (now (supports .entry)) (now (weights .entry)) ⌝ }
+    ensures { λ r. ⌜ leg-of (stopped-answer r (now (place .exit)) (now (stop .exit)) (now (steps .exit)) (now (rows .exit))) (now (saved .exit)) (now (motifs .exit)) (now (supports .exit)) (now (weights .exit)) ≡ leg-outcome (now (letters .entry)) (now (lengths .entry)) (now (saved .entry)) budget (now (motifs .entry)) (now (supports .entry)) (now (weights .entry)) ⌝ }
 {
     let restored = saved::restore(letters, lengths, saved);
     let told = chain::leg(
@@ -97,7 +97,7 @@ pub extern "C" fn tulfasheq_restore(
     next_letters: &mut u8,
     next_number: &mut u64,
 ) -> u64
-    ensures { λ r. ⌜ restore-of (restored r (now (place .exit)) (now (profile .exit)) (now (components .exit)) (now (quorum .exit)) (now (sequences .exit)) (now (total .exit)) (now («next_letters» .exit)) (now («next_number» .exit))) (now (shape .exit)) (now (allowances .exit)) ≡ restore-outcome (now (letters .entry)) (now (lengths .entry)) (now (saved .entry)) (now (shape .entry)) (now (allowances .entry)) ⌝ }
+    ensures { λ r. ⌜ restore-of (restored-answer r (now (place .exit)) (now (profile .exit)) (now (components .exit)) (now (quorum .exit)) (now (sequences .exit)) (now (total .exit)) (now («next_letters» .exit)) (now («next_number» .exit))) (now (shape .exit)) (now (allowances .exit)) ≡ restore-outcome (now (letters .entry)) (now (lengths .entry)) (now (saved .entry)) (now (shape .entry)) (now (allowances .entry)) ⌝ }
 {
     let answer = saved::restore(letters, lengths, saved);
     let told = Restored::begun(answer);
@@ -131,7 +131,7 @@ pub extern "C" fn tulfasheq_save(
     place: &mut u64,
     size: &mut u64,
 ) -> u64
-    ensures { λ r. ⌜ outcome (count r (now (place .exit)) (now (size .exit))) (now (out .exit)) ≡ save-outcome (now (letters .entry)) (now (lengths .entry)) profile (search-of profile components (now (shape .entry)) (now (allowances .entry)) quorum sequences total «next_letters» «next_number») (now (out .entry)) ⌝ }
+    ensures { λ r. ⌜ outcome (count-answer r (now (place .exit)) (now (size .exit))) (now (out .exit)) ≡ save-outcome (now (letters .entry)) (now (lengths .entry)) profile (search-of profile components (now (shape .entry)) (now (allowances .entry)) quorum sequences total «next_letters» «next_number») (now (out .entry)) ⌝ }
 {
     let template = shape::read(profile, components, shape, allowances);
     let checked = chain::check_profile(letters, lengths, profile, template);
@@ -161,7 +161,7 @@ pub extern "C" fn tulfasheq_recover(
     rows: &mut u64,
     length: &mut u64,
 ) -> u64
-    ensures { λ r. ⌜ outcome (page r (now (place .exit)) (now (rows .exit)) (now (length .exit))) (now (out .exit)) ≡ recover-outcome (now (letters .entry)) (now (lengths .entry)) profile components (now (shape .entry)) (now (allowances .entry)) motif first (now (out .entry)) ⌝ }
+    ensures { λ r. ⌜ outcome (page-answer r (now (place .exit)) (now (rows .exit)) (now (length .exit))) (now (out .exit)) ≡ recover-outcome (now (letters .entry)) (now (lengths .entry)) profile components (now (shape .entry)) (now (allowances .entry)) motif first (now (out .entry)) ⌝ }
 {
     let t = shape::read(profile, components, shape, allowances);
     let checked = chain::check_profile(letters, lengths, profile, t);
@@ -185,7 +185,7 @@ pub extern "C" fn tulfasheq_join(
     place: &mut u64,
     kept: &mut u64,
 ) -> u64
-    ensures { λ r. ⌜ outcome (count r (now (place .exit)) (now (kept .exit))) (now (out .exit)) ≡ join-outcome (now (first .entry)) (now (second .entry)) head low high (now (out .entry)) ⌝ }
+    ensures { λ r. ⌜ outcome (count-answer r (now (place .exit)) (now (kept .exit))) (now (out .exit)) ≡ join-outcome (now (first .entry)) (now (second .entry)) head low high (now (out .entry)) ⌝ }
 {
     let told = Count::joined(joins::join(first, second, head, low, high, out));
     *place = told.place;

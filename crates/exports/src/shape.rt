@@ -2,7 +2,7 @@
 ghost use mathlib.Core.Path.{_≡_};
 ghost use Prim.Native.Nat.{_*_, _<_};
 ghost use lib.ListN.{getD};
-ghost use Rattle.exports.specs.Shape.{slot-at, template-of, shape-of, allowances-of, fill};
+ghost use Rattle.exports.specs.Shape.{slot-at, shaped-template, shape-of, allowances-of, fill};
 ghost use Rattle.rules.specs.Limits.{Template-COMPONENTS};
 use rules::Component;
 use rules::Profile;
@@ -32,7 +32,7 @@ fn slot(shape: &[u16], i: usize) -> Component
 
 // The template of a profile, so many components, a shape and allowances.
 pub fn read(profile: u16, components: u16, shape: &[u16], allowances: &[u16]) -> Template
-    ensures { λ r. ⌜ r ≡ template-of profile components (now (shape .entry)) (now (allowances .entry)) ⌝ }
+    ensures { λ r. ⌜ r ≡ shaped-template profile components (now (shape .entry)) (now (allowances .entry)) ⌝ }
 {
     let number = profile as u64;
     Template::new(

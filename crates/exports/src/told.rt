@@ -1,7 +1,7 @@
 // Answers as numbers. In each, `number` is 0 or the refusal's number, `place` is the refusal's place, and what an answer does not
 // have is 0.
 ghost use mathlib.Core.Path.{_≡_};
-ghost use Rattle.exports.specs.Numbers.{count, count-told, page-told, stopped, leg-told, search-told, found-told};
+ghost use Rattle.exports.specs.Numbers.{count-answer, count-told, page-told, stopped-answer, leg-told, restored-told, found-told};
 ghost use Rattle.rules.specs.Told.{refusal-number, refusal-place, toldSaved, toldJoined, toldRecovered, toldLeg, toldBegun, toldHanded};
 use rules::Begun;
 use rules::Handed;
@@ -22,7 +22,7 @@ pub struct Count {
 impl Count {
     // A call that was not refused.
     fn done(n: usize) -> Count
-        ensures { λ r. ⌜ r ≡ count 0 0 n ⌝ }
+        ensures { λ r. ⌜ r ≡ count-answer 0 0 n ⌝ }
     {
         Count {
             number: 0,
@@ -33,7 +33,7 @@ impl Count {
 
     // A call that was.
     fn refused(why: Refusal) -> Count
-        ensures { λ r. ⌜ r ≡ count (refusal-number why) (refusal-place why) 0 ⌝ }
+        ensures { λ r. ⌜ r ≡ count-answer (refusal-number why) (refusal-place why) 0 ⌝ }
     {
         Count {
             number: why.number(),
@@ -105,7 +105,7 @@ pub struct Stopped {
 impl Stopped {
     // A leg's counts, beside these.
     fn new(leg: Leg, number: u64, place: u64, stop: u64) -> Stopped
-        ensures { λ r. ⌜ r ≡ stopped number place stop (leg .steps) (leg .rows) ⌝ }
+        ensures { λ r. ⌜ r ≡ stopped-answer number place stop (leg .steps) (leg .rows) ⌝ }
     {
         Stopped {
             number,
@@ -118,7 +118,7 @@ impl Stopped {
 
     // A leg that was refused before it was run.
     pub fn refused(why: Refusal) -> Stopped
-        ensures { λ r. ⌜ r ≡ stopped (refusal-number why) (refusal-place why) 0 0 0 ⌝ }
+        ensures { λ r. ⌜ r ≡ stopped-answer (refusal-number why) (refusal-place why) 0 0 0 ⌝ }
     {
         Stopped {
             number: why.number(),
@@ -159,7 +159,7 @@ pub struct Restored {
 impl Restored {
     // What a restore answered.
     pub fn begun(answer: Begun) -> Restored
-        ensures { λ r. ⌜ r ≡ search-told (toldBegun answer) ⌝ }
+        ensures { λ r. ⌜ r ≡ restored-told (toldBegun answer) ⌝ }
     {
         match answer {
             Begun::Search(s) => {

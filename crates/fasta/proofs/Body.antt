@@ -19,23 +19,23 @@ use Rattle.rules.specs.Told.{Verdict, fine, refused}
 use Rattle.checks.proofs.Laws.{all-letters}
 use Rattle.text.proofs.Printed.{_then_, wrote-length, room}
 use Rattle.text.specs.Printed.{write, Wrote}
-use Rattle.fasta.specs.Scanned.{part, LineAt, in-body?, body, bad-at, BodyAt}
+use Rattle.fasta.specs.Scanned.{file-part, LineAt, in-body?, body, bad-at, BodyAt}
 use Rattle.fasta.proofs.FileLines.{part-length, lines-end, line-some, header-mark, header-not, header-here}
 
 -- ---- the first byte of a line that is no letter
 
 module _ (file : List ℕ) (start end mark : ℕ) (h : start ≤ end) (k : end ≤ length file)
-    (f : (o : ℕ) → first-bad 4 bad-byte o (part file start end) ≡ if (ltb mark (length (part file start end))) (refused 4 (o + mark)) fine) where
-  pub bad-here : mark < length (part file start end) → check-line (line start (part file start end)) ≡ bad-at file (start + mark)
+    (f : (o : ℕ) → first-bad 4 bad-byte o (file-part file start end) ≡ if (ltb mark (length (file-part file start end))) (refused 4 (o + mark)) fine) where
+  pub bad-here : mark < length (file-part file start end) → check-line (line start (file-part file start end)) ≡ bad-at file (start + mark)
   bad-here m =
-      f start ∙ rw (lt-ltb mark (length (part file start end)) m, lt-ltb (start + mark) (length file) (omega (arith, part-length file start end h k)))
+      f start ∙ rw (lt-ltb mark (length (file-part file start end)) m, lt-ltb (start + mark) (length file) (omega (arith, part-length file start end h k)))
 
-  pub bad-none : length (part file start end) ≤ mark → check-line (line start (part file start end)) ≡ bad-at file (length file)
-  bad-none m = f start ∙ rw (le-ltb mark (length (part file start end)) m, le-ltb (length file) (length file) (omega arith))
+  pub bad-none : length (file-part file start end) ≤ mark → check-line (line start (file-part file start end)) ≡ bad-at file (length file)
+  bad-none m = f start ∙ rw (le-ltb mark (length (file-part file start end)) m, le-ltb (length file) (length file) (omega arith))
 
 -- none, where all are letters
-pub bad-nowhere : (file : List ℕ) (start end : ℕ) → all? letter? (part file start end) ≡ true → check-line (line start (part file start end)) ≡ bad-at file (length file)
-bad-nowhere file start end e = all-letters start (part file start end) e ∙ rw (le-ltb (length file) (length file) (omega arith))
+pub bad-nowhere : (file : List ℕ) (start end : ℕ) → all? letter? (file-part file start end) ≡ true → check-line (line start (file-part file start end)) ≡ bad-at file (length file)
+bad-nowhere file start end e = all-letters start (file-part file start end) e ∙ rw (le-ltb (length file) (length file) (omega arith))
 
 -- ---- a line that is no header, before others: an empty one is none of them, and has nothing to count or to refuse
 
@@ -61,22 +61,22 @@ pub in-file : (file : List ℕ) (at : ℕ) → in-body? file at ≡ true → at 
 in-file file at i = ltb-true at (length file) (both (ltb at (length file)) (not (eqb (getD file at 0) 62)) .0 i .0)
 
 module _ {file : List ℕ} {at end next : ℕ} (i : in-body? file at ≡ true) (l : LineAt file at end next) where
-  no-header : header? (line at (part file at end)) ≡ false
+  no-header : header? (line at (file-part file at end)) ≡ false
   no-header = header-not file at end (eqb-false _ _ (not-true _ (both (ltb at (length file)) (not (eqb (getD file at 0) 62)) .0 i .1)))
 
-  texts-more : texts (body file at) ≡ part file at end ++ texts (body file next)
-  texts-more = rw (l .lines) (texts-cons at (part file at end) (lines-from file next) no-header)
+  texts-more : texts (body file at) ≡ file-part file at end ++ texts (body file next)
+  texts-more = rw (l .lines) (texts-cons at (file-part file at end) (lines-from file next) no-header)
 
   length-more : length (texts (body file at)) ≡ end - at + length (texts (body file next))
   length-more =
       ap length texts-more
       ∙ rw (length-append, part-length file at end (l .forward) (omega (arith, l .ended, l .within)))
 
-  check-more : check-lines (body file at) ≡ check-line (line at (part file at end)) else check-lines (body file next)
-  check-more = rw (l .lines) (check-cons at (part file at end) (lines-from file next) no-header)
+  check-more : check-lines (body file at) ≡ check-line (line at (file-part file at end)) else check-lines (body file next)
+  check-more = rw (l .lines) (check-cons at (file-part file at end) (lines-from file next) no-header)
 
   entries-more : entries (lines-from file at) ≡ entries (lines-from file next)
-  entries-more = rw (l .lines) (entries-cons at (part file at end) (lines-from file next) no-header)
+  entries-more = rw (l .lines) (entries-cons at (file-part file at end) (lines-from file next) no-header)
 
 -- ---- where no line of the record's begins it is over: the file ends there, or a header begins
 
@@ -135,7 +135,7 @@ bad-first file bad v h = rw (le-ltb bad (length file) h) (fine-else v)
 
 -- one line more
 pub measured-more : {file : List ℕ} {from at end next size bad worse : ℕ} → Measured file from at size bad → in-body? file at ≡ true → LineAt file at end next
-    → bad-at file bad else check-line (line at (part file at end)) ≡ bad-at file worse → Measured file from next (size + (end - at)) worse
+    → bad-at file bad else check-line (line at (file-part file at end)) ≡ bad-at file worse → Measured file from next (size + (end - at)) worse
 measured-more {file} {from} {at} {end} {next} {size} {bad} d i l e =
     record {
       within = l .within;
@@ -178,7 +178,7 @@ module _ {file : List ℕ} {from used at n : ℕ} {before after : List ℕ} (d :
   copied-fits i l = omega (arith, d .room, length-more i l)
 
   -- which is written
-  pub copied-more : {end next m : ℕ} {now : List ℕ} → in-body? file at ≡ true → LineAt file at end next → Wrote n (part file at end) after now m
+  pub copied-more : {end next m : ℕ} {now : List ℕ} → in-body? file at ≡ true → LineAt file at end next → Wrote n (file-part file at end) after now m
       → Copied file from used before next m now
   copied-more {end} {next} {m} {now} i l w =
       let rest = texts (body file next) in

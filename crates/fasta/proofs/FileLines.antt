@@ -14,35 +14,35 @@ use Rattle.rules.specs.Lists.{keep, some?}
 use Rattle.rules.specs.Text.{pieces}
 use Rattle.text.specs.Pieces.{find, others}
 use Rattle.text.proofs.Scan.{find-on, pieces-cut, scan-from, scan-to, scan-cut, scan-others, scan-none}
-use Rattle.fasta.specs.Scanned.{part, LineAt, FirstLine}
+use Rattle.fasta.specs.Scanned.{file-part, LineAt, FirstLine}
 
 -- ---- the text of a line
 
 module _ (file : List ℕ) (start stop : ℕ) (h : start ≤ stop) (k : stop ≤ length file) where
   -- it has as many bytes as it has places
-  pub part-length : length (part file start stop) ≡ stop - start
+  pub part-length : length (file-part file start stop) ≡ stop - start
   part-length = length-take-le (stop - start) (drop start file) (omega (arith, length-drop start file))
 
-  part-last : start < stop → getD (part file start stop) (length (part file start stop) - 1) 0 ≡ getD file (stop - 1) 0
+  part-last : start < stop → getD (file-part file start stop) (length (file-part file start stop) - 1) 0 ≡ getD file (stop - 1) 0
   part-last p =
       let q : start + (stop - start - 1) ≡ stop - 1 = omega arith in
       rw part-length (getD-take (stop - start) (drop start file) (stop - start - 1) 0 (omega arith) ∙ getD-drop start file (stop - start - 1) 0 ∙ rw q)
 
   -- a byte 13 at its end is none of it
-  pub return-cut : start < stop → getD file (stop - 1) 0 ≡ 13 → part file start (stop - 1) ≡ without-return (part file start stop)
+  pub return-cut : start < stop → getD file (stop - 1) 0 ≡ 13 → file-part file start (stop - 1) ≡ without-return (file-part file start stop)
   unfolding without-return
   return-cut p e =
-      let q : length (part file start stop) - 1 ≡ stop - 1 - start = omega (arith, part-length) in
-      let t = eq-eqb (getD (part file start stop) (length (part file start stop) - 1) 0) 13 (part-last p ∙ e) in
+      let q : length (file-part file start stop) - 1 ≡ stop - 1 - start = omega (arith, part-length) in
+      let t = eq-eqb (getD (file-part file start stop) (length (file-part file start stop) - 1) 0) 13 (part-last p ∙ e) in
       rw t (rw q (sym (take-take (stop - 1 - start) (stop - start) (drop start file) (omega arith))))
 
   -- another byte is
-  pub return-none : start < stop → (getD file (stop - 1) 0 ≡ 13 → ⊥) → part file start stop ≡ without-return (part file start stop)
+  pub return-none : start < stop → (getD file (stop - 1) 0 ≡ 13 → ⊥) → file-part file start stop ≡ without-return (file-part file start stop)
   unfolding without-return
-  return-none p e = rw (ne-eqb (getD (part file start stop) (length (part file start stop) - 1) 0) 13 (λ w. e (sym (part-last p) ∙ w)))
+  return-none p e = rw (ne-eqb (getD (file-part file start stop) (length (file-part file start stop) - 1) 0) 13 (λ w. e (sym (part-last p) ∙ w)))
 
 -- and no byte has none to cut
-pub return-empty : (file : List ℕ) (start stop : ℕ) → start ≡ stop → part file start stop ≡ without-return (part file start stop)
+pub return-empty : (file : List ℕ) (start stop : ℕ) → start ≡ stop → file-part file start stop ≡ without-return (file-part file start stop)
 unfolding without-return
 return-empty file start stop e =
     let q : stop - start ≡ 0 = omega arith in
@@ -72,11 +72,11 @@ module _ (file : List ℕ) (at stop : ℕ) (e : stop ≡ at + find 10 (drop at f
   low : at ≤ length file
   low = omega arith
 
-  split : lines-from file at ≡ keep text? (lines-of at (part file at stop ∷ others 10 (drop at file)))
+  split : lines-from file at ≡ keep text? (lines-of at (file-part file at stop ∷ others 10 (drop at file)))
   split = from-is file at ∙ rw (scan-cut 10 at stop file e low)
 
   -- where the scan finds the byte, the line ends there
-  pub line-more : stop < length file → {end : ℕ} → at ≤ end → end ≤ stop → part file at end ≡ without-return (part file at stop) → LineAt file at end (stop + 1)
+  pub line-more : stop < length file → {end : ℕ} → at ≤ end → end ≤ stop → file-part file at end ≡ without-return (file-part file at stop) → LineAt file at end (stop + 1)
   line-more k {end} a b t =
       record {
         forward = a;
@@ -85,9 +85,9 @@ module _ (file : List ℕ) (at stop : ℕ) (e : stop ≡ at + find 10 (drop at f
         within = omega arith;
         lines =
             let f = scan-from 10 at stop file e low in
-            let q : at + length (part file at stop) + 1 ≡ stop + 1 = omega (arith, f, part-length file at stop f (omega arith)) in
-            split ∙ rw (scan-others 10 at stop file e low k, lines-cons at (part file at stop) (drop (stop + 1) file), q, t)
-            (keep-append text? (line at (without-return (part file at stop)) ∷ []) (lines-of (stop + 1) (pieces 10 (drop (stop + 1) file))) ∙ rw (from-is file (stop + 1)));
+            let q : at + length (file-part file at stop) + 1 ≡ stop + 1 = omega (arith, f, part-length file at stop f (omega arith)) in
+            split ∙ rw (scan-others 10 at stop file e low k, lines-cons at (file-part file at stop) (drop (stop + 1) file), q, t)
+            (keep-append text? (line at (without-return (file-part file at stop)) ∷ []) (lines-of (stop + 1) (pieces 10 (drop (stop + 1) file))) ∙ rw (from-is file (stop + 1)));
       }
 
   -- where it finds none, the line is the last
@@ -99,8 +99,8 @@ module _ (file : List ℕ) (at stop : ℕ) (e : stop ≡ at + find 10 (drop at f
         onward = omega arith;
         within = scan-to 10 at stop file e low;
         lines =
-            split ∙ rw (scan-none 10 at stop file e low k, lines-one at (part file at stop), lines-end file stop k)
-            (sym (append-nil (keep text? (line at (part file at stop) ∷ []))));
+            split ∙ rw (scan-none 10 at stop file e low k, lines-one at (file-part file at stop), lines-end file stop k)
+            (sym (append-nil (keep text? (line at (file-part file at stop) ∷ []))));
       }
 
 -- ---- the first line that is not empty
@@ -114,7 +114,7 @@ module _ (file : List ℕ) (start end next : ℕ) (l : LineAt file start end nex
       rw q at (l .lines)
 
   -- a line with bytes is the first from there on
-  pub line-some : start < end → lines-from file start ≡ line start (part file start end) ∷ lines-from file next
+  pub line-some : start < end → lines-from file start ≡ line start (file-part file start end) ∷ lines-from file next
   unfolding keep some?
   line-some h =
       let q : end - start ≡ suc (end - start - 1) = omega arith in
@@ -133,23 +133,23 @@ module _ (file : List ℕ) (at start : ℕ) (h : lines-from file at ≡ lines-fr
 -- ---- whether a line is a header
 
 module _ (file : List ℕ) (start end : ℕ) where
-  part-first : start < end → getD (part file start end) 0 0 ≡ getD file start 0
+  part-first : start < end → getD (file-part file start end) 0 0 ≡ getD file start 0
   part-first h =
       let q : start + 0 ≡ start = omega arith in
       getD-take (end - start) (drop start file) 0 0 (omega arith) ∙ getD-drop start file 0 0 ∙ rw q
 
   -- its first byte is the one at its offset
-  pub header-mark : start < end → getD file start 0 ≡ 62 → header? (line start (part file start end)) ≡ true
+  pub header-mark : start < end → getD file start 0 ≡ 62 → header? (line start (file-part file start end)) ≡ true
   unfolding header?
-  header-mark h e = eq-eqb (getD (part file start end) 0 0) 62 (part-first h ∙ e)
+  header-mark h e = eq-eqb (getD (file-part file start end) 0 0) 62 (part-first h ∙ e)
 
   -- and an empty line has none
-  pub header-not : (getD file start 0 ≡ 62 → ⊥) → header? (line start (part file start end)) ≡ false
+  pub header-not : (getD file start 0 ≡ 62 → ⊥) → header? (line start (file-part file start end)) ≡ false
   unfolding header?
   header-not e = go (ltb start end) refl
     where
-      go : (b : Bool) → ltb start end ≡ b → eqb (getD (part file start end) 0 0) 62 ≡ false
-      go true t = ne-eqb (getD (part file start end) 0 0) 62 (λ w. e (sym (part-first (ltb-true start end t)) ∙ w))
+      go : (b : Bool) → ltb start end ≡ b → eqb (getD (file-part file start end) 0 0) 62 ≡ false
+      go true t = ne-eqb (getD (file-part file start end) 0 0) 62 (λ w. e (sym (part-first (ltb-true start end t)) ∙ w))
       go false t =
           let q : end - start ≡ 0 = omega (arith, ltb-false start end t) in
           rw q

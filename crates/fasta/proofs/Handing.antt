@@ -17,7 +17,7 @@ use Rattle.rules.specs.Limits.{Fasta-LENGTH}
 use Rattle.rules.specs.Lists.{put, put-at}
 use Rattle.rules.specs.Refusals.{_else_, first}
 use Rattle.rules.specs.Told.{gives, refuses, entry, no-entry}
-use Rattle.fasta.specs.Scanned.{part, FirstLine, HeaderAt, body, BodyAt}
+use Rattle.fasta.specs.Scanned.{file-part, FirstLine, HeaderAt, body, BodyAt}
 use Rattle.fasta.proofs.FileLines.{line-some, header-mark, header-not}
 use Rattle.fasta.proofs.Names.{part-cons}
 
@@ -42,7 +42,7 @@ module _ (file : List ℕ) (at : ℕ) (letters : List ℕ) (used : ℕ) (lengths
   module _ {start end next : ℕ} (h : HeaderAt file at start end next) where
     -- the record that it begins
     abbrev next-entry : Entry
-    next-entry = record { header = line start (part file start end); lines = body file next }
+    next-entry = record { header = line start (file-part file start end); lines = body file next }
 
     rule-header : rule ≡ on-refusal (check20 letters used lengths count next-entry else check4-file next-entry)
         (λ n p. stays file at letters used lengths count (refuses n p))
@@ -51,7 +51,7 @@ module _ (file : List ℕ) (at : ℕ) (letters : List ℕ) (used : ℕ) (lengths
     rule-header =
         rw (h .lines ∙ line-some file start end next (h .line) (h .some), header-mark file start end (h .some) (h .mark), fine-else, else-fine (check4-file next-entry))
 
-    name-is : name-of next-entry ≡ up-to-blank (part file (start + 1) end)
+    name-is : name-of next-entry ≡ up-to-blank (file-part file (start + 1) end)
     unfolding name-of
     name-is = rw (part-cons file start end (h .some) (omega (arith, h .line .ended, h .line .within)))
 
@@ -71,7 +71,7 @@ module _ (file : List ℕ) (at : ℕ) (letters : List ℕ) (used : ℕ) (lengths
       rule-bad e n k = rule-header ∙ rw (sized, ← e, n, b .checked, lt-ltb bad (length file) k)
 
       -- there is, and all are letters: it is handed out
-      pub rule-record : {t : Bool} {stop : ℕ} → t ≡ no-room? (length letters) used (length lengths) count size → t ≡ false → length file ≤ bad → stop ≡ start + 1 + length (up-to-blank (part file (start + 1) end))
+      pub rule-record : {t : Bool} {stop : ℕ} → t ≡ no-room? (length letters) used (length lengths) count size → t ≡ false → length file ≤ bad → stop ≡ start + 1 + length (up-to-blank (file-part file (start + 1) end))
           → rule ≡ record { told = gives (entry (start + 1) stop size); at = after; letters = put-at used (texts (body file next)) letters; lengths = put-at count (size ∷ []) lengths }
       unfolding check20 check4-file letters-of _else_
       rule-record e n k q = rule-header ∙ rw (sized, ← e, n, b .checked, le-ltb bad (length file) k, b .cursor, q, name-is)

@@ -10,8 +10,8 @@ use Rattle.rules.specs.Lists.{if, keep}
 use Rattle.rules.specs.Told.{Verdict, fine, refused}
 
 -- a file's bytes from one offset up to another
-abbrev pub part : List ℕ → ℕ → ℕ → List ℕ
-part file start end = take (end - start) (drop start file)
+abbrev pub file-part : List ℕ → ℕ → ℕ → List ℕ
+file-part file start end = take (end - start) (drop start file)
 
 -- A LINE begins at `at`: its text ends at `end`, and what follows it begins at `next`
 pub record LineAt (file : List ℕ) (at end next : ℕ) : Type 0 where
@@ -19,7 +19,7 @@ pub record LineAt (file : List ℕ) (at end next : ℕ) : Type 0 where
   pub ended : end ≤ next
   pub onward : at < next
   pub within : next ≤ length file
-  pub lines : lines-from file at ≡ keep text? (line at (part file at end) ∷ []) ++ lines-from file next
+  pub lines : lines-from file at ≡ keep text? (line at (file-part file at end) ∷ []) ++ lines-from file next
 
 -- THE FIRST LINE from `at` on that is not empty: it begins at `start`, or there is none and `start` is not within the file
 pub record FirstLine (file : List ℕ) (at start end next : ℕ) : Type 0 where

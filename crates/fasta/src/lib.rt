@@ -11,7 +11,7 @@ use rules::Name;
 ghost use mathlib.Core.Path.{_≡_};
 ghost use Rattle.rules.specs.Fasta.{reader-rule};
 ghost use Rattle.rules.specs.Told.{toldHanded};
-ghost use Rattle.fasta.specs.Scanned.{part};
+ghost use Rattle.fasta.specs.Scanned.{file-part};
 
 // What a call of the reader hands out, and where the reader stands then.
 pub struct Step {
@@ -53,7 +53,7 @@ pub fn next_at(
 
 // A record's name, as a part of its file; what lies past the file is no part of it.
 pub fn name(file: &[u8], name: Name) -> &[u8]
-    ensures { λ r. ⌜ now r ≡ part (now (file .entry)) (name .start .0) (name .end .0) ⌝ }
+    ensures { λ r. ⌜ now r ≡ file-part (now (file .entry)) (name .start .0) (name .end .0) ⌝ }
 {
     let end = rules::least(name.end.0, file.len());
     let start = rules::least(name.start.0, end);

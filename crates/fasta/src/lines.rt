@@ -4,7 +4,7 @@ ghost use mathlib.Core.Path.{_≡_};
 ghost use Prim.Native.Nat.{_≤_, _<_};
 ghost use lib.ListN.{length};
 ghost use Rattle.rules.specs.Fasta.{without-return};
-ghost use Rattle.fasta.specs.Scanned.{part, LineAt, FirstLine};
+ghost use Rattle.fasta.specs.Scanned.{file-part, LineAt, FirstLine};
 
 // A line: where it starts, where its text ends, and where what follows it begins.
 pub(crate) struct Line {
@@ -16,7 +16,7 @@ pub(crate) struct Line {
 // Where a line's text ends, whose byte 10 stands at `stop`: a byte 13 before that is none of it.
 fn text_end(file: &[u8], start: usize, stop: usize) -> usize
     requires { ⌜ (start ≤ stop) × (stop < length (now file)) ⌝ }
-    ensures { λ r. ⌜ (start ≤ r) × (r ≤ stop) × (part (now (file .entry)) start r ≡ without-return (part (now (file .entry)) start stop)) ⌝ }
+    ensures { λ r. ⌜ (start ≤ r) × (r ≤ stop) × (file-part (now (file .entry)) start r ≡ without-return (file-part (now (file .entry)) start stop)) ⌝ }
 {
     if start == stop {
         return stop;

@@ -17,7 +17,7 @@ ghost use Rattle.rules.specs.Fasta.{line, up-to-blank, texts, no-room?, check-l
 ghost use Rattle.rules.specs.Lists.{put-at};
 ghost use Rattle.rules.specs.Refusals.{_else_};
 ghost use Rattle.rules.specs.Told.{toldHanded};
-ghost use Rattle.fasta.specs.Scanned.{part, HeaderAt, in-body?, body, bad-at, BodyAt};
+ghost use Rattle.fasta.specs.Scanned.{file-part, HeaderAt, in-body?, body, bad-at, BodyAt};
 
 // A record's lines: how many bytes they have, where the first of them stands that is no letter (the file's end where there is
 // none), and where the next record begins.
@@ -40,7 +40,7 @@ fn in_body(file: &[u8], at: usize) -> bool
 // The first byte of a line that is no letter; the file's end where there is none.
 fn bad_in(file: &[u8], start: usize, end: usize) -> usize
     requires { ⌜ (start ≤ end) × (end ≤ length (now file)) ⌝ }
-    ensures { λ r. ⌜ check-line (line start (part (now (file .entry)) start end)) ≡ bad-at (now (file .entry)) r ⌝ }
+    ensures { λ r. ⌜ check-line (line start (file-part (now (file .entry)) start end)) ≡ bad-at (now (file .entry)) r ⌝ }
 {
     let text = &file[start..end];
     if all_letters(text) {
@@ -58,7 +58,7 @@ fn bad_in(file: &[u8], start: usize, end: usize) -> usize
 // before it had none.
 fn bad_so_far(bad: usize, file: &[u8], start: usize, end: usize) -> usize
     requires { ⌜ (start ≤ end) × (end ≤ length (now file)) ⌝ }
-    ensures { λ r. ⌜ _else_ (bad-at (now (file .entry)) bad) (check-line (line start (part (now (file .entry)) start end))) ≡ bad-at (now (file .entry)) r ⌝ }
+    ensures { λ r. ⌜ _else_ (bad-at (now (file .entry)) bad) (check-line (line start (file-part (now (file .entry)) start end))) ≡ bad-at (now (file .entry)) r ⌝ }
 {
     if bad < file.len() {
         return bad;
@@ -106,7 +106,7 @@ fn copy_body(file: &[u8], from: usize, letters: &mut [u8], used: usize)
 // Where a name ends that starts at an offset: before the first space or tab, or at the line's end.
 fn name_end(file: &[u8], from: usize, end: usize) -> usize
     requires { ⌜ (from ≤ end) × (end ≤ length (now file)) ⌝ }
-    ensures { λ r. ⌜ r ≡ from + length (up-to-blank (part (now (file .entry)) from end)) ⌝ }
+    ensures { λ r. ⌜ r ≡ from + length (up-to-blank (file-part (now (file .entry)) from end)) ⌝ }
 {
     let mut i = from;
     while i < end {

@@ -12,7 +12,7 @@ use borrow.Author.Tests.{ltb-true, ltb-false, leb-true, leb-false, eqb-false, ne
 use Rattle.rules.specs.Join.{rising?, partners}
 use Rattle.rules.specs.Lists.{run, if, keep, some?, member?}
 use Rattle.rules.specs.Occurrence.{reach}
-use Rattle.joins.specs.Pass.{Before, Reached, within?, partner?}
+use Rattle.joins.specs.Pass.{LieBefore, Reached, within?, partner?}
 use Rattle.joins.proofs.Rising.{rising-order}
 
 -- a run holds the numbers from its start up to its end, and no other
@@ -77,7 +77,7 @@ module _ (ys : List ℕ) (head low high p j : ℕ) where
 
 -- those of the second list up to j lie before the reach of the first list's positions from i on
 pub record PassedOver (xs : List ℕ) (i : ℕ) (ys : List ℕ) (j head low : ℕ) : Type 0 where
-  pub before : (m : ℕ) → i ≤ m → m < length xs → Before ys j (getD xs m 0 + head + low)
+  pub before : (m : ℕ) → i ≤ m → m < length xs → LieBefore ys j (getD xs m 0 + head + low)
 
 module _ (xs : List ℕ) (i : ℕ) (ys : List ℕ) (head low : ℕ) where
   -- at first nothing was passed over

@@ -19,13 +19,13 @@ abbrev pub follows? : ℕ → ℕ → Bool
 follows? last p = ltb last p && leb p SequenceSet-LETTERS
 
 -- the first n of a list lie before a position
-abbrev pub Before : List ℕ → ℕ → ℕ → Type 0
-Before ys n from = (k : ℕ) → k < n → getD ys k 0 < from
+abbrev pub LieBefore : List ℕ → ℕ → ℕ → Type 0
+LieBefore ys n from = (k : ℕ) → k < n → getD ys k 0 < from
 
 -- those of a list up to j lie before a position, and the one at j does not
 pub record Reached (ys : List ℕ) (from j : ℕ) : Type 0 where
   pub inside : j ≤ length ys
-  pub before : Before ys j from
+  pub before : LieBefore ys j from
   pub next : j < length ys → from ≤ getD ys j 0
 
 -- a list has a position at j, and it is at most `to`

@@ -14,7 +14,7 @@ ghost use Rattle.rules.specs.Join.{rising?, partnered};
 ghost use Rattle.rules.specs.Lists.{if, put};
 ghost use Rattle.rules.specs.Refusals.{check6-head, check8-range, check16, check17};
 ghost use Rattle.rules.specs.Told.{fine, toldChecked, toldJoined};
-ghost use Rattle.joins.specs.Pass.{verdict, follows?, Before, Reached, within?};
+ghost use Rattle.joins.specs.Pass.{verdict, follows?, LieBefore, Reached, within?};
 
 // 6: the head has the length of a component.
 fn check_head(head: u16) -> Checked
@@ -83,7 +83,7 @@ fn check_join(first: &[u32], second: &[u32], head: u16, low: u16, high: u16, out
 
 // The index of the first position of a list that is not before `from`, looked for from `at` on: all up to there are.
 fn skip(list: &[u32], at: usize, from: Position) -> usize
-    requires { ⌜ (at ≤ length (now list)) × Before (now list) at (from .0) ⌝ }
+    requires { ⌜ (at ≤ length (now list)) × LieBefore (now list) at (from .0) ⌝ }
     ensures { λ r. ⌜ Reached (now (list .entry)) (from .0) r ⌝ }
 {
     let least = from.0;

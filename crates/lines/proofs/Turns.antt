@@ -12,7 +12,7 @@ use lib.ListN.{length, take, drop, set, length-append, length-take}
 use lib.Seq.{length-take-le, take-at, take-suc-set}
 use borrow.Author.Tests.{le-ltb, lt-ltb, lt-leb}
 use Rattle.rules.specs.Calls.{on-refusal}
-use Rattle.rules.specs.Fasta.{Line, lines-from, Entry, letters-of, size-of, records-from, records, check19, check20, check4-file, next-checks, reader-checks, ReaderRule, cursor-after, stays, hands-out, reader-rule, lines-checks, lines-for, lines-rule}
+use Rattle.rules.specs.Fasta.{Line, lines-from, Entry, letters-of, size-of, records-from, file-records, check19, check20, check4-file, next-checks, reader-checks, ReaderRule, cursor-after, stays, hands-out, reader-rule, lines-checks, lines-for, lines-rule}
 use Rattle.rules.specs.Limits.{Fasta-BYTES, Fasta-LENGTH}
 use Rattle.rules.specs.Lists.{each, put, put-at}
 use Rattle.rules.specs.Refusals.{_else_, first}
@@ -51,7 +51,7 @@ lines-long (e ∷ es) =
 
 -- before the first record nothing stands there, and all is to be printed
 pub at-first : (file out : List ℕ) → length file ≤ Fasta-BYTES → Here file out 0 0
-unfolding rest-rule lines-for lines-rule lines-checks records first _else_
+unfolding rest-rule lines-for lines-rule lines-checks file-records first _else_
 at-first file out h =
     record { short = omega (arith, lines-long (records-from file 0), records-fit file); whole = rw (le-ltb Fasta-BYTES (length file) h) }
 
@@ -71,7 +71,7 @@ pub all-printed : {text : List ℕ} (out : List ℕ) {n : ℕ} → n ≤ length 
 all-printed out {n} h e = (e, sym (length-take-le n out h) ∙ ap length e)
 
 -- a refusal
-pub refused-printed : {line text before out : List ℕ} {n : ℕ} → line ≡ text → Printed.Line line before out n → Stands text out n
+pub refused-printed : {line text before out : List ℕ} {n : ℕ} → line ≡ text → Printed.WroteLine line before out n → Stands text out n
 refused-printed {line} {before = before} {n = n} e l = (ap (take n) (l .out) ∙ put-front n line before (sym (l .end)) ∙ e, l .end ∙ ap length e)
 
 -- it is in the buffer

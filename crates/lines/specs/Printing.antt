@@ -11,8 +11,8 @@ use Rattle.lines.specs.declared.print.Turn.{Turn}
 use Rattle.lines.specs.declared.print.Turn.the-variants as turn
 
 -- a refusal, by its number and place
-abbrev pub refusal : ℕ → ℕ → Turn
-refusal n p = turn.Refused n p
+abbrev pub refused-turn : ℕ → ℕ → Turn
+refused-turn n p = turn.Refused n p
 
 -- WHAT IS PRINTED of a file where some lines stand and the reader is at a cursor: what is refused from there on, or those lines and
 -- one for each record that is left

@@ -12,7 +12,7 @@ ghost use Rattle.rules.specs.Fasta.{lines-rule};
 ghost use Rattle.rules.specs.Limits.{Fasta-BYTES};
 ghost use Rattle.rules.specs.Told.{file-refusal-number, file-refusal-place};
 ghost use Rattle.text.specs.Printed.{Line-ROOM};
-ghost use Rattle.lines.specs.Printing.{refusal, Here, Turned};
+ghost use Rattle.lines.specs.Printing.{refused-turn, Here, Turned};
 
 // The most bytes of a printout: a record's line is no longer than the record is in the file.
 pub const BYTES: usize = Fasta::BYTES + LINE;
@@ -27,7 +27,7 @@ enum Turn {
 
 // A refusal of the reader.
 fn refusal(why: FileRefusal) -> Turn
-    ensures { λ r. ⌜ r ≡ refusal (file-refusal-number why) (file-refusal-place why) ⌝ }
+    ensures { λ r. ⌜ r ≡ refused-turn (file-refusal-number why) (file-refusal-place why) ⌝ }
 {
     let number = why.number();
     let place = why.place();

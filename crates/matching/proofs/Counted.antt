@@ -16,7 +16,7 @@ use Rattle.rules.proofs.EachKind.{kind-tight}
 use Rattle.rules.proofs.Occurs.{parts-worded, parts-some}
 use Rattle.rows.specs.Flags.{left?}
 use Rattle.matching.specs.Path.{prefix-starts}
-use Rattle.rows.proofs.Ways.{Tight, left-occurs}
+use Rattle.rows.proofs.CountsAddUp.{Tight, left-occurs}
 
 deal-tight : (R : Reading) → ((c : Component) → R .slack c ≡ 0) → (n : ℕ) (cs : List Component) (w : List ℕ) → Tight (deal R n cs w)
 unfolding deal

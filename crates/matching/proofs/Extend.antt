@@ -15,7 +15,7 @@ use Rattle.rules.specs.declared.Component.{Component}
 use Rattle.rules.specs.declared.Template.{Template}
 use Rattle.rows.specs.Flags.{reached}
 use Rattle.matching.specs.Path.{prefix-starts, before-next, Slot, Inside, TestsLast}
-use Rattle.rows.specs.Prefix.{At, letters-before}
+use Rattle.rows.specs.NextLetter.{At, letters-before}
 use Rattle.rows.specs.Set.{marked?, tally, extended-at, extended-marked?, Filled, Marked, Bounded, Row, Source}
 use Rattle.matching.proofs.Counted.{left-support}
 use Rattle.matching.proofs.Slots.{enough}

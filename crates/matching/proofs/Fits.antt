@@ -22,8 +22,8 @@ use Rattle.rules.specs.declared.Template.{Template}
 use Rattle.rows.specs.Flags.{bit}
 use Rattle.rows.specs.Rows.{letter-at, lettered}
 use Rattle.rows.specs.Set.{words-of, lettered-at, Filled}
-use Rattle.rows.proofs.Letters.{letter-in, letter-out}
-use Rattle.matching.proofs.Bytes.{at-bytes}
+use Rattle.rows.proofs.LetterRow.{letter-in, letter-out}
+use Rattle.matching.proofs.BaseRows.{at-bytes}
 
 eqb-comm : (x y : ℕ) → eqb x y ≡ eqb y x
 eqb-comm x y = go (eqb y x) refl

@@ -12,9 +12,9 @@ use Rattle.rules.specs.Lists.{sum}
 use Rattle.rows.specs.Bits.{held}
 use Rattle.rows.specs.Flags.{added, masked}
 use Rattle.rows.specs.Set.{Row-MARKS, words-of, first-word, between, marked?, Bounded}
-use Rattle.matching.specs.Weights.{counts-at, kept-counts, begun, begun-counts}
+use Rattle.matching.specs.Weights.{counts-at, kept-counts, counted-from, begun-counts}
 use Rattle.rows.proofs.Offsets.{words-room}
-use Rattle.rows.proofs.Rewritten.{drop-more}
+use Rattle.rows.proofs.RowsRewritten.{drop-more}
 use Rattle.rows.proofs.Sets.{first-next, between-kept, bits-are-at, part-written}
 
 not-both : (b : Bool) {A : Type 0} → b ≡ false → b ≡ true → A
@@ -58,7 +58,7 @@ module _ (ns : List ℕ) (k : ℕ) (h : k < length ns) {a e : ℕ} (begins : a �
   counts-lie = (omega (arith, begins, ends, offset-next ns k h), omega (arith, ends, offset-all ns (k + 1)))
 
   pub begun-are-at : (first : Bool) {from to : ℕ} → from ≡ first-word ns k → to ≡ first-word ns (k + 1) → (row x : List ℕ)
-      → masked (held (between from to row)) (begun first (between a e x)) ≡ begun-counts first ns row x k
+      → masked (held (between from to row)) (counted-from first (between a e x)) ≡ begun-counts first ns row x k
   unfolding begun-counts
   begun-are-at first starts stops row x = rw (bits-are-at ns k h starts stops row, counts-are-at x)
 

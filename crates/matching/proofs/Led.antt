@@ -23,10 +23,10 @@ use Rattle.rules.specs.declared.Component.{Component}
 use Rattle.rules.specs.declared.Template.{Template}
 use Rattle.rows.specs.Flags.{Count-MOST, reached, added, last-ways, left?, masked-at, masked}
 use Rattle.matching.specs.Path.{Path, prefix-starts, before-next}
-use Rattle.rows.specs.Prefix.{letters-before, before-letter}
+use Rattle.rows.specs.NextLetter.{letters-before, before-letter}
 use Rattle.rows.specs.Rows.{padded}
 use Rattle.rows.specs.Set.{words-of, between, bits-at, marked?, sequence, Row, Source}
-use Rattle.matching.specs.Weights.{counts-at, kept-counts, Counts, begun, begun-counts, Leads-to}
+use Rattle.matching.specs.Weights.{counts-at, kept-counts, HoldsCounts, counted-from, begun-counts, Leads-to}
 use Rattle.rows.proofs.ByFlags.{long}
 use Rattle.rows.proofs.Link.{padded-in, padded-out}
 use Rattle.rows.proofs.Dark.{none-set}
@@ -222,11 +222,11 @@ module _ (t : Template) (sound : SoundTemplate t) where
           unfolding begun-counts kept-counts
           begun-kept k u e = go first refl
             where
-              go : (b : Bool) → first ≡ b → masked (bits-at ns k row) (begun b (counts-at ns k counts)) ≡ last-ways (parts t (letters-before (components t) (suc c)) p) (sequence ns l k)
+              go : (b : Bool) → first ≡ b → masked (bits-at ns k row) (counted-from b (counts-at ns k counts)) ≡ last-ways (parts t (letters-before (components t) (suc c)) p) (sequence ns l k)
               go true f =
                   let z : c ≡ 0 = begins f in
                   let n : length (counts-at ns k counts) ≡ length (sequence ns l k) = counts-long ns k counts u room ∙ sym (long ns l (set .adds) (set .few) k) in
-                  ways-kept k u e (begun true (counts-at ns k counts)) (rw z (first-ways (p / base-of t ^ of 0) (sequence ns l k) (begun true (counts-at ns k counts)) (ap (λ (j : ℕ). replicate j 1) n)))
+                  ways-kept k u e (counted-from true (counts-at ns k counts)) (rw z (first-ways (p / base-of t ^ of 0) (sequence ns l k) (counted-from true (counts-at ns k counts)) (ap (λ (j : ℕ). replicate j 1) n)))
               go false f = led-kept (goes f) k u e
 
           pub led-small : (k : ℕ) → k < length ns → marked? row k ≡ true → (i : ℕ) → getD (begun-counts first ns row counts k) i 0 ≤ Count-MOST
@@ -263,7 +263,7 @@ module _ (t : Template) (sound : SoundTemplate t) where
                       | no v ↦ List·getD-eq-default (before-next added t (suc c) 0 (letters-before (components t) (suc c)) p s) 0 {n = i} (rw (length-before-letter added length-added) (omega arith))
                     ]
 
-            pub led-more : (opened out : List ℕ) → Counts (marked? row) (λ k. added d (d + n - 1) (begun-counts first ns row counts k)) ns opened out (length ns)
+            pub led-more : (opened out : List ℕ) → HoldsCounts (marked? row) (λ k. added d (d + n - 1) (begun-counts first ns row counts k)) ns opened out (length ns)
                 → Leads-to t ns l (suc c) p out
             unfolding kept-counts
             led-more opened out all = record {

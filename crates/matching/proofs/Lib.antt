@@ -11,10 +11,10 @@ pub mod Totals
 pub mod Shorter
 pub mod Led
 pub mod Weighed
-pub mod Onward
-pub mod Places
-pub mod Bytes
+pub mod OneMoreComponent
+pub mod LetterPlaces
+pub mod BaseRows
 pub mod Fits
 pub mod Standing
-pub mod Tests
-pub mod First
+pub mod LetterTests
+pub mod PathStart

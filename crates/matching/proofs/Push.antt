@@ -14,7 +14,7 @@ use Rattle.rules.specs.declared.Component.{Component}
 use Rattle.rules.specs.declared.Template.{Template}
 use Rattle.rows.specs.Flags.{reached}
 use Rattle.matching.specs.Path.{path-slot, prefix-starts, before-next, gap-near, gap-far, Slot, Path, Inside}
-use Rattle.rows.specs.Prefix.{letters-before, At, before-letter}
+use Rattle.rows.specs.NextLetter.{letters-before, At, before-letter}
 use Rattle.rows.specs.Set.{marked?, window-at, Filled, Marked, Row}
 use Rattle.rows.proofs.ByFlags.{row-source, gap-source, source-same}
 use Rattle.matching.proofs.Extend.{Somewhere, letter-at, inside-letter, inside-component}

@@ -17,7 +17,7 @@ use Rattle.rules.specs.declared.Component.{Component}
 use Rattle.rules.specs.declared.Template.{Template}
 use Rattle.rows.specs.Flags.{reached, last-by, last-starts, left?}
 use Rattle.matching.specs.Path.{prefix-starts}
-use Rattle.rows.specs.Prefix.{letters-before, At, before-letter}
+use Rattle.rows.specs.NextLetter.{letters-before, At, before-letter}
 use Rattle.rows.proofs.Dark.{kept-dark, reached-dark}
 use Rattle.matching.proofs.Extend.{letter-at}
 use Rattle.matching.proofs.Steps.{more}

@@ -21,7 +21,7 @@ use Rattle.rules.specs.Sound.{SoundSet}
 use Rattle.rules.specs.declared.Component.{Component}
 use Rattle.rows.specs.Flags.{reached}
 use Rattle.matching.specs.Path.{row-slot, parity, path-slot, before-next, Slot, Path}
-use Rattle.rows.specs.Prefix.{At, letters-before}
+use Rattle.rows.specs.NextLetter.{At, letters-before}
 use Rattle.rows.specs.Set.{words-of, first-word, between, Source}
 use Rattle.rows.proofs.Sets.{between-kept, part-written}
 

@@ -28,11 +28,11 @@ use Rattle.rows.specs.Set.{Row-WORDS, words-of, first-word, between, bits-at, s
 use Rattle.rows.proofs.Bits.{digit-none, getD-held}
 use Rattle.rows.proofs.Digits.{digit, digit-or}
 use Rattle.rows.proofs.Lettered.{made-all}
-use Rattle.rows.proofs.Letters.{letter-in, letter-out}
+use Rattle.rows.proofs.LetterRow.{letter-in, letter-out}
 use Rattle.rows.proofs.Sets.{first-most, take-less}
 use Rattle.rows.proofs.Shifted.{lettered-first, lettered-shifted}
 use Rattle.matching.specs.Path.{row-slot, BaseRows, FromBases, Letters}
-use Rattle.matching.proofs.Bytes.{split-values, at-bytes}
+use Rattle.matching.proofs.BaseRows.{split-values, at-bytes}
 use Rattle.matching.proofs.Fits.{stood-row, own-row}
 use Rattle.matching.proofs.Slots.{enough, between-at, slot-kept}
 

@@ -14,9 +14,9 @@ use Rattle.rules.specs.Sound.{SoundSet, SoundTemplate}
 use Rattle.rules.specs.Support.{parts-in}
 use Rattle.rules.specs.Template.{components, deal}
 use Rattle.rules.specs.declared.Template.{Template}
-use Rattle.rows.specs.Flags.{kept, reached, last-by, left?}
+use Rattle.rows.specs.Flags.{kept-flags, reached, last-by, left?}
 use Rattle.matching.specs.Path.{prefix-starts, before-next, Tests}
-use Rattle.rows.specs.Prefix.{At}
+use Rattle.rows.specs.NextLetter.{At}
 use Rattle.rows.specs.Set.{first-word, sequence, marked?, tally, extended-at, extended-marked?, Filled, Marked, Row, Source}
 use Rattle.rows.proofs.ByFlags.{mark-same, letter-row, row-same, flags-tally}
 use Rattle.rows.proofs.Grow.{grow}
@@ -38,7 +38,7 @@ before-long t k i j m s = length-before-letter reached length-reached (profile-o
 
 module _ (t : Template) (sound : SoundTemplate t) (j m k i : ℕ) (some : 1 ≤ j) (at : At (components t) (j - 1) k i) where
   -- one letter more, whatever a gap does
-  pub more : (G : ℕ → ℕ → List ℕ → List ℕ) (s : List ℕ) → kept (profile-of t .reading .fits) (m % base-of t) i s (before-next G t k i (j - 1) (m / base-of t) s) ≡ last-by G (parts-in (profile-of t) t j m) s
+  pub more : (G : ℕ → ℕ → List ℕ → List ℕ) (s : List ℕ) → kept-flags (profile-of t .reading .fits) (m % base-of t) i s (before-next G t k i (j - 1) (m / base-of t) s) ≡ last-by G (parts-in (profile-of t) t j m) s
   unfolding parts-in
   more G s =
       let e : suc (j - 1) ≡ j = omega arith in

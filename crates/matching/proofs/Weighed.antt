@@ -25,7 +25,7 @@ use Rattle.rules.specs.Template.{none, size, components}
 use Rattle.rules.specs.declared.Template.{Template}
 use Rattle.rows.specs.Flags.{last-ways}
 use Rattle.matching.specs.Path.{prefix-starts}
-use Rattle.rows.specs.Prefix.{letters-before}
+use Rattle.rows.specs.NextLetter.{letters-before}
 use Rattle.rows.specs.Set.{words-of, bits-at, marked?, sequence, Row}
 use Rattle.matching.specs.Weights.{kept-counts, weight-at, weight-of, prefix-of, Leads}
 use Rattle.rows.proofs.ByFlags.{long, row-bounded}
@@ -33,7 +33,7 @@ use Rattle.matching.proofs.Counted.{parts-tight}
 use Rattle.matching.proofs.Led.{letters-next, letters-last, last-some, led-kept}
 use Rattle.rows.proofs.Link.{padded-out}
 use Rattle.matching.proofs.Steps.{prefix-long}
-use Rattle.rows.proofs.Ways.{ways-occur, left-occurs}
+use Rattle.rows.proofs.CountsAddUp.{ways-occur, left-occurs}
 
 -- a sum over numbered lists, past the last of which there is nothing
 module _ (f : List ℕ → ℕ) (e : f [] ≡ 0) where

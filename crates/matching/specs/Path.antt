@@ -17,7 +17,7 @@ use Rattle.rules.specs.Support.{parts}
 use Rattle.rules.specs.Template.{none, size, components, distance}
 use Rattle.rules.specs.declared.Template.{Template}
 use Rattle.rows.specs.Flags.{reached, last-starts}
-use Rattle.rows.specs.Prefix.{At, before-letter}
+use Rattle.rows.specs.NextLetter.{At, before-letter}
 use Rattle.rows.specs.Rows.{ahead}
 use Rattle.rows.specs.Set.{Row-WORDS, between, bits-at, lettered-at, lettered-on, Firsts, Offsets, Filled, Source}
 

@@ -12,7 +12,7 @@ use Rattle.rules.specs.Template.{size, components}
 use Rattle.rules.specs.declared.Template.{Template}
 use Rattle.rows.specs.Flags.{reached, added, masked, left?}
 use Rattle.matching.specs.Path.{prefix-starts, before-next}
-use Rattle.rows.specs.Prefix.{letters-before}
+use Rattle.rows.specs.NextLetter.{letters-before}
 use Rattle.rows.specs.Set.{between, bits-at, marked?, sequence}
 
 -- the counts of sequence k
@@ -32,16 +32,16 @@ unfoldable pub weight-of : List ℕ → List ℕ → List ℕ → ℕ
 weight-of ns row counts = sum (map (weight-at ns row counts) (run 0 SequenceSet-SEQUENCES))
 
 -- a table whose first n sequences, as far as they are on, have, where a row has a bit, the counts that g says
-pub record Counts (on : ℕ → Bool) (g : ℕ → List ℕ) (ns row counts : List ℕ) (n : ℕ) : Type 0 where
+pub record HoldsCounts (on : ℕ → Bool) (g : ℕ → List ℕ) (ns row counts : List ℕ) (n : ℕ) : Type 0 where
   pub same : (k : ℕ) → k < n → on k ≡ true → kept-counts ns row counts k ≡ g k
 
 -- what a component's ways are counted from: for the first one way everywhere, and else the counts there are
-abbrev pub begun : Bool → List ℕ → List ℕ
-begun first vs = if first (replicate (length vs) 1) vs
+abbrev pub counted-from : Bool → List ℕ → List ℕ
+counted-from first vs = if first (replicate (length vs) 1) vs
 
 -- in sequence k, where a row has a bit
 unfoldable pub begun-counts : Bool → List ℕ → List ℕ → List ℕ → ℕ → List ℕ
-begun-counts first ns row counts k = masked (bits-at ns k row) (begun first (counts-at ns k counts))
+begun-counts first ns row counts k = masked (bits-at ns k row) (counted-from first (counts-at ns k counts))
 
 -- BY A TEMPLATE. The letters before its last component, and the number of a motif's prefix of so many
 abbrev pub before-last : Template → ℕ

@@ -24,12 +24,12 @@ ghost use Rattle.rows.specs.Bits.{held};
 ghost use Rattle.rows.specs.Flags.{Count-MOST, added, masked};
 ghost use Rattle.matching.specs.Path.{path-slot, prefix-starts, Path, Path-SLOTS, Ready};
 ghost use Rattle.rows.specs.Set.{Row-MARKS, Row-WORDS, first-word, Firsts, Offsets, between, bits-at, marked?, Bounded, Row};
-ghost use Rattle.matching.specs.Weights.{counts-at, kept-counts, Counts, begun, begun-counts, weight-at, weight-of, prefix-of, Leads, Counted};
+ghost use Rattle.matching.specs.Weights.{counts-at, kept-counts, HoldsCounts, counted-from, begun-counts, weight-at, weight-of, prefix-of, Leads, Counted};
 
 // What a component's ways are counted from in one sequence, where the row has a bit: for the first one way, and else what there is.
 fn begin(first: bool, row: &[u64], counts: &mut [u64])
     requires { ⌜ length (now counts) ≤ 64 * length (now row) ⌝ }
-    ensures { λ _. ⌜ masked (held (now (row .entry))) (now (counts .exit)) ≡ masked (held (now (row .entry))) (begun first (now (counts .entry))) ⌝ }
+    ensures { λ _. ⌜ masked (held (now (row .entry))) (now (counts .exit)) ≡ masked (held (now (row .entry))) (counted-from first (now (counts .entry))) ⌝ }
 {
     if first {
         counts::ones(row, counts);
@@ -53,10 +53,10 @@ fn lead_between(
 )
     requires { ⌜ (from ≤ to) × (to ≤ length (now row)) × (to ≤ length (now opened)) × (a .0 ≤ e .0) × (e .0 ≤ length (now counts)) × (e .0 - a .0 ≤ 64 * (to - from)) ⌝ }
     requires { ⌜ (1 ≤ d) × (d ≤ Template-LENGTH + Template-GAP) × (1 ≤ n) × (n ≤ Template-GAP + 1) ⌝ }
-    requires { ⌜ ((i : ℕ) → getD (masked (held (between from to (now row))) (begun first (between (a .0) (e .0) (now counts)))) i 0 ≤ Count-MOST) ⌝ }
-    requires { ⌜ ((i : ℕ) → getD (held (between from to (now opened))) i 0 ≡ 0 → getD (added d (d + n - 1) (masked (held (between from to (now row))) (begun first (between (a .0) (e .0) (now counts))))) i 0 ≡ 0) ⌝ }
+    requires { ⌜ ((i : ℕ) → getD (masked (held (between from to (now row))) (counted-from first (between (a .0) (e .0) (now counts)))) i 0 ≤ Count-MOST) ⌝ }
+    requires { ⌜ ((i : ℕ) → getD (held (between from to (now opened))) i 0 ≡ 0 → getD (added d (d + n - 1) (masked (held (between from to (now row))) (counted-from first (between (a .0) (e .0) (now counts))))) i 0 ≡ 0) ⌝ }
     ensures { λ _. ⌜ (take (a .0) (now (counts .exit)) ≡ take (a .0) (now (counts .entry))) × (drop (e .0) (now (counts .exit)) ≡ drop (e .0) (now (counts .entry))) × (length (now (counts .exit)) ≡ length (now (counts .entry))) ⌝ }
-    ensures { λ _. ⌜ masked (held (between from to (now (opened .entry)))) (between (a .0) (e .0) (now (counts .exit))) ≡ added d (d + n - 1) (masked (held (between from to (now (row .entry)))) (begun first (between (a .0) (e .0) (now (counts .entry))))) ⌝ }
+    ensures { λ _. ⌜ masked (held (between from to (now (opened .entry)))) (between (a .0) (e .0) (now (counts .exit))) ≡ added d (d + n - 1) (masked (held (between from to (now (row .entry)))) (counted-from first (between (a .0) (e .0) (now (counts .entry))))) ⌝ }
 {
     let x = a.0;
     let y = e.0;
@@ -134,7 +134,7 @@ fn lead_all(
     requires { ⌜ (first-word (now lengths) (length (now lengths)) ≤ length (now row)) × (Row-MARKS ≤ length (now row)) × (length (now opened) ≡ length (now row)) × (lists.sum (now lengths) ≤ length (now counts)) ⌝ }
     requires { ⌜ ((k : ℕ) → k < length (now lengths) → marked? (now row) k ≡ true → (i : ℕ) → getD (begun-counts first (now lengths) (now row) (now counts) k) i 0 ≤ Count-MOST) ⌝ }
     requires { ⌜ ((k : ℕ) → k < length (now lengths) → marked? (now row) k ≡ true → (i : ℕ) → getD (bits-at (now lengths) k (now opened)) i 0 ≡ 0 → getD (added d (d + n - 1) (begun-counts first (now lengths) (now row) (now counts) k)) i 0 ≡ 0) ⌝ }
-    ensures { λ _. ⌜ Counts (marked? (now (row .entry))) (λ k. added d (d + n - 1) (begun-counts first (now (lengths .entry)) (now (row .entry)) (now (counts .entry)) k)) (now (lengths .entry)) (now (opened .entry)) (now (counts .exit)) (length (now (lengths .entry))) ⌝ }
+    ensures { λ _. ⌜ HoldsCounts (marked? (now (row .entry))) (λ k. added d (d + n - 1) (begun-counts first (now (lengths .entry)) (now (row .entry)) (now (counts .entry)) k)) (now (lengths .entry)) (now (opened .entry)) (now (counts .exit)) (length (now (lengths .entry))) ⌝ }
     ensures { λ _. ⌜ length (now (counts .exit)) ≡ length (now (counts .entry)) ⌝ }
 {
     let mut w = 0;
@@ -177,7 +177,7 @@ fn lead_slot(
     requires { ⌜ (first-word (now lengths) (length (now lengths)) ≤ Row-WORDS) × (lists.sum (now lengths) ≤ length (now counts)) ⌝ }
     requires { ⌜ ((k : ℕ) → k < length (now lengths) → marked? (now row) k ≡ true → (i : ℕ) → getD (begun-counts first (now lengths) (now row) (now counts) k) i 0 ≤ Count-MOST) ⌝ }
     requires { ⌜ ((k : ℕ) → k < length (now lengths) → marked? (now row) k ≡ true → (i : ℕ) → getD (bits-at (now lengths) k (path-slot (now evens) (now odds) size)) i 0 ≡ 0 → getD (added d (d + n - 1) (begun-counts first (now lengths) (now row) (now counts) k)) i 0 ≡ 0) ⌝ }
-    ensures { λ _. ⌜ Counts (marked? (now (row .entry))) (λ k. added d (d + n - 1) (begun-counts first (now (lengths .entry)) (now (row .entry)) (now (counts .entry)) k)) (now (lengths .entry)) (path-slot (now (evens .entry)) (now (odds .entry)) size) (now (counts .exit)) (length (now (lengths .entry))) ⌝ }
+    ensures { λ _. ⌜ HoldsCounts (marked? (now (row .entry))) (λ k. added d (d + n - 1) (begun-counts first (now (lengths .entry)) (now (row .entry)) (now (counts .entry)) k)) (now (lengths .entry)) (path-slot (now (evens .entry)) (now (odds .entry)) size) (now (counts .exit)) (length (now (lengths .entry))) ⌝ }
     ensures { λ _. ⌜ length (now (counts .exit)) ≡ length (now (counts .entry)) ⌝ }
 {
     let o = size / 2 * WORDS;

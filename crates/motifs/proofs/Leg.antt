@@ -23,9 +23,10 @@ use Rattle.rules.proofs.Searches.{walk-pos}
 use Rattle.rules.proofs.Lists.{each-same, keep-few}
 use Rattle.rules.proofs.Tables.{put-front}
 use Rattle.rules.proofs.Sound.{search-sound}
-use Rattle.text.specs.Printed.{row, page, Page}
+use Rattle.text.specs.Printed.{row, printed-page, Page}
 use Rattle.text.proofs.Line.{print-row-is}
-use Rattle.motifs.specs.Pages.{room-of, print-rows, leg-page}
+use Rattle.search.specs.AcceptedLeg.{room-of}
+use Rattle.motifs.specs.Pages.{print-rows, leg-page}
 
 -- what holds of a refused leg and of an accepted one holds of every leg
 by-verdict : (P : LegRule → Type 0) (v : Verdict) (f : ℕ → ℕ → LegRule) (l : LegRule) → ((n p : ℕ) → v ≡ refused n p → P (f n p)) → (v ≡ fine → P l) → P (on-refusal v f l)
@@ -37,14 +38,14 @@ unfolding listed
 listed-few W ps = rw length-map (keep-few (motif W) ps)
 
 -- rows whose numbers are worked out from their motifs
-page-each : (t : Template) (f g : ℕ → ℕ) (ms : List ℕ) → page t ms (map f ms) (map g ms) ≡ each (λ m. row t m (f m) (g m)) ms
-unfolding page each
+page-each : (t : Template) (f g : ℕ → ℕ) (ms : List ℕ) → printed-page t ms (map f ms) (map g ms) ≡ each (λ m. row t m (f m) (g m)) ms
+unfolding printed-page each
 page-each t f g [] = refl
 page-each t f g (m ∷ ms) = ap (λ (l : List ℕ). row t m (f m) (g m) ++ l) (page-each t f g ms)
 
 module _ (letters lengths : List ℕ) (s : Search) where
   -- the rows of some motifs, with their supports and weights, printed
-  rows-printed : (ms : List ℕ) → page (s .template) ms (supports-of letters lengths s ms) (weights-of letters lengths s ms) ≡ print-rows letters lengths s ms
+  rows-printed : (ms : List ℕ) → printed-page (s .template) ms (supports-of letters lengths s ms) (weights-of letters lengths s ms) ≡ print-rows letters lengths s ms
   unfolding supports-of weights-of print-rows
   rows-printed ms =
       page-each (s .template) (λ m. support (motif-parts s m) (sequences letters lengths)) (λ m. weight (motif-parts s m) (sequences letters lengths)) ms
@@ -52,7 +53,7 @@ module _ (letters lengths : List ℕ) (s : Search) where
 
   -- as a leg leaves them at the front of its tables
   fronts : (motifs supports weights ms : List ℕ) → let n = length ms in
-      page (s .template) (take n (put ms motifs)) (take n (put (supports-of letters lengths s ms) supports)) (take n (put (weights-of letters lengths s ms) weights)) ≡ print-rows letters lengths s ms
+      printed-page (s .template) (take n (put ms motifs)) (take n (put (supports-of letters lengths s ms) supports)) (take n (put (weights-of letters lengths s ms) weights)) ≡ print-rows letters lengths s ms
   unfolding supports-of weights-of
   fronts motifs supports weights ms =
       rw (
@@ -102,14 +103,14 @@ module _ (letters lengths : List ℕ) (s : Search) where
 
     -- its rows printed are its page
     pub page-is : let l = leg-rule letters lengths s budget motifs supports weights in let n = l .told .rows in
-        page (s .template) (take n (l .motifs)) (take n (l .supports)) (take n (l .weights)) ≡ leg-page letters lengths s budget (room-of motifs supports weights)
-    unfolding leg-rule leg-page page
+        printed-page (s .template) (take n (l .motifs)) (take n (l .supports)) (take n (l .weights)) ≡ leg-page letters lengths s budget (room-of motifs supports weights)
+    unfolding leg-rule leg-page printed-page
     page-is =
-        by-verdict (λ l. let n = l .told .rows in page (s .template) (take n (l .motifs)) (take n (l .supports)) (take n (l .weights)) ≡ leg-page letters lengths s budget (room-of motifs supports weights))
+        by-verdict (λ l. let n = l .told .rows in printed-page (s .template) (take n (l .motifs)) (take n (l .supports)) (take n (l .weights)) ≡ leg-page letters lengths s budget (room-of motifs supports weights))
         (first (search-checks letters lengths s)) _ _ (λ n p e. rw e) (λ e. rw e (fronts motifs supports weights ((stretch letters lengths s budget (room-of motifs supports weights)) .motifs)))
 
     -- what is printed of its tables is its page
     pub page-left : {ms ss ws before after : List ℕ} {n r k : ℕ} → let l = leg-rule letters lengths s budget motifs supports weights in
-        n ≡ l .told .rows → ms ≡ l .motifs → ss ≡ l .supports → ws ≡ l .weights → Page k (page (s .template) (take n ms) (take n ss) (take n ws)) before after r
+        n ≡ l .told .rows → ms ≡ l .motifs → ss ≡ l .supports → ws ≡ l .weights → Page k (printed-page (s .template) (take n ms) (take n ss) (take n ws)) before after r
         → Page k (leg-page letters lengths s budget (room-of motifs supports weights)) before after r
     page-left a b c d p = rw (a, b, c, d, page-is) at p

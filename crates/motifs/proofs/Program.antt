@@ -22,15 +22,15 @@ use Rattle.rules.proofs.StepsSoFar.{from-first, begun-steps-few}
 use Rattle.motifs.specs.declared.pages.Left.{Left}
 use Rattle.motifs.specs.declared.pages.Left.the-variants as left
 use Rattle.motifs.specs.Input.{InputRule, input-told, input-rule}
-use Rattle.motifs.specs.Left.{nothing, rows, at-first, opening}
-use Rattle.motifs.specs.Pages.{print-rows, page-of, left-after, pages, left-at, text-left, Goes, Ready}
+use Rattle.motifs.specs.Left.{nothing, rows, unprinted, opening}
+use Rattle.motifs.specs.Pages.{print-rows, page-of, left-after, pages, left-at, text-left, Goes, Printable}
 use Rattle.motifs.specs.Program.{pages-of, left-of, Program}
-use Rattle.motifs.proofs.Laid.{amount, page-then, ready-after, less-after}
-use Rattle.motifs.proofs.Reading.{declined, sound, front-part, fronts-are}
+use Rattle.motifs.proofs.PagesLaid.{amount, page-then, ready-after, less-after}
+use Rattle.motifs.proofs.InputRead.{declined, sound, front-part, fronts-are}
 
 module _ (letters lengths : List ℕ) where
   -- the first n pages, and the text of what is left after them
-  pages-then : (n : ℕ) (s : Left) → Ready letters lengths s → text-left letters lengths s ≡ pages letters lengths n s ++ text-left letters lengths (left-at letters lengths n s)
+  pages-then : (n : ℕ) (s : Left) → Printable letters lengths s → text-left letters lengths s ≡ pages letters lengths n s ++ text-left letters lengths (left-at letters lengths n s)
   unfolding pages left-at
   pages-then zero s g = refl
   pages-then (suc n) s g =
@@ -39,7 +39,7 @@ module _ (letters lengths : List ℕ) where
       ∙ sym (append-assoc (page-of letters lengths s) _ _)
 
   -- after as many pages as there is to print nothing is left
-  nothing-left : (n : ℕ) (s : Left) → Ready letters lengths s → amount letters lengths s ≤ n → left-at letters lengths n s ≡ nothing
+  nothing-left : (n : ℕ) (s : Left) → Printable letters lengths s → amount letters lengths s ≤ n → left-at letters lengths n s ≡ nothing
   unfolding left-at left-after
   nothing-left zero (left.Refusal k p) g h = absurd (omega arith)
   nothing-left zero (left.Rows w) g h = absurd (omega arith)
@@ -64,7 +64,7 @@ opened input s = go (first (text-checks input)) refl
     go (refused n p) e h = let k : refuses n p ≡ gives s = rw e at h in let z : _≡_ {A = ℕ} 0 1 = cc in absurd (omega arith)
 
 -- a search that was begun can be gone on with,
-begun-goes : (input : List ℕ) (s : Search) → input-told input ≡ gives s → Goes (parse-letters input) (parse-lengths input) (at-first s)
+begun-goes : (input : List ℕ) (s : Search) → input-told input ≡ gives s → Goes (parse-letters input) (parse-lengths input) (unprinted s)
 begun-goes input s e =
     let letters = parse-letters input in let lengths = parse-lengths input in let t = parse-template input in let quorum = parse-quorum input in
     let o = opened input s e .begun in
@@ -73,7 +73,7 @@ begun-goes input s e =
     record { passes = search-fine letters lengths s (b .sound); few = omega (arith, all, begun-steps-few letters lengths t quorum s o); fewer = omega arith }
 
 -- and all of it is left to print
-begun-printed : (input : List ℕ) (s : Search) → input-told input ≡ gives s → text-left (parse-letters input) (parse-lengths input) (rows (at-first s)) ≡ print-rule input
+begun-printed : (input : List ℕ) (s : Search) → input-told input ≡ gives s → text-left (parse-letters input) (parse-lengths input) (rows (unprinted s)) ≡ print-rule input
 unfolding text-left print-rule print-search print-rows
 begun-printed input s e =
     let o = opened input s e in
@@ -92,10 +92,10 @@ refused-printed input n p = go (first (text-checks input)) refl
 
 module _ (input : List ℕ) where
   -- what an input comes to can be gone on with,
-  pub opening-ready : Ready (parse-letters input) (parse-lengths input) (opening (input-told input))
+  pub opening-ready : Printable (parse-letters input) (parse-lengths input) (opening (input-told input))
   opening-ready = go (input-told input) refl
     where
-      go : (t : Told Search) → input-told input ≡ t → Ready (parse-letters input) (parse-lengths input) (opening t)
+      go : (t : Told Search) → input-told input ≡ t → Printable (parse-letters input) (parse-lengths input) (opening t)
       go (gives s) e = begun-goes input s e
       go (refuses n p) e = tt
 
@@ -137,11 +137,11 @@ module _ (input letters lengths : List ℕ) {n k : ℕ} {ls ns : List ℕ} (c : 
           let i = declined input letters lengths e in
           (omega (arith, c .0, ap (λ (i : InputRule). i .count) i), omega (arith, c .1, ap (λ (i : InputRule). i .sequences) i))
 
-  pub read-ready : {front : List ℕ} {b : Told Search} {s : Left} → front ≡ take (n - 0) (drop 0 ls) → b ≡ (input-rule input letters lengths) .told → s ≡ opening b → Ready front (take k ns) s
+  pub read-ready : {front : List ℕ} {b : Told Search} {s : Left} → front ≡ take (n - 0) (drop 0 ls) → b ≡ (input-rule input letters lengths) .told → s ≡ opening b → Printable front (take k ns) s
   unfolding input-told
   read-ready {front} {b} {s} p t o = rw (front-part n ls p) (go (first (text-checks input)) refl)
     where
-      go : (v : Verdict) → first (text-checks input) ≡ v → Ready (take n ls) (take k ns) s
+      go : (v : Verdict) → first (text-checks input) ≡ v → Printable (take n ls) (take k ns) s
       go fine e =
           let f = fronts-are input letters lengths e c a d in
           let told : b ≡ input-told input = t ∙ ap (λ (i : InputRule). i .told) (sound input letters lengths e) ∙ rw e in

@@ -27,12 +27,12 @@ more? (left.End steps found) = true
 more? left.Nothing = false
 
 -- the way of a search that has not been printed
-abbrev pub at-first : Search → Way
-at-first s = record { search = s; steps = 0; rows = 0 }
+abbrev pub unprinted : Search → Way
+unprinted s = record { search = s; steps = 0; rows = 0 }
 
 -- AT FIRST: what an input came to, a refusal or a search
 abbrev pub opening : Told Search → Left
-opening (gives s) = rows (at-first s)
+opening (gives s) = rows (unprinted s)
 opening (refuses n p) = refusal n p
 
 -- the way after so many steps and rows more, at another search
@@ -40,6 +40,6 @@ abbrev pub further : Way → ℕ → ℕ → Search → Way
 further w steps found s = record { search = s; steps = w .steps + steps; rows = w .rows + found }
 
 -- AFTER A LEG of so many steps and rows, which left the search s: if it ended the search, the end line
-abbrev pub onward : Way → Bool → ℕ → ℕ → Search → Left
-onward w true steps found s = end (w .steps + steps) (w .rows + found)
-onward w false steps found s = rows (further w steps found s)
+abbrev pub rows-or-end : Way → Bool → ℕ → ℕ → Search → Left
+rows-or-end w true steps found s = end (w .steps + steps) (w .rows + found)
+rows-or-end w false steps found s = rows (further w steps found s)

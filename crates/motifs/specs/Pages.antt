@@ -3,7 +3,7 @@
 use mathlib.Core.Bool.{Bool, false}
 use mathlib.Core.List.{List, [], _++_}
 use mathlib.Core.Path.{_≡_}
-use Prim.Native.Nat.{ℕ, zero, suc, _+_, _*_, _^_, _≤_, _<_, min}
+use Prim.Native.Nat.{ℕ, zero, suc, _+_, _*_, _^_, _≤_, _<_}
 use lib.ListN.{length}
 use Rattle.rules.specs.Calls.{on-refusal, moved, stretch}
 use Rattle.rules.specs.Legs.{Stop, ended?, Stretch}
@@ -20,7 +20,7 @@ use Rattle.motifs.specs.declared.pages.Left.{Left}
 use Rattle.motifs.specs.declared.pages.Left.the-variants as left
 use Rattle.motifs.specs.declared.pages.Page.{Page}
 use Rattle.motifs.specs.declared.pages.Way.{Way}
-use Rattle.motifs.specs.Left.{nothing, onward}
+use Rattle.motifs.specs.Left.{nothing, rows-or-end}
 
 -- the most rows of a page, the most steps of its leg, and the bytes of a full page
 abbrev pub Page-ROWS : ℕ
@@ -31,10 +31,6 @@ Page-STEPS = 16384
 
 abbrev pub Page-BYTES : ℕ
 Page-BYTES = Page-ROWS * Line-ROOM
-
--- a leg's room is its shortest table
-abbrev pub room-of : List ℕ → List ℕ → List ℕ → ℕ
-room-of motifs supports weights = min (length motifs) (min (length supports) (length weights))
 
 -- a leg that ended the search
 abbrev pub ended-told? : Told Stop → Bool
@@ -64,7 +60,7 @@ module _ (letters lengths : List ℕ) where
   -- and what is left after it
   unfoldable pub left-after : Left → Left
   left-after (left.Refusal n p) = nothing
-  left-after (left.Rows w) = let l : Stretch = covered w in onward w (ended? (l .stop)) (l .steps) (length (l .motifs)) (moved (w .search) (l .at))
+  left-after (left.Rows w) = let l : Stretch = covered w in rows-or-end w (ended? (l .stop)) (l .steps) (length (l .motifs)) (moved (w .search) (l .at))
   left-after (left.End steps found) = nothing
   left-after left.Nothing = nothing
 
@@ -97,11 +93,11 @@ module _ (letters lengths : List ℕ) where
     pub few : w .steps + length (to-try w) < 2 ^ 64
     pub fewer : w .rows ≤ w .steps
 
-  abbrev pub Ready : Left → Type 0
-  Ready (left.Refusal n p) = Unit {0}
-  Ready (left.Rows w) = Goes w
-  Ready (left.End steps found) = Unit {0}
-  Ready left.Nothing = Unit {0}
+  abbrev pub Printable : Left → Type 0
+  Printable (left.Refusal n p) = Unit {0}
+  Printable (left.Rows w) = Goes w
+  Printable (left.End steps found) = Unit {0}
+  Printable left.Nothing = Unit {0}
 
   -- the next page of s stands at the front of a buffer, and what lies past it is as it was
   pub record Next (s : Left) (before after : List ℕ) (p : Page) : Type 0 where

@@ -23,7 +23,8 @@ ghost use mathlib.Core.Path.{_≡_};
 ghost use Prim.Native.Nat.{_≤_};
 ghost use lib.ListN.{length};
 ghost use Rattle.rules.specs.Limits.{Text-BYTES};
-ghost use Rattle.motifs.specs.Pages.{Page-ROWS, Page-BYTES, room-of, Ready};
+ghost use Rattle.search.specs.AcceptedLeg.{room-of};
+ghost use Rattle.motifs.specs.Pages.{Page-ROWS, Page-BYTES, Printable};
 
 // Writes what is left, one page after another, and stops where a write failed.
 fn write_pages(
@@ -35,7 +36,7 @@ fn write_pages(
     weights: &mut [u64],
     out: &mut [u8],
 )
-    requires { ⌜ Ready (now letters) (now lengths) first ⌝ }
+    requires { ⌜ Printable (now letters) (now lengths) first ⌝ }
     requires { ⌜ (room-of (now motifs) (now supports) (now weights) ≡ Page-ROWS) × (Page-BYTES ≤ length (now out)) ⌝ }
 {
     let mut left = first;

@@ -13,8 +13,9 @@ ghost use Prim.Native.Nat.{_+_, _^_, _≤_, _<_};
 ghost use lib.ListN.{length};
 ghost use Rattle.rules.specs.Lists.{if};
 ghost use Rattle.rules.specs.Told.{refusal-number, refusal-place, toldAnswer, toldBegun};
-ghost use Rattle.motifs.specs.Left.{refusal, rows, nothing, more?, opening, onward};
-ghost use Rattle.motifs.specs.Pages.{Page-ROWS, Page-BYTES, room-of, ended-told?, Goes, Ready, Next};
+ghost use Rattle.search.specs.AcceptedLeg.{room-of};
+ghost use Rattle.motifs.specs.Left.{refusal, rows, nothing, more?, opening, rows-or-end};
+ghost use Rattle.motifs.specs.Pages.{Page-ROWS, Page-BYTES, ended-told?, Goes, Printable, Next};
 
 // The most rows of a page, and the bytes of that many of the longest line.
 pub const ROWS: usize = 256;
@@ -103,7 +104,7 @@ fn has_ended(answer: LegAnswer) -> bool
 // What is left after a leg: the end line where it ended the search, and else the rows from where it stopped.
 fn advance(way: Way, leg: Leg) -> Left
     requires { ⌜ (way .steps + leg .steps < 2 ^ 64) × (way .rows + leg .rows < 2 ^ 64) ⌝ }
-    ensures { λ r. ⌜ r ≡ onward way (ended-told? (toldAnswer (leg .answer))) (leg .steps) (leg .rows) (leg .search) ⌝ }
+    ensures { λ r. ⌜ r ≡ rows-or-end way (ended-told? (toldAnswer (leg .answer))) (leg .steps) (leg .rows) (leg .search) ⌝ }
 {
     let answer = leg.answer;
     let found = leg.rows as u64;
@@ -162,7 +163,7 @@ pub fn next(
     weights: &mut [u64],
     out: &mut [u8],
 ) -> Page
-    requires { ⌜ Ready (now letters) (now lengths) left ⌝ }
+    requires { ⌜ Printable (now letters) (now lengths) left ⌝ }
     requires { ⌜ (room-of (now motifs) (now supports) (now weights) ≡ Page-ROWS) × (Page-BYTES ≤ length (now out)) ⌝ }
     ensures { λ r. ⌜ Next (now (letters .entry)) (now (lengths .entry)) left (now (out .entry)) (now (out .exit)) r ⌝ }
 {

@@ -1,3 +1,3 @@
 -- The laws that the proofs of this crate's functions lean on.
 pub mod Through
-pub mod InTurn
+pub mod ChecksInTurn

@@ -16,7 +16,7 @@ ghost use Rattle.rules.specs.Saved.{place-rule?};
 ghost use Rattle.rules.specs.Sound.{SoundSet, SoundTemplate};
 ghost use Rattle.rules.specs.Told.{fine, toldChecked};
 ghost use Rattle.matching.specs.Path.{Tables, Made};
-ghost use Rattle.places.specs.Orders.{before-13};
+ghost use Rattle.places.specs.SearchOrder.{before-13};
 
 // Whether the prefix of a place, of `size - 1` letters, is frequent, if this is its support. The empty one is.
 fn frequent(size: u8, quorum: u64, found: u32) -> bool

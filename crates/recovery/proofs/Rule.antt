@@ -10,7 +10,7 @@ use borrow.Author.Tests.{lt-ltb, le-ltb}
 use Rattle.descent.specs.Buffer.{buffer, progress, emits}
 use Rattle.descent.specs.declared.Progress.{Progress}
 use Rattle.descent.proofs.Buffer.{emits-none, emits-passed}
-use Rattle.descent.proofs.Flags.{parts-count}
+use Rattle.descent.proofs.RightFlags.{parts-count}
 use Rattle.recovery.specs.Rule.{first-checks, rows-rule}
 use Rattle.recovery.proofs.Page.{emits-page}
 use Rattle.rules.specs.Calls.{recover-rule}
@@ -26,7 +26,7 @@ use Rattle.rules.specs.declared.Template.{Template}
 use Rattle.rules.proofs.Occurs.{parts-worded, rows-are}
 use Rattle.rules.proofs.Sound.{set-sound, template-sound}
 use Rattle.rules.proofs.Verdicts.{first-append, first-both, else-fine}
-use Rattle.checks.specs.Orders.{template-checks}
+use Rattle.checks.specs.CheckOrders.{template-checks}
 
 -- ---- 14
 

@@ -18,7 +18,7 @@ ghost use mathlib.Core.List.{[], _∷_, _++_, map};
 ghost use mathlib.Core.Path.{_≡_};
 ghost use Prim.Native.Nat.{suc, _+_, _*_, _^_, _≤_, _<_};
 ghost use lib.ListN.{length, take, drop};
-ghost use Rattle.descent.specs.Buffer.{buffer, progress, Inside, emits, after};
+ghost use Rattle.descent.specs.Buffer.{buffer, progress, InBuffer, emits, with-front};
 ghost use Rattle.descent.specs.Paths.{Flagged};
 ghost use Rattle.recovery.specs.Rule.{first-checks, rows-rule};
 ghost use Rattle.rules.specs.Calls.{recover-rule};
@@ -105,10 +105,10 @@ fn list_sequence(
 ) -> Listing
     requires { ⌜ SoundTemplate template ⌝ }
     requires { ⌜ (number .0 ≤ SequenceSet-SEQUENCES) × (length (now sequence) ≤ SequenceSet-LETTERS) × (length (now ways) ≡ SequenceSet-LETTERS) × (length (now flags) ≡ Template-COMPONENTS * SequenceSet-LETTERS) ⌝ }
-    requires { ⌜ Inside done (length (now out)) ⌝ }
+    requires { ⌜ InBuffer done (length (now out)) ⌝ }
     requires { ⌜ length (occurrences (parts template (size template) motif) (map value (now sequence))) < 2 ^ 64 ⌝ }
-    ensures { λ r. ⌜ Inside (r .progress) (length (now (out .exit))) ⌝ }
-    ensures { λ r. ⌜ buffer (r .progress) (now (out .exit)) ≡ emits (suc (template .count)) (after (number .0 ∷ []) (occurrences (parts template (size template) motif) (map value (now (sequence .entry))))) (buffer done (now (out .entry))) ⌝ }
+    ensures { λ r. ⌜ InBuffer (r .progress) (length (now (out .exit))) ⌝ }
+    ensures { λ r. ⌜ buffer (r .progress) (now (out .exit)) ≡ emits (suc (template .count)) (with-front (number .0 ∷ []) (occurrences (parts template (size template) motif) (map value (now (sequence .entry))))) (buffer done (now (out .entry))) ⌝ }
     ensures { λ r. ⌜ r .length ≡ length (occurrences (parts template (size template) motif) (map value (now (sequence .entry)))) ⌝ }
 {
     mark(sequence, template, motif, ways, flags);

@@ -12,24 +12,24 @@ use lib.Dec.{leb}
 use Rattle.rules.specs.Lists.{if, run}
 use Rattle.rules.proofs.Over.{getD-map-run, length-map-run}
 use Rattle.rows.specs.Flags.{bit, ago}
-use Rattle.rows.specs.Bits.{digits, held}
+use Rattle.rows.specs.Bits.{binary-digits, held}
 use Rattle.rows.proofs.Held.{length-held}
 use Rattle.rows.proofs.Gaps.{ago-in, ago-out}
 use Rattle.rows.specs.Rows.{both-at, both, either-at, either, ahead-at, ahead, behind-at, behind, extended}
-use Rattle.rows.specs.Words.{down, extended-word, ahead-word, behind-word, either-word}
+use Rattle.rows.specs.Words.{shifted-down, extended-word, ahead-word, behind-word, either-word}
 use Rattle.rows.proofs.Digits.{digit, digit-and, digit-or, digit-shr, down-low, down-high, up-low, up-high}
 
 pub digit-none : (b : ℕ) → digit 0 b ≡ 0
 unfolding digit
 digit-none b = rw (zero-div, zero-mod)
 
-length-digits : (k w : ℕ) → length (digits k w) ≡ k
-unfolding digits
+length-digits : (k w : ℕ) → length (binary-digits k w) ≡ k
+unfolding binary-digits
 length-digits zero w = refl
 length-digits (suc k) w = ap suc (length-digits k (w / 2))
 
-getD-digits : (k w b : ℕ) → b < k → getD (digits k w) b 0 ≡ digit w b
-unfolding digits digit
+getD-digits : (k w b : ℕ) → b < k → getD (binary-digits k w) b 0 ≡ digit w b
+unfolding binary-digits digit
 getD-digits zero w b h = absurd (omega arith)
 getD-digits (suc k) w zero h = rw div-one
 getD-digits (suc k) w (suc b) h =
@@ -42,11 +42,11 @@ unfolding held
 getD-held [] q b h = sym (digit-none b)
 getD-held (w ∷ ws) zero b h =
     let e : 0 * 64 + b ≡ b = omega arith in
-    let l : b < length (digits 64 w) = rw length-digits h in
-    rw e (List·getD-append (digits 64 w) (held ws) 0 b l ∙ getD-digits 64 w b h)
+    let l : b < length (binary-digits 64 w) = rw length-digits h in
+    rw e (List·getD-append (binary-digits 64 w) (held ws) 0 b l ∙ getD-digits 64 w b h)
 getD-held (w ∷ ws) (suc q) b h =
-    let e : suc q * 64 + b ≡ length (digits 64 w) + (q * 64 + b) = rw length-digits (omega arith) in
-    rw e (getD-append-add (digits 64 w) (held ws) (q * 64 + b) 0 ∙ getD-held ws q b h)
+    let e : suc q * 64 + b ≡ length (binary-digits 64 w) + (q * 64 + b) = rw length-digits (omega arith) in
+    rw e (getD-append-add (binary-digits 64 w) (held ws) (q * 64 + b) 0 ∙ getD-held ws q b h)
 
 pub held-at : (ws : List ℕ) (p : ℕ) → getD (held ws) p 0 ≡ digit (getD ws (p / 64) 0) (p % 64)
 held-at ws p = let e : p ≡ p / 64 * 64 + p % 64 = omega arith in ap (λ (x : ℕ). getD (held ws) x 0) e ∙ getD-held ws (p / 64) (p % 64) (omega arith)
@@ -88,7 +88,7 @@ either-row ws vs =
 
 -- A SHIFT DOWN, of words that fit
 module _ (i : ℕ) (small : i < 64) (ls : List ℕ) (fits : (q : ℕ) → getD ls q 0 < 2 ^ 64) where
-  down-at : (q b : ℕ) → b < 64 → digit (down i (getD ls q 0) (getD ls (q + 1) 0)) b ≡ getD (held ls) (q * 64 + b + i) 0
+  down-at : (q b : ℕ) → b < 64 → digit (shifted-down i (getD ls q 0) (getD ls (q + 1) 0)) b ≡ getD (held ls) (q * 64 + b + i) 0
   down-at q b h =
       elim (decLt (b + i) 64) [
         | yes l ↦ (let e : q * 64 + (b + i) ≡ q * 64 + b + i = omega arith in
@@ -112,7 +112,7 @@ module _ (i : ℕ) (small : i < 64) (ls : List ℕ) (fits : (q : ℕ) → getD l
     extended-at q b k h =
         let n : q * 64 + b < length (held ls) = rw length-held (omega arith) in
         let z : 0 + (q * 64 + b) ≡ q * 64 + b = omega arith in
-        digit-and (getD ws q 0) (down i (getD ls q 0) (getD ls (q + 1) 0)) b
+        digit-and (getD ws q 0) (shifted-down i (getD ls q 0) (getD ls (q + 1) 0)) b
         ∙ rw (getD-held ws q b h, getD-map-run (ahead-at i (held ls)) 0 0 (length (held ls)) (q * 64 + b) n, z, down-at q b h)
 
     pub extended-row : held (map (extended-word i ls ws) (run 0 (length ws))) ≡ extended i (held ls) (held ws)

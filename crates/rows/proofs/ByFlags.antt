@@ -12,7 +12,7 @@ use Rattle.rules.proofs.Bound.{split-lengths, split-count}
 use Rattle.rules.specs.Letters.{value}
 use Rattle.rules.specs.Lists.{if, run, keep, sum}
 use Rattle.rules.specs.Sequences.{split, sequences}
-use Rattle.rows.specs.Flags.{bit, kept, reached, left?}
+use Rattle.rows.specs.Flags.{bit, kept-flags, reached, left?}
 use Rattle.rows.specs.Rows.{both, ahead, extended, window, lettered, padded}
 use Rattle.rows.specs.Set.{words-of, first-word, between, bits-at, marked?, tally, extended-at, extended-marked?, window-at, lettered-at, lettered-on, Filled, Marked, Bounded, sequence, Row, Source}
 use Rattle.rows.proofs.Bits.{bit-small}
@@ -114,7 +114,7 @@ module _ (ns l : List ℕ) (adds : sum ns ≡ length l) (few : length ns ≤ 102
     unfolding lettered-on lettered-at sequences
     letter-is k m u e = tests k u ∙ ap (λ (n : ℕ). ahead i (lettered f x (getD (split ns (map value l)) k []) n)) (sym e)
 
-    flags-at : (k : ℕ) → k < length ns → marked? row k ≡ true → extended-at by ns letter row k ≡ padded (64 * words-of (getD ns k 0)) (kept f x i (sequence ns l k) (F (sequence ns l k)))
+    flags-at : (k : ℕ) → k < length ns → marked? row k ≡ true → extended-at by ns letter row k ≡ padded (64 * words-of (getD ns k 0)) (kept-flags f x i (sequence ns l k) (F (sequence ns l k)))
     unfolding extended-at extended
     flags-at k u e =
         let s = sequence ns l k in
@@ -124,14 +124,14 @@ module _ (ns l : List ℕ) (adds : sum ns ≡ length l) (few : length ns ≤ 102
         ap (both K) (letter-is k (length K) u n) ∙ extended-flags s K (F s) (small k) r (source .begin k u e) f x i ∙ rw n
 
     G : List ℕ → List ℕ
-    G s = kept f x i s (F s)
+    G s = kept-flags f x i s (F s)
 
     -- whether it is written or not
-    pub mark-same : (k : ℕ) → k < 1024 → extended-marked? by ns letter row k ≡ left? (kept f x i (sequence ns l k) (F (sequence ns l k)))
+    pub mark-same : (k : ℕ) → k < 1024 → extended-marked? by ns letter row k ≡ left? (kept-flags f x i (sequence ns l k) (F (sequence ns l k)))
     unfolding extended-marked?
     mark-same k u = go (marked? row k) refl
       where
-        go : (b : Bool) → marked? row k ≡ b → if (marked? row k) (left? (extended-at by ns letter row k)) false ≡ left? (kept f x i (sequence ns l k) (F (sequence ns l k)))
+        go : (b : Bool) → marked? row k ≡ b → if (marked? row k) (left? (extended-at by ns letter row k)) false ≡ left? (kept-flags f x i (sequence ns l k) (F (sequence ns l k)))
         go true e =
             elim (decLt k (length ns)) [
               | yes h ↦ rw (e, flags-at k h e, left-padded)
@@ -141,14 +141,14 @@ module _ (ns l : List ℕ) (adds : sum ns ≡ length l) (few : length ns ≤ 102
 
     pub letter-row : (out : List ℕ) → Filled (marked? row) (extended-at by ns letter row) ns out (length ns)
         → Marked (extended-marked? by ns letter row) out 1024
-        → Row (λ s. kept f x i s (F s)) ns l out
+        → Row (λ s. kept-flags f x i s (F s)) ns l out
     letter-row out q m = record {
       marks-are = λ k u. m .same k u ∙ mark-same k u;
       bits-are = λ k u t. go k u t (marked? row k) refl;
     }
       where
         go : (k : ℕ) → k < length ns → marked? out k ≡ true → (b : Bool) → marked? row k ≡ b
-            → bits-at ns k out ≡ padded (64 * words-of (getD ns k 0)) (kept f x i (sequence ns l k) (F (sequence ns l k)))
+            → bits-at ns k out ≡ padded (64 * words-of (getD ns k 0)) (kept-flags f x i (sequence ns l k) (F (sequence ns l k)))
         go k u t true e = q .same k u e ∙ flags-at k u e
         go k u t false e =
             absurd (false≢true (sym (m .same k (omega arith) ∙ (unfold extended-marked? in rw e)) ∙ t))

@@ -10,7 +10,7 @@ use borrow.Author.Tests.{eq-eqb, eqb-true}
 use Rattle.rules.specs.Lists.{if, sign, run, sum}
 use Rattle.rules.specs.Occurrence.{stands-by}
 use Rattle.rows.specs.Flags.{ago, recent, near, reached, left?}
-use Rattle.rows.specs.Flags.{kept-at, kept}
+use Rattle.rows.specs.Flags.{kept-at, kept-flags}
 
 pub none-set : (ks : List ℕ) → left? ks ≡ false → (p : ℕ) → getD ks p 0 ≡ 0
 unfolding left?
@@ -32,8 +32,8 @@ same-zero true = refl
 same-zero false = refl
 
 module _ (ks : List ℕ) (e : left? ks ≡ false) where
-  pub kept-dark : (f : ℕ → ℕ → Bool) (x i : ℕ) (s : List ℕ) → left? (kept f x i s ks) ≡ false
-  unfolding kept
+  pub kept-dark : (f : ℕ → ℕ → Bool) (x i : ℕ) (s : List ℕ) → left? (kept-flags f x i s ks) ≡ false
+  unfolding kept-flags
   kept-dark f x i s = none-left (kept-at f x i s ks) 0 (length s) one
     where
       one : (o : ℕ) → kept-at f x i s ks o ≡ 0

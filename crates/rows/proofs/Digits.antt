@@ -6,7 +6,7 @@ use native.Mathlib.Decide.{decLt}
 use native.Mathlib.Omega.{arith}
 use lib.Bits.{bitAnd, bitOr, bitXor, differ, and-step, or-step, xor-step, and-shr, or-shr, xor-shr, or-zero-r, shifted-even}
 use lib.Pow.{pow-mono, pow-add, shl-shr, shr-shr, field, mod-mod-pow}
-use Rattle.rows.specs.Words.{down, up}
+use Rattle.rows.specs.Words.{shifted-down, shifted-up}
 
 -- digit b of a number
 unfoldable pub digit : ℕ → ℕ → ℕ
@@ -94,14 +94,14 @@ module _ (i low high b : ℕ) (small : i < 64) (inside : b < 64) where
       ∙ digit-shl-in high 1 (b - (63 - i)) (omega arith)
       ∙ ap (digit high) e
 
-  pub down-low : b + i < 64 → digit (down i low high) b ≡ digit low (b + i)
-  unfolding down from-high
+  pub down-low : b + i < 64 → digit (shifted-down i low high) b ≡ digit low (b + i)
+  unfolding shifted-down from-high
   down-low h =
       let e : i + b ≡ b + i = omega arith in
       digit-or (low / 2 ^ i) from-high b ∙ rw (from-high-out h, max-zero, digit-shr low i b, e)
 
-  pub down-high : low < 2 ^ 64 → 64 ≤ b + i → digit (down i low high) b ≡ digit high (b + i - 64)
-  unfolding down from-high
+  pub down-high : low < 2 ^ 64 → 64 ≤ b + i → digit (shifted-down i low high) b ≡ digit high (b + i - 64)
+  unfolding shifted-down from-high
   down-high l h =
       digit-or (low / 2 ^ i) from-high b ∙ rw (from-high-in h, digit-shr low i b, digit-past 64 low (i + b) l (omega arith), zero-max)
 
@@ -109,8 +109,8 @@ module _ (i low high b : ℕ) (small : i < 64) (inside : b < 64) where
 even : (k : ℕ) → (k * 2 * 2 ^ 63) % 2 ^ 64 ≡ 0
 even k = omega arith
 
-pub down-none : (low high : ℕ) → down 0 low high ≡ low
-unfolding down
+pub down-none : (low high : ℕ) → shifted-down 0 low high ≡ low
+unfolding shifted-down
 down-none low high =
     let k = (high * 2) % 2 ^ 64 / 2 in
     let e : (high * 2) % 2 ^ 64 ≡ k * 2 = omega arith in
@@ -118,8 +118,8 @@ down-none low high =
     rw (z, or-zero-r, div-one)
 
 -- shifted down by some, the upper may be shifted at once: what its first shift loses the second would lose too
-pub down-at-once : (i low high : ℕ) → 1 ≤ i → i < 64 → bitOr (low / 2 ^ i) ((high * 2 ^ (64 - i)) % 2 ^ 64) ≡ down i low high
-unfolding down
+pub down-at-once : (i low high : ℕ) → 1 ≤ i → i < 64 → bitOr (low / 2 ^ i) ((high * 2 ^ (64 - i)) % 2 ^ 64) ≡ shifted-down i low high
+unfolding shifted-down
 down-at-once i low high h l = ap (bitOr (low / 2 ^ i)) (ap (λ (x : ℕ). x % 2 ^ 64) whole ∙ less (high * 2 / 2 ^ 64 * 2 ^ (63 - i)) ((high * 2) % 2 ^ 64 * 2 ^ (63 - i)))
   where
     less : (k z : ℕ) → (k * 2 ^ 64 + z) % 2 ^ 64 ≡ z % 2 ^ 64
@@ -138,14 +138,14 @@ module _ (i low high b : ℕ) (small : i < 64) (inside : b < 64) where
   from-low : digit (low / 2 / 2 ^ (63 - i)) b ≡ digit low (64 - i + b)
   from-low = let e : 1 + (63 - i + b) ≡ 64 - i + b = omega arith in digit-shr (low / 2) (63 - i) b ∙ digit-shr low 1 (63 - i + b) ∙ ap (digit low) e
 
-  pub up-high : low < 2 ^ 64 → i ≤ b → digit (up i low high) b ≡ digit high (b - i)
-  unfolding up
+  pub up-high : low < 2 ^ 64 → i ≤ b → digit (shifted-up i low high) b ≡ digit high (b - i)
+  unfolding shifted-up
   up-high l h =
       digit-or ((high * 2 ^ i) % 2 ^ 64) (low / 2 / 2 ^ (63 - i)) b
       ∙ rw (from-low, digit-past 64 low (64 - i + b) l (omega arith), max-zero, digit-mod 64 (high * 2 ^ i) b inside, digit-shl-in high i b h)
 
-  pub up-low : b < i → digit (up i low high) b ≡ digit low (64 - i + b)
-  unfolding up
+  pub up-low : b < i → digit (shifted-up i low high) b ≡ digit low (64 - i + b)
+  unfolding shifted-up
   up-low h =
       digit-or ((high * 2 ^ i) % 2 ^ 64) (low / 2 / 2 ^ (63 - i)) b
       ∙ rw (from-low, digit-mod 64 (high * 2 ^ i) b inside, digit-shl-out high i b h, zero-max)

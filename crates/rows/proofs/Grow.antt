@@ -11,8 +11,8 @@ use lib.ListN.{length, take, drop, getD, replicate, length-append, length-drop, 
 use lib.Seq.{take-all, take-append-le, drop-append-le}
 use Rattle.rules.specs.Template.{Reading, none, distance, part-of, deal}
 use Rattle.rules.specs.declared.Component.{Component}
-use Rattle.rows.specs.Flags.{kept, matched, following, last-by}
-use Rattle.rows.specs.Prefix.{letters-before, At, before-letter}
+use Rattle.rows.specs.Flags.{kept-flags, matched, following, last-by}
+use Rattle.rows.specs.NextLetter.{letters-before, At, before-letter}
 
 -- every component has a letter
 abbrev pub Lettered : List Component → Type 0
@@ -31,10 +31,10 @@ length-before-at c [] (suc k) h = absurd (omega arith)
 length-before-at c (d ∷ cs) (suc k) h = length-before-at d cs k (omega arith)
 
 -- a word with a letter more
-pub matched-more : (f : ℕ → ℕ → Bool) (w : List ℕ) (x j : ℕ) (s ks : List ℕ) → matched f (w ++ (x ∷ [])) j s ks ≡ kept f x (j + length w) s (matched f w j s ks)
+pub matched-more : (f : ℕ → ℕ → Bool) (w : List ℕ) (x j : ℕ) (s ks : List ℕ) → matched f (w ++ (x ∷ [])) j s ks ≡ kept-flags f x (j + length w) s (matched f w j s ks)
 unfolding matched
 matched-more f [] x j s ks = rw (add-zero j)
-matched-more f (y ∷ w) x j s ks = let e : suc j + length w ≡ j + suc (length w) = omega arith in matched-more f w x (suc j) s (kept f y j s ks) ∙ rw e
+matched-more f (y ∷ w) x j s ks = let e : suc j + length w ≡ j + suc (length w) = omega arith in matched-more f w x (suc j) s (kept-flags f y j s ks) ∙ rw e
 
 deal-none : (R : Reading) (n : ℕ) (cs : List Component) → deal R n cs [] ≡ []
 unfolding deal
@@ -64,7 +64,7 @@ module _ (G : ℕ → ℕ → List ℕ → List ℕ) (R : Reading) (x : ℕ) (s 
   -- INSIDE A COMPONENT, at its letter i
   inside : (cs : List Component) (n : ℕ) (w ks : List ℕ) (k i : ℕ) → Lettered cs → k < length cs
       → i < (getD cs k none) .length → 1 ≤ i → length w ≡ letters-before cs k + i
-      → following G (deal R n cs (w ++ (x ∷ []))) s ks ≡ kept (R .fits) x i s (following G (deal R n cs w) s ks)
+      → following G (deal R n cs (w ++ (x ∷ []))) s ks ≡ kept-flags (R .fits) x i s (following G (deal R n cs w) s ks)
   unfolding letters-before following
   inside [] n w ks k i f h l o e = absurd (omega arith)
   inside (c ∷ cs) n w ks zero i f h l o e =
@@ -81,7 +81,7 @@ module _ (G : ℕ → ℕ → List ℕ → List ℕ) (R : Reading) (x : ℕ) (s 
   -- A COMPONENT'S FIRST LETTER
   first : (cs : List Component) (n : ℕ) (w ks : List ℕ) (k : ℕ) → Lettered cs → k < length cs → length w ≡ letters-before cs k
       → following G (deal R n cs (w ++ (x ∷ []))) s ks
-      ≡ kept (R .fits) x 0 s (G (distance (length-before n cs k) ((getD cs k none) .low)) (distance (length-before n cs k) ((getD cs k none) .high)) (following G (deal R n cs w) s ks))
+      ≡ kept-flags (R .fits) x 0 s (G (distance (length-before n cs k) ((getD cs k none) .low)) (distance (length-before n cs k) ((getD cs k none) .high)) (following G (deal R n cs w) s ks))
   unfolding letters-before length-before following matched
   first [] n w ks k f h e = absurd (omega arith)
   first (c ∷ cs) n [] ks zero f h e =
@@ -95,14 +95,14 @@ module _ (G : ℕ → ℕ → List ℕ → List ℕ) (R : Reading) (x : ℕ) (s 
       (first cs (c .length) (drop (c .length) w) _ k (λ m v. f (suc m) (omega arith)) (omega arith) d)
 
   -- OF A WHOLE PREFIX w, which x follows. The first letter of all
-  grow-none : (cs : List Component) → Lettered cs → 0 < length cs → last-by G (deal R 0 cs (x ∷ [])) s ≡ kept (R .fits) x 0 s (replicate (length s) 1)
+  grow-none : (cs : List Component) → Lettered cs → 0 < length cs → last-by G (deal R 0 cs (x ∷ [])) s ≡ kept-flags (R .fits) x 0 s (replicate (length s) 1)
   unfolding last-by following matched
   grow-none [] f h = absurd (omega arith)
   grow-none (c ∷ cs) f h = rw (deal-one R 0 c cs (x ∷ []) (omega arith) (f 0 (omega arith)))
 
   -- letter i of component k
   grow-inside : (cs : List Component) → Lettered cs → (w : List ℕ) (k i : ℕ) → k < length cs → i < (getD cs k none) .length → 1 ≤ i
-      → length w ≡ letters-before cs k + i → last-by G (deal R 0 cs (w ++ (x ∷ []))) s ≡ kept (R .fits) x i s (last-by G (deal R 0 cs w) s)
+      → length w ≡ letters-before cs k + i → last-by G (deal R 0 cs (w ++ (x ∷ []))) s ≡ kept-flags (R .fits) x i s (last-by G (deal R 0 cs w) s)
   unfolding last-by following letters-before
   grow-inside [] f w k i h l o e = absurd (omega arith)
   grow-inside (c ∷ cs) f w zero i h l o e =
@@ -118,7 +118,7 @@ module _ (G : ℕ → ℕ → List ℕ → List ℕ) (R : Reading) (x : ℕ) (s 
 
   -- the first letter of component k + 1
   grow-first : (cs : List Component) → Lettered cs → (w : List ℕ) (k : ℕ) → suc k < length cs → length w ≡ letters-before cs (suc k)
-      → last-by G (deal R 0 cs (w ++ (x ∷ []))) s ≡ kept (R .fits) x 0 s (before-letter G R cs (suc k) 0 w s)
+      → last-by G (deal R 0 cs (w ++ (x ∷ []))) s ≡ kept-flags (R .fits) x 0 s (before-letter G R cs (suc k) 0 w s)
   unfolding last-by letters-before before-letter
   grow-first [] f w k h e = absurd (omega arith)
   grow-first (c ∷ cs) f w k h e =
@@ -133,7 +133,7 @@ no-letter cs n e = omega arith
 
 -- IN ONE: letter i of component k, after the letters w
 pub grow : (G : ℕ → ℕ → List ℕ → List ℕ) (R : Reading) (x : ℕ) (s : List ℕ) (cs : List Component) → ((m : ℕ) → m < length cs → 1 ≤ (getD cs m none) .length)
-    → (w : List ℕ) (k i : ℕ) → At cs (length w) k i → last-by G (deal R 0 cs (w ++ (x ∷ []))) s ≡ kept (R .fits) x i s (before-letter G R cs k i w s)
+    → (w : List ℕ) (k i : ℕ) → At cs (length w) k i → last-by G (deal R 0 cs (w ++ (x ∷ []))) s ≡ kept-flags (R .fits) x i s (before-letter G R cs k i w s)
 unfolding before-letter
 grow G R x s cs f w k (suc i) a = grow-inside G R x s cs f w k (suc i) (a .there) (a .inside) (omega arith) (a .counted)
 grow G R x s cs f (y ∷ w) zero zero a = absurd (no-letter cs (length w) (a .counted))

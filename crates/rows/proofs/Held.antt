@@ -14,10 +14,10 @@ use lib.Seq.{drop-cons, set-append-left, set-getD}
 use Rattle.rules.proofs.Tables.{sum-append}
 use Rattle.rules.specs.Lists.{sum}
 use Rattle.rows.specs.Flags.{bit}
-use Rattle.rows.specs.Bits.{digits, held}
+use Rattle.rows.specs.Bits.{binary-digits, held}
 
-length-digits : (k w : ℕ) → length (digits k w) ≡ k
-unfolding digits
+length-digits : (k w : ℕ) → length (binary-digits k w) ≡ k
+unfolding binary-digits
 length-digits zero w = refl
 length-digits (suc k) w = ap suc (length-digits k (w / 2))
 
@@ -25,7 +25,7 @@ length-digits (suc k) w = ap suc (length-digits k (w / 2))
 pub length-held : (ws : List ℕ) → length (held ws) ≡ 64 * length ws
 unfolding held
 length-held [] = refl
-length-held (w ∷ ws) = length-append (digits 64 w) (held ws) ∙ rw (length-digits, length-held ws) (omega arith)
+length-held (w ∷ ws) = length-append (binary-digits 64 w) (held ws) ∙ rw (length-digits, length-held ws) (omega arith)
 
 -- a digit set: the lowest, and one further up
 or-one : (w : ℕ) → (bitOr w 1 % 2 ≡ 1) × (bitOr w 1 / 2 ≡ w / 2)
@@ -41,8 +41,8 @@ or-shift w b =
     let e : bitOr w (2 ^ suc b) ≡ bitOr (w / 2) (2 ^ b) * 2 + max (w % 2) 0 = or-step w (2 ^ suc b) ∙ rw (h, r) in
     (omega arith, omega arith)
 
-digits-set : (k w b : ℕ) → b < k → digits k (bitOr w (2 ^ b)) ≡ set (digits k w) b 1
-unfolding digits
+digits-set : (k w b : ℕ) → b < k → binary-digits k (bitOr w (2 ^ b)) ≡ set (binary-digits k w) b 1
+unfolding binary-digits
 digits-set zero w b h = absurd (omega arith)
 digits-set (suc k) w zero h = rw (or-one w .0, or-one w .1)
 digits-set (suc k) w (suc b) h = rw (or-shift w b .0, or-shift w b .1, digits-set k (w / 2) b (omega arith))
@@ -56,11 +56,11 @@ unfolding held
 held-set [] q b h l = absurd (omega arith)
 held-set (w ∷ ws) zero b h l =
     let e : 0 * 64 + b ≡ b = omega arith in
-    let l' : b < length (digits 64 w) = rw length-digits l in
-    rw (e, digits-set 64 w b l, set-append-left (digits 64 w) (held ws) b 1 l')
+    let l' : b < length (binary-digits 64 w) = rw length-digits l in
+    rw (e, digits-set 64 w b l, set-append-left (binary-digits 64 w) (held ws) b 1 l')
 held-set (w ∷ ws) (suc q) b h l =
-    let e : suc q * 64 + b ≡ length (digits 64 w) + (q * 64 + b) = rw length-digits (omega arith) in
-    rw (e, set-past (digits 64 w) (held ws) (q * 64 + b) 1, held-set ws q b (omega arith) l)
+    let e : suc q * 64 + b ≡ length (binary-digits 64 w) + (q * 64 + b) = rw length-digits (omega arith) in
+    rw (e, set-past (binary-digits 64 w) (held ws) (q * 64 + b) 1, held-set ws q b (omega arith) l)
 
 -- as the code writes it: where the prefix was found the mark is set, and else nothing changes
 module _ (ws : List ℕ) (i : ℕ) (h : i < 64 * length ws) (free : getD (held ws) i 0 ≡ 0) where
@@ -79,8 +79,8 @@ ones-zero : 0 ≡ ones 0
 unfolding ones onesIn
 ones-zero = refl
 
-sum-digits : (k w : ℕ) → w < 2 ^ k → sum (digits k w) ≡ ones w
-unfolding digits sum
+sum-digits : (k w : ℕ) → w < 2 ^ k → sum (binary-digits k w) ≡ ones w
+unfolding binary-digits sum
 sum-digits zero w h = let e : w ≡ 0 = omega arith in rw e ones-zero
 sum-digits (suc k) w h =
     let p : 2 ^ suc k ≡ 2 ^ k * 2 = pow-suc 2 k in

@@ -15,7 +15,7 @@ use borrow.Author.Tests.{eq-eqb, ne-eqb, eqb-true, eqb-false}
 use Rattle.rules.specs.Lists.{if, run}
 use Rattle.rules.proofs.Over.{map-run, getD-map-run, length-map-run}
 use Rattle.rows.specs.Flags.{left?}
-use Rattle.rows.specs.Bits.{digits, held}
+use Rattle.rows.specs.Bits.{binary-digits, held}
 use Rattle.rows.specs.Words.{word-at}
 
 or-zero : (a b : ℕ) (p q : Bool) → eqb a 0 ≡ p → eqb b 0 ≡ q → eqb (bitOr a b) 0 ≡ if p q false
@@ -59,12 +59,12 @@ not-not false = refl
 pub joined-all : (a : ℕ) (b : Bool) → eqb a 0 ≡ not b → not (eqb a 0) ≡ b
 joined-all a b e = ap not e ∙ not-not b
 
-left-digits : (k w : ℕ) → w < 2 ^ k → left? (digits k w) ≡ not (eqb w 0)
-unfolding left? digits
+left-digits : (k w : ℕ) → w < 2 ^ k → left? (binary-digits k w) ≡ not (eqb w 0)
+unfolding left? binary-digits
 left-digits zero w h = let e : w ≡ 0 = omega arith in rw (eq-eqb w 0 e)
 left-digits (suc k) w h =
     let p : 2 ^ suc k ≡ 2 ^ k * 2 = pow-suc 2 k in
-    let i : left? (digits k (w / 2)) ≡ not (eqb (w / 2) 0) = left-digits k (w / 2) (omega arith) in
+    let i : left? (binary-digits k (w / 2)) ≡ not (eqb (w / 2) 0) = left-digits k (w / 2) (omega arith) in
     elim (decLt 0 (w % 2)) [
       | yes l ↦ rw (ne-eqb (w % 2) 0 (λ z. omega arith), ne-eqb w 0 (λ z. omega arith))
       | no n ↦ (let o : w % 2 ≡ 0 = omega arith in
@@ -80,7 +80,7 @@ pub left-held : (ws : List ℕ) → ((q : ℕ) → getD ws q 0 < 2 ^ 64) → lef
 unfolding left? held
 left-held [] h = refl
 left-held (w ∷ ws) h =
-    left-append (digits 64 w) (held ws)
+    left-append (binary-digits 64 w) (held ws)
     ∙ rw (left-digits 64 w (h 0), left-held ws (λ q. h (suc q)))
     (elim (eqb w 0) as (λ b. if (not b) true (left? ws) ≡ if b (left? ws) true) [ true ↦ refl | false ↦ refl ])
 

@@ -16,7 +16,7 @@ use Rattle.rows.proofs.Lowest.{Rest, rest-all, no-rest, lowest, lowest-
 use Rattle.rows.proofs.Sets.{kept-from, extended-is-at, bits-are-at, turn-lies}
 use Rattle.rows.proofs.Single.{short-first, down-alone, one-kept}
 use Rattle.rows.proofs.Tally.{tally-append, tally-less, tally-turn, tally-end, tally-most}
-use Rattle.rows.proofs.Walk.{Walked, Left, Next, walked-none, walked-end, walked-turn, left-none, left-end, left-turn, mark-none, mark-left}
+use Rattle.rows.proofs.MarksWalk.{Walked, Left, Next, walked-none, walked-end, walked-turn, left-none, left-end, left-turn, mark-none, mark-left}
 
 -- how far the walk over a word of marks has come
 pub record Going (i : ℕ) (ns ls ws : List ℕ) (w : ℕ) (x y : List ℕ) (rest left lost : ℕ) : Type 0 where

@@ -7,8 +7,8 @@ use lib.ListN.{length, length-replicate}
 use Rattle.rules.proofs.Over.{length-map-run}
 use Rattle.rules.specs.Template.{Part, Reading, span, deal}
 use Rattle.rules.specs.declared.Component.{Component}
-use Rattle.rows.specs.Flags.{kept-at, kept, matched, near, reached, around, added, following, last-by}
-use Rattle.rows.specs.Prefix.{before-letter}
+use Rattle.rows.specs.Flags.{kept-at, kept-flags, matched, near, reached, around, added, following, last-by}
+use Rattle.rows.specs.NextLetter.{before-letter}
 
 -- a gap that keeps the length
 abbrev pub Keeps : (ℕ → ℕ → List ℕ → List ℕ) → Type 0
@@ -22,14 +22,14 @@ pub length-added : (a b : ℕ) (ks : List ℕ) → length (added a b ks) ≡ len
 unfolding added
 length-added a b ks = length-map-run (around ks a (span a b)) 0 (length ks)
 
-pub length-kept : (f : ℕ → ℕ → Bool) (x j : ℕ) (s ks : List ℕ) → length (kept f x j s ks) ≡ length s
-unfolding kept
+pub length-kept : (f : ℕ → ℕ → Bool) (x j : ℕ) (s ks : List ℕ) → length (kept-flags f x j s ks) ≡ length s
+unfolding kept-flags
 length-kept f x j s ks = length-map-run (kept-at f x j s ks) 0 (length s)
 
 pub length-matched : (f : ℕ → ℕ → Bool) (w : List ℕ) (j : ℕ) (s ks : List ℕ) → length ks ≡ length s → length (matched f w j s ks) ≡ length s
 unfolding matched
 length-matched f [] j s ks h = h
-length-matched f (x ∷ w) j s ks h = length-matched f w (suc j) s (kept f x j s ks) (length-kept f x j s ks)
+length-matched f (x ∷ w) j s ks h = length-matched f w (suc j) s (kept-flags f x j s ks) (length-kept f x j s ks)
 
 module _ (G : ℕ → ℕ → List ℕ → List ℕ) (keeps : Keeps G) where
   pub length-following : (cs : List Part) (s ks : List ℕ) → length ks ≡ length s → length (following G cs s ks) ≡ length s

@@ -17,7 +17,7 @@ use Rattle.rows.specs.Words.{word-at}
 use Rattle.rows.proofs.Bits.{word-bit, held-run}
 use Rattle.rows.proofs.Digits.{digit}
 use Rattle.rows.proofs.Joined.{map-word}
-use Rattle.rows.proofs.Letters.{letter-in, letter-out}
+use Rattle.rows.proofs.LetterRow.{letter-in, letter-out}
 
 module _ (f : ℕ → ℕ → Bool) (x : ℕ) (s : List ℕ) where
   -- one word

@@ -14,10 +14,10 @@ use Rattle.rules.specs.Occurrence.{stands-by}
 use Rattle.rules.proofs.Over.{getD-map-run, length-map-run}
 use Rattle.rows.specs.Flags.{bit, ago, recent, near, reached, left?}
 use Rattle.rows.proofs.Gaps.{ago-in, ago-out}
-use Rattle.rows.specs.Flags.{kept-at, kept}
+use Rattle.rows.specs.Flags.{kept-at, kept-flags}
 use Rattle.rows.specs.Rows.{both-at, both, ahead-at, ahead, window, extended, letter-at, lettered, padded}
 use Rattle.rows.proofs.Joined.{left-append}
-use Rattle.rows.proofs.Letters.{zero-word, letter-out}
+use Rattle.rows.proofs.LetterRow.{zero-word, letter-out}
 
 -- the first n bits of a row are these flags
 abbrev pub Agree : ℕ → List ℕ → List ℕ → Type 0
@@ -78,31 +78,31 @@ module _ (s K ks : List ℕ) (small : (p : ℕ) → getD K p 0 ≤ 1) (room : le
       getD-map-run (ahead-at i L) 0 0 (length L) p l ∙ ap (λ (q : ℕ). getD L (q + i) 0) (zero-add p) ∙ lettered-at f x s (length K) (p + i) room in
       getD-map-run (both-at K (ahead i L)) 0 0 (length K) p h ∙ ap (both-at K (ahead i L)) (zero-add p) ∙ ap (min (getD K p 0)) e
 
-  kept-flag : (p : ℕ) → p < length s → min (getD K p 0) (letter-at f x s (p + i)) ≡ getD (kept f x i s ks) p 0
-  unfolding kept kept-at letter-at
+  kept-flag : (p : ℕ) → p < length s → min (getD K p 0) (letter-at f x s (p + i)) ≡ getD (kept-flags f x i s ks) p 0
+  unfolding kept-flags kept-at letter-at
   kept-flag p h =
       min-bit (getD K p 0) (stands-by f 0 (x ∷ []) s (suc (p + i))) (small p)
       ∙ ap (λ (k : ℕ). if (stands-by f 0 (x ∷ []) s (suc (p + i))) k 0) (same p h)
       ∙ sym (getD-map-run (kept-at f x i s ks) 0 0 (length s) p h ∙ ap (kept-at f x i s ks) (zero-add p))
 
-  length-kept : length (kept f x i s ks) ≡ length s
-  unfolding kept
+  length-kept : length (kept-flags f x i s ks) ≡ length s
+  unfolding kept-flags
   length-kept = length-map-run (kept-at f x i s ks) 0 (length s)
 
   -- the flags with one letter more
-  pub extended-flags : extended i (lettered f x s (length K)) K ≡ padded (length K) (kept f x i s ks)
+  pub extended-flags : extended i (lettered f x s (length K)) K ≡ padded (length K) (kept-flags f x i s ks)
   unfolding extended both
   extended-flags =
-      ext-getD 0 (extended i (lettered f x s (length K)) K) (padded (length K) (kept f x i s ks))
-      (length-map-run _ 0 (length K) ∙ sym (length-padded (length K) (kept f x i s ks) (rw length-kept room)))
+      ext-getD 0 (extended i (lettered f x s (length K)) K) (padded (length K) (kept-flags f x i s ks))
+      (length-map-run _ 0 (length K) ∙ sym (length-padded (length K) (kept-flags f x i s ks) (rw length-kept room)))
       (λ p l. one p (rw (length-map-run (both-at K (ahead i (lettered f x s (length K)))) 0 (length K)) at l))
     where
-      one : (p : ℕ) → p < length K → getD (extended i (lettered f x s (length K)) K) p 0 ≡ getD (padded (length K) (kept f x i s ks)) p 0
+      one : (p : ℕ) → p < length K → getD (extended i (lettered f x s (length K)) K) p 0 ≡ getD (padded (length K) (kept-flags f x i s ks)) p 0
       one p l =
           at p l ∙ elim (decLt p (length s)) [
-            | yes h ↦ (kept-flag p h ∙ sym (padded-in (length K) (kept f x i s ks) p (rw length-kept h)))
+            | yes h ↦ (kept-flag p h ∙ sym (padded-in (length K) (kept-flags f x i s ks) p (rw length-kept h)))
             | no n ↦ (ap (min (getD K p 0)) (letter-out f x s (p + i) (omega arith)) ∙ min-zero (getD K p 0)
-                ∙ sym (padded-out (length K) (kept f x i s ks) p (rw length-kept (omega arith))))
+                ∙ sym (padded-out (length K) (kept-flags f x i s ks) p (rw length-kept (omega arith))))
           ]
 
 -- A GAP

@@ -13,7 +13,7 @@ use lib.ListN.{length, getD}
 use Rattle.rows.specs.Set.{Row-MARKS, marked?, Bounded, Firsts}
 use Rattle.rows.proofs.Digits.{digit}
 use Rattle.rows.proofs.Bits.{digit-none}
-use Rattle.rows.proofs.Walk.{Next, mark-digit, clash}
+use Rattle.rows.proofs.MarksWalk.{Next, mark-digit, clash}
 use Rattle.rows.proofs.Zeros.{zeros-below, zeros-at, zeros-least, cleared-to, cleared-past, cleared-less}
 
 -- what is left of a word once its first e digits are gone

@@ -16,14 +16,14 @@ use Rattle.rules.specs.Lists.{if, sign, run}
 use Rattle.rules.specs.Occurrence.{stands-by}
 use Rattle.rules.specs.Template.{Reading, none, deal}
 use Rattle.rules.specs.declared.Component.{Component}
-use Rattle.rows.specs.Flags.{kept, matched, reached, added, last-by, last-starts, last-ways, masked-at, masked}
-use Rattle.rows.specs.Prefix.{letters-before, At, before-letter}
+use Rattle.rows.specs.Flags.{kept-flags, matched, reached, added, last-by, last-starts, last-ways, masked-at, masked}
+use Rattle.rows.specs.NextLetter.{letters-before, At, before-letter}
 use Rattle.rows.proofs.Grow.{Lettered, matched-more, grow}
 use Rattle.rows.proofs.Last.{length-added, length-last, length-before-letter}
 use Rattle.rows.proofs.Masks.{length-masked, getD-masked, masked-off, masked-on, masked-inner}
 use Rattle.rows.proofs.Signs.{sign-some, sign-none, sign-at, starts-sign}
 use Rattle.rows.proofs.Sums.{list-is}
-use Rattle.rows.proofs.Ways.{matched-is}
+use Rattle.rows.proofs.CountsAddUp.{matched-is}
 
 -- ---- the letters of one component
 
@@ -43,8 +43,8 @@ module _ (G : ℕ → ℕ → List ℕ → List ℕ) (R : Reading) (cs : List Co
       let at : At cs (length (u ++ (y ∷ v))) k (suc (length v)) = record { there = there; inside = h; counted = length-append u (y ∷ v) ∙ rw full } in
       ap (λ (w : List ℕ). last-by G (deal R 0 cs w) s) (sym (append-assoc u (y ∷ v) (x ∷ [])))
       ∙ grow G R x s cs f (u ++ (y ∷ v)) k (suc (length v)) at
-      ∙ ap (kept (R .fits) x (suc (length v)) s) e
-      ∙ ap (λ (i : ℕ). kept (R .fits) x i s (matched (R .fits) (y ∷ v) 0 s (before-letter G R cs k 0 u s))) (sym (zero-add (suc (length v))))
+      ∙ ap (kept-flags (R .fits) x (suc (length v)) s) e
+      ∙ ap (λ (i : ℕ). kept-flags (R .fits) x i s (matched (R .fits) (y ∷ v) 0 s (before-letter G R cs k 0 u s))) (sym (zero-add (suc (length v))))
       ∙ sym (matched-more (R .fits) (y ∷ v) x 0 s (before-letter G R cs k 0 u s))
 
   letters-more : (w v : List ℕ) → 1 ≤ length v → length v + length w ≤ (getD cs k none) .length → Kept v → Kept (v ++ w)

@@ -15,7 +15,7 @@ use Rattle.rules.specs.Sound.{SoundTemplate}
 use Rattle.rules.specs.Template.{Part, Reading, none, span, slots, components, deal}
 use Rattle.rules.specs.declared.Component.{Component}
 use Rattle.rules.specs.declared.Template.{Template}
-use Rattle.rows.specs.Flags.{kept-at, kept, matched, ago, recent, around, added, following, last-by, last-ways}
+use Rattle.rows.specs.Flags.{kept-at, kept-flags, matched, ago, recent, around, added, following, last-by, last-ways}
 
 -- ---- each number of a row is at most b
 
@@ -38,10 +38,10 @@ most-ones (suc n) zero = omega arith
 most-ones (suc n) (suc o) = most-ones n o
 
 most-matched : (b : ℕ) (f : ℕ → ℕ → Bool) (w : List ℕ) (j : ℕ) (s ks : List ℕ) → Most b ks → Most b (matched f w j s ks)
-unfolding matched kept kept-at
+unfolding matched kept-flags kept-at
 most-matched b f [] j s ks h = h
 most-matched b f (x ∷ w) j s ks h =
-    most-matched b f w (suc j) s (kept f x j s ks) (most-map b (kept-at f x j s ks) (λ o. most-if b (stands-by f 0 (x ∷ []) s (suc (o + j))) (getD ks o 0) (h o)) 0 (length s))
+    most-matched b f w (suc j) s (kept-flags f x j s ks) (most-map b (kept-at f x j s ks) (λ o. most-if b (stands-by f 0 (x ∷ []) s (suc (o + j))) (getD ks o 0) (h o)) 0 (length s))
 
 -- a gap adds n of them
 most-recent : (b : ℕ) (ks : List ℕ) → Most b ks → (o d n : ℕ) → recent ks o d n ≤ n * b

@@ -10,7 +10,7 @@ use borrow.Rule.Slice.PartMut.{midOf, postOf, putMid, mid-len}
 use Rattle.rows.specs.Bits.{held}
 use Rattle.rows.specs.Flags.{masked-at, masked}
 use Rattle.rows.proofs.Bits.{held-at, getD-held}
-use Rattle.rows.proofs.Letters.{zero-bit}
+use Rattle.rows.proofs.LetterRow.{zero-bit}
 use Rattle.rows.proofs.Masks.{length-masked, getD-masked, masked-off, masked-at-same, masked-same}
 
 -- an empty word

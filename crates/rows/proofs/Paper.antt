@@ -23,7 +23,7 @@ use Rattle.rows.specs.Flags.{matched, added, following, last-by, last-st
 use Rattle.rows.proofs.Last.{length-matched, length-added}
 use Rattle.rows.proofs.Signs.{sign-some, sign-none, sign-at, starts-sign}
 use Rattle.rows.proofs.Sums.{sum-agree, sum-none, exchanged}
-use Rattle.rows.proofs.Ways.{Tight, stands-past, added-is, found-is, times-if}
+use Rattle.rows.proofs.CountsAddUp.{Tight, stands-past, added-is, found-is, times-if}
 
 -- the last start of an occurrence
 abbrev last-start : List ℕ → ℕ

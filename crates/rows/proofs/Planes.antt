@@ -25,7 +25,7 @@ use Rattle.rows.proofs.Bits.{digit-none, word-bit}
 use Rattle.rows.proofs.Digits.{digit, digit-and, digit-or, digit-xor, digit-shr, digit-mod, digit-past, digit-shl-in, digit-shl-out}
 use Rattle.rows.proofs.Gathered.{read-digit}
 use Rattle.rows.proofs.Lettered.{lettered-word}
-use Rattle.rows.proofs.Letters.{letter-in, letter-out}
+use Rattle.rows.proofs.LetterRow.{letter-in, letter-out}
 use Rattle.rows.proofs.Masks.{and-one}
 
 -- A PLANE: the digits of a word are digit i of each letter from p on

@@ -17,10 +17,10 @@ use Rattle.rows.specs.Set.{Row-MARKS, words-of, first-word, between, bit
 use Rattle.rows.proofs.Bits.{held-at, word-bit, digit-none}
 use Rattle.rows.proofs.Digits.{digit, digit-xor}
 use Rattle.rows.proofs.Marks.{filled-word, marked-word, marked-none, marked-end}
-use Rattle.rows.proofs.Rewritten.{drop-more}
+use Rattle.rows.proofs.RowsRewritten.{drop-more}
 use Rattle.rows.proofs.Sets.{first-past, filled-none, filled-end}
 use Rattle.rows.proofs.Tally.{tally-zero, tally-append, tally-less, tally-same, tally-end, tally-split, word-tally, marks-tally}
-use Rattle.rows.proofs.Walk.{mark-digit, mark-none}
+use Rattle.rows.proofs.MarksWalk.{mark-digit, mark-none}
 
 -- A MARK THAT IS LOST: there was one, and no more
 lost-bit : (m e : Bool) → (m ≡ false → e ≡ false) → bit e + bit (if m (not e) false) ≡ bit m

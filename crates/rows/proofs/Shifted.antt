@@ -12,24 +12,24 @@ use Rattle.rules.proofs.Over.{getD-map-run, length-map-run, over-put, over-all}
 use Rattle.rows.specs.Bits.{held}
 use Rattle.rows.specs.Rows.{ahead-at, ahead}
 use Rattle.rows.specs.Set.{first-word, between, shifted-at, lettered-at, lettered-on, Filled}
-use Rattle.rows.specs.Words.{down, ahead-word}
+use Rattle.rows.specs.Words.{shifted-down, ahead-word}
 use Rattle.rows.proofs.Bits.{ahead-row}
 use Rattle.rows.proofs.Sets.{bits-are-at}
-use Rattle.rows.proofs.Turns.{nothing}
+use Rattle.rows.proofs.WordByWord.{nothing}
 
 -- THE WORDS OF ONE SEQUENCE
 module _ (i : ℕ) (ws : List ℕ) where
-  pub ahead-is : (q : ℕ) {r : ℕ} → r ≡ down i (getD ws q 0) (getD ws (q + 1) 0) → r ≡ ahead-word i ws q
+  pub ahead-is : (q : ℕ) {r : ℕ} → r ≡ shifted-down i (getD ws q 0) (getD ws (q + 1) 0) → r ≡ ahead-word i ws q
   unfolding ahead-word
   ahead-is q e = e
 
   -- no word comes after the last
-  pub ahead-last : (q : ℕ) {r : ℕ} → length ws ≤ q + 1 → r ≡ down i (getD ws q 0) 0 → r ≡ ahead-word i ws q
-  ahead-last q h e = ahead-is q (e ∙ ap (down i (getD ws q 0)) (sym (List·getD-eq-default ws 0 h)))
+  pub ahead-last : (q : ℕ) {r : ℕ} → length ws ≤ q + 1 → r ≡ shifted-down i (getD ws q 0) 0 → r ≡ ahead-word i ws q
+  ahead-last q h e = ahead-is q (e ∙ ap (shifted-down i (getD ws q 0)) (sym (List·getD-eq-default ws 0 h)))
 
   module _ (small : i < 64) (fits : (q : ℕ) → getD ws q 0 < 2 ^ 64) (l : List ℕ) (long : length l ≡ length ws) where
     -- the whole: all words but the last, and the last
-    pub ahead-whole : (n : ℕ) {x : List ℕ} {r : ℕ} → n + 1 ≡ length ws → x ≡ over (ahead-word i ws) n l → r ≡ down i (getD ws n 0) 0
+    pub ahead-whole : (n : ℕ) {x : List ℕ} {r : ℕ} → n + 1 ≡ length ws → x ≡ over (ahead-word i ws) n l → r ≡ shifted-down i (getD ws n 0) 0
         → held (set x n r) ≡ ahead i (held ws)
     ahead-whole n {x} {r} h o z =
         let all : set x n r ≡ map (ahead-word i ws) (run 0 (length ws)) =

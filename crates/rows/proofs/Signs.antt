@@ -14,8 +14,8 @@ use Rattle.rules.specs.Lists.{if, sign, run, sum}
 use Rattle.rules.specs.Occurrence.{stands-by}
 use Rattle.rules.specs.Template.{Part, Reading, span, deal}
 use Rattle.rules.specs.declared.Component.{Component}
-use Rattle.rows.specs.Flags.{kept-at, kept, matched, ago, recent, near, reached, around, added, following, last-by, last-starts, last-ways}
-use Rattle.rows.specs.Prefix.{before-letter}
+use Rattle.rows.specs.Flags.{kept-at, kept-flags, matched, ago, recent, near, reached, around, added, following, last-by, last-starts, last-ways}
+use Rattle.rows.specs.NextLetter.{before-letter}
 
 -- ---- one number
 
@@ -58,8 +58,8 @@ sign-at [] o = sym sign-none
 sign-at (k ∷ ks) zero = refl
 sign-at (k ∷ ks) (suc o) = sign-at ks o
 
-sign-kept : (f : ℕ → ℕ → Bool) (x j : ℕ) (s ks : List ℕ) → kept f x j s (map sign ks) ≡ map sign (kept f x j s ks)
-unfolding kept kept-at
+sign-kept : (f : ℕ → ℕ → Bool) (x j : ℕ) (s ks : List ℕ) → kept-flags f x j s (map sign ks) ≡ map sign (kept-flags f x j s ks)
+unfolding kept-flags kept-at
 sign-kept f x j s ks =
     map-agree _ _ 0 (length s)
     (λ o _ _. ap (λ (k : ℕ). if (stands-by f 0 (x ∷ []) s (suc (o + j))) k 0) (sign-at ks o) ∙ sign-if (stands-by f 0 (x ∷ []) s (suc (o + j))) (getD ks o 0))
@@ -68,7 +68,7 @@ sign-kept f x j s ks =
 sign-matched : (f : ℕ → ℕ → Bool) (w : List ℕ) (j : ℕ) (s ks : List ℕ) → matched f w j s (map sign ks) ≡ map sign (matched f w j s ks)
 unfolding matched
 sign-matched f [] j s ks = refl
-sign-matched f (x ∷ w) j s ks = ap (matched f w (suc j) s) (sign-kept f x j s ks) ∙ sign-matched f w (suc j) s (kept f x j s ks)
+sign-matched f (x ∷ w) j s ks = ap (matched f w (suc j) s) (sign-kept f x j s ks) ∙ sign-matched f w (suc j) s (kept-flags f x j s ks)
 
 sign-ago : (ks : List ℕ) (o d : ℕ) → ago (map sign ks) o d ≡ sign (ago ks o d)
 unfolding ago

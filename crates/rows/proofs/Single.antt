@@ -14,7 +14,7 @@ use Rattle.rows.specs.Bits.{held}
 use Rattle.rows.specs.Flags.{left?}
 use Rattle.rows.specs.Rows.{extended}
 use Rattle.rows.specs.Set.{Row-MARKS, words-of, first-word, between}
-use Rattle.rows.specs.Words.{down, extended-word}
+use Rattle.rows.specs.Words.{shifted-down, extended-word}
 use Rattle.rows.proofs.Bits.{extended-row}
 use Rattle.rows.proofs.Joined.{left-held}
 use Rattle.rows.proofs.Sets.{first-none, first-next}
@@ -27,8 +27,8 @@ short-first ns s (suc k) h =
     rw z (omega (arith, short-first ns s k (omega arith), first-next ns k (omega arith), s k (omega arith)))
 
 -- nothing comes in
-pub down-alone : (i low : ℕ) → low / 2 ^ i ≡ down i low 0
-unfolding down
+pub down-alone : (i low : ℕ) → low / 2 ^ i ≡ shifted-down i low 0
+unfolding shifted-down
 down-alone i low = rw (zero-mul, zero-mod, or-zero-r)
 
 pub one-word : (a e : ℕ) (l : List ℕ) → e - a ≡ 1 → a < length l → between a e l ≡ getD l a 0 ∷ []
@@ -39,7 +39,7 @@ one-fits : (w : ℕ) → w < 2 ^ 64 → (q : ℕ) → getD (w ∷ []) q 0 < 2 ^ 
 one-fits w h zero = h
 one-fits w h (suc q) = omega arith
 
-kept-word : (i x w : ℕ) → i < 64 → x < 2 ^ 64 → held (bitAnd w (down i x 0) ∷ []) ≡ extended i (held (x ∷ [])) (held (w ∷ []))
+kept-word : (i x w : ℕ) → i < 64 → x < 2 ^ 64 → held (bitAnd w (shifted-down i x 0) ∷ []) ≡ extended i (held (x ∷ [])) (held (w ∷ []))
 unfolding extended-word run
 kept-word i x w s h = extended-row i s (x ∷ []) (one-fits x h) (w ∷ []) refl
 
@@ -50,7 +50,7 @@ left-word w h = sym (left-held (w ∷ []) (one-fits w h) ∙ elim (eqb w 0) as (
 -- one letter more, as the code writes it
 module _ (a e i : ℕ) (ls ws out : List ℕ) (n : e - a ≡ 1) (s : i < 64) (hl : e ≤ length ls) (hw : e ≤ length ws) (ho : e ≤ length out)
     (fl : getD ls a 0 < 2 ^ 64) (fw : getD ws a 0 < 2 ^ 64) where
-  pub one-kept : {d : ℕ} {r : Bool} → d ≡ down i (getD ls a 0) 0 → r ≡ not (eqb (bitAnd (getD ws a 0) d) 0)
+  pub one-kept : {d : ℕ} {r : Bool} → d ≡ shifted-down i (getD ls a 0) 0 → r ≡ not (eqb (bitAnd (getD ws a 0) d) 0)
       → ((take a (set out a (bitAnd (getD ws a 0) d)) ≡ take a out) × (length (set out a (bitAnd (getD ws a 0) d)) ≡ length out))
       × ((held (between a e (set out a (bitAnd (getD ws a 0) d))) ≡ extended i (held (between a e ls)) (held (between a e ws)))
       × (r ≡ left? (extended i (held (between a e ls)) (held (between a e ws)))))

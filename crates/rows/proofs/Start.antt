@@ -17,7 +17,7 @@ use Rattle.rows.specs.Set.{Row-MARKS, marked?, Marked}
 use Rattle.rows.proofs.Bits.{held-at, digit-none}
 use Rattle.rows.proofs.Digits.{digit}
 use Rattle.rows.proofs.Held.{length-held, held-mark}
-use Rattle.rows.proofs.Letters.{zero-word}
+use Rattle.rows.proofs.LetterRow.{zero-word}
 
 -- the marks of the first n sequences, in a row that was x
 pub record Begun (n : ℕ) (x y : List ℕ) : Type 0 where

@@ -6,11 +6,11 @@ abbrev pub Word-BITS : ℕ
 Word-BITS = 64
 
 -- the k lowest binary digits of a number, the lowest first
-unfoldable pub digits : ℕ → ℕ → List ℕ
-digits zero w = []
-digits (suc k) w = w % 2 ∷ digits k (w / 2)
+unfoldable pub binary-digits : ℕ → ℕ → List ℕ
+binary-digits zero w = []
+binary-digits (suc k) w = w % 2 ∷ binary-digits k (w / 2)
 
 -- the bits that some words hold
 unfoldable pub held : List ℕ → List ℕ
 held [] = []
-held (w ∷ ws) = digits Word-BITS w ++ held ws
+held (w ∷ ws) = binary-digits Word-BITS w ++ held ws

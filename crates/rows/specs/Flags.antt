@@ -17,13 +17,13 @@ bit b = if b 1 0
 unfoldable pub kept-at : (ℕ → ℕ → Bool) → ℕ → ℕ → List ℕ → List ℕ → ℕ → ℕ
 kept-at f x j s ks o = if (stands-by f 0 (x ∷ []) s (suc (o + j))) (getD ks o 0) 0
 
-unfoldable pub kept : (ℕ → ℕ → Bool) → ℕ → ℕ → List ℕ → List ℕ → List ℕ
-kept f x j s ks = map (kept-at f x j s ks) (run 0 (length s))
+unfoldable pub kept-flags : (ℕ → ℕ → Bool) → ℕ → ℕ → List ℕ → List ℕ → List ℕ
+kept-flags f x j s ks = map (kept-at f x j s ks) (run 0 (length s))
 
 -- the letters w, the first of them j places on
 unfoldable pub matched : (ℕ → ℕ → Bool) → List ℕ → ℕ → List ℕ → List ℕ → List ℕ
 matched f [] j s ks = ks
-matched f (x ∷ w) j s ks = matched f w (suc j) s (kept f x j s ks)
+matched f (x ∷ w) j s ks = matched f w (suc j) s (kept-flags f x j s ks)
 
 -- No count is more than this. At most 256 ways for each of five gaps are 2 ^ 40; and where a gap is opened, a sum of 257 counts, each as
 -- large as this, still fits 64 bits

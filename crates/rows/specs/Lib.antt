@@ -1,6 +1,6 @@
 -- What the contracts of this crate say, beside the definitions of `rules`.
 pub mod Flags
-pub mod Prefix
+pub mod NextLetter
 pub mod Bits
 pub mod Words
 pub mod Rows

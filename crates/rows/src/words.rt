@@ -19,7 +19,7 @@ ghost use Rattle.rows.specs.Bases.{word-of};
 // The 64 bits from bit `i` of two words on.
 pub fn down(i: usize, low: u64, high: u64) -> u64
     requires { ⌜ i < 64 ⌝ }
-    ensures { λ r. ⌜ r ≡ words.down i low high ⌝ }
+    ensures { λ r. ⌜ r ≡ words.shifted-down i low high ⌝ }
 {
     (low >> i) | ((high << 1) << (63 - i))
 }
@@ -27,7 +27,7 @@ pub fn down(i: usize, low: u64, high: u64) -> u64
 // The same where `i` is not 0: one shift for each word.
 fn down_some(i: usize, low: u64, high: u64) -> u64
     requires { ⌜ (1 ≤ i) × (i < 64) ⌝ }
-    ensures { λ r. ⌜ r ≡ words.down i low high ⌝ }
+    ensures { λ r. ⌜ r ≡ words.shifted-down i low high ⌝ }
 {
     (low >> i) | (high << (64 - i))
 }
@@ -35,7 +35,7 @@ fn down_some(i: usize, low: u64, high: u64) -> u64
 // The upper of two words, shifted up by `i` bits, with those that come in from the lower.
 pub fn up(i: usize, low: u64, high: u64) -> u64
     requires { ⌜ i < 64 ⌝ }
-    ensures { λ r. ⌜ r ≡ words.up i low high ⌝ }
+    ensures { λ r. ⌜ r ≡ words.shifted-up i low high ⌝ }
 {
     (high << i) | ((low >> 1) >> (63 - i))
 }

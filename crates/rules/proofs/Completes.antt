@@ -7,7 +7,7 @@ use native.Mathlib.Omega.{arith}
 use lib.ListN.{length, take, length-map}
 use Rattle.rules.specs.Calls.{begun, motif-parts, supports-of, weights-of, begin-rule, LegRule, leg-rule}
 use Rattle.rules.specs.Legs.{Stop, ended, Stretch, leg, legs, AmpleGrants}
-use Rattle.rules.specs.Relay.{frequent-motifs, their-supports, their-weights, whole-steps, Complete, Lent, Roomy, Ample, Relayed, alone, after, relay}
+use Rattle.rules.specs.Relay.{frequent-motifs, their-supports, their-weights, whole-steps, Complete, Lent, Roomy, Ample, Relayed, alone, then-more, relay}
 use Rattle.rules.specs.Sequences.{sequences}
 use Rattle.rules.specs.Support.{support, weight, parts}
 use Rattle.rules.specs.Template.{Part, size}
@@ -31,7 +31,7 @@ ample-granted [] a = tt
 ample-granted (g ∷ gs) a = (a .0, omega arith, ample-granted gs (a .4))
 
 -- after a leg that ended nothing comes
-ended-alone : (a : Told Stop) (k m : Relayed) → a ≡ gives ended → after a k m ≡ k
+ended-alone : (a : Told Stop) (k m : Relayed) → a ≡ gives ended → then-more a k m ≡ k
 ended-alone a k m e = rw e
 
 module _ (letters lengths : List ℕ) (t : Template) (quorum : ℕ) (s : Search) (e : begin-rule letters lengths t quorum ≡ gives s) where

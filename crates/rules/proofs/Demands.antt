@@ -28,7 +28,7 @@ use Rattle.rules.proofs.Sentence.{follows-gap}
 use Rattle.rules.proofs.OccurrenceOrder.{rows-in-order}
 use Rattle.rules.proofs.Occurs.{parts-worded, parts-some, rows-are}
 use Rattle.rules.proofs.Prefix.{size-some}
-use Rattle.rules.proofs.Reading.{handed-stays, none-stays, read-whole, read-none, reads}
+use Rattle.rules.proofs.FastaReading.{handed-stays, none-stays, read-whole, read-none, reads}
 use Rattle.rules.proofs.Refused.{each-refusal}
 use Rattle.rules.proofs.Relayed.{leg-between}
 use Rattle.rules.proofs.Searches.{walk-lawful, list-rises, list-holds, list-spells}
@@ -37,7 +37,7 @@ use Rattle.rules.proofs.Stays.{save-stays, recover-stays, join-stays, l
 use Rattle.rules.proofs.TextRefused.{text-refused}
 use Rattle.rules.proofs.Tried.{passes-candidates, passes-once, passes-counted}
 use Rattle.rules.proofs.Ways.{weight-count, support-counts, support-sequences}
-use Rattle.rules.proofs.Weights.{their-lengths, leg-weights}
+use Rattle.rules.proofs.WeightIsLength.{their-lengths, leg-weights}
 
 pub demand1 : Demand1
 unfolding begin-rule restore-rule leg-rule save-rule recover-rule join-rule reader-rule

@@ -11,7 +11,7 @@ use lib.Dec.{eqb, ltb}
 use lib.ListN.{length, take, drop, getD, take-append-drop}
 use lib.Seq.{take-append-le, drop-append-le, drop-drop}
 use borrow.Author.Tests.{eqb-true, leb-true, le-leb, ltb-true, ltb-false}
-use Rattle.rules.specs.Fasta.{Line, lines-of, text?, lines-from, header?, Entry, blank?, up-to-blank, name-of, name-start, name-end, texts, records-from, text-first?, no-room?, check-line, check-lines}
+use Rattle.rules.specs.Fasta.{Line, lines-of, text?, lines-from, header?, Entry, space-or-tab?, up-to-blank, name-of, name-start, name-end, texts, records-from, text-first?, no-room?, check-line, check-lines}
 use Rattle.rules.specs.FastaRefused.{TextBefore, NoRoom, FirstNoLetter}
 use Rattle.rules.specs.Letters.{letter?}
 use Rattle.rules.specs.Limits.{Fasta-LENGTH}
@@ -37,7 +37,7 @@ use Rattle.rules.proofs.Verdicts.{never}
 up-to-blank-front : (text : List ℕ) → (length (up-to-blank text) ≤ length text) × (up-to-blank text ≡ take (length (up-to-blank text)) text)
 unfolding up-to-blank
 up-to-blank-front [] = (omega arith, refl)
-up-to-blank-front (b ∷ bs) = go (blank? b) (up-to-blank-front bs)
+up-to-blank-front (b ∷ bs) = go (space-or-tab? b) (up-to-blank-front bs)
   where
     go : (t : Bool) → (length (up-to-blank bs) ≤ length bs) × (up-to-blank bs ≡ take (length (up-to-blank bs)) bs)
         → let u = if t [] (b ∷ up-to-blank bs) in (length u ≤ suc (length bs)) × (u ≡ take (length u) (b ∷ bs))

@@ -7,7 +7,7 @@ use mathlib.Core.List.{List, [], _∷_, _++_}
 use Prim.Native.Nat.{ℕ, _+_, _-_, _≤_}
 use native.Mathlib.Omega.{arith}
 use lib.ListN.{length, drop, length-append, length-take, length-drop}
-use Rattle.rules.specs.Fasta.{Line, lines-from, header?, up-to-header, entries, texts, letters-of, records}
+use Rattle.rules.specs.Fasta.{Line, lines-from, header?, up-to-header, entries, texts, letters-of, file-records}
 use Rattle.rules.specs.Lists.{if, each}
 use Rattle.rules.proofs.FastaBytes.{mark-some}
 use Rattle.rules.proofs.FastaLaid.{InFile, Laid, laid}
@@ -36,6 +36,6 @@ counted (l ∷ ls) = go (header? l) (mark-some l) (counted ls)
     go true s ih = omega (arith, s refl, length-append (l .text) (each (λ l. l .text) ls), length-append (texts (up-to-header ls)) (each letters-of (entries ls)))
     go false s ih = omega (arith, length-append (l .text) (each (λ l. l .text) ls), length-append (l .text) (texts (up-to-header ls)))
 
-pub records-fit : (file : List ℕ) → length (each letters-of (records file)) + length (records file) ≤ length file
-unfolding records
+pub records-fit : (file : List ℕ) → length (each letters-of (file-records file)) + length (file-records file) ≤ length file
+unfolding file-records
 records-fit file = omega (arith, counted (lines-from file 0), texts-fit file 0 (lines-from file 0) (laid file 0))

@@ -10,8 +10,8 @@ use native.Mathlib.Omega.{arith}
 use lib.Dec.{ltb}
 use lib.ListN.{length}
 use borrow.Author.Tests.{ltb-false, le-ltb}
-use Rattle.rules.specs.Fasta.{Line, lines-from, header?, Entry, up-to-header, entries, letters-of, records, check19, check-line, check-lines, check4-file, lines-checks, lines-for, lines-rule}
-use Rattle.rules.specs.FastaRefused.{FirstNoLetter, letter-lines, LinesRefuses, too-long, text-first, bad-letter, input-of, FastaProgram}
+use Rattle.rules.specs.Fasta.{Line, lines-from, header?, Entry, up-to-header, entries, letters-of, file-records, check19, check-line, check-lines, check4-file, lines-checks, lines-for, lines-rule}
+use Rattle.rules.specs.FastaRefused.{FirstNoLetter, letter-lines, LinesRefuses, file-too-long, text-first, bad-letter, input-of, FastaProgram}
 use Rattle.rules.specs.Limits.{Fasta-BYTES, Text-BYTES, Text-QUORUM-DIGITS}
 use Rattle.rules.specs.Lists.{if, each}
 use Rattle.rules.specs.Refusals.{_else_, first, refuse-if}
@@ -58,9 +58,9 @@ module _ (file : List ℕ) where
   laid-behind o [] ls d = d
   laid-behind o (k ∷ ks) ls d = laid-from file o (k .at + length (k .text)) ls (omega (arith, d .0)) (laid-behind (k .at + length (k .text)) ks ls (d .2))
 
-  says-4 : RefusesAt (first (map check4-file (records file))) 4 (FirstNoLetter file (letter-lines file))
-  unfolding records
-  says-4 = rw (all-lines (records file)) (lines-say file 0 (letter-lines file) (laid-behind 0 (up-to-header (lines-from file 0)) (letter-lines file) (laid-letters 0 (lines-from file 0) (laid file 0))))
+  says-4 : RefusesAt (first (map check4-file (file-records file))) 4 (FirstNoLetter file (letter-lines file))
+  unfolding file-records
+  says-4 = rw (all-lines (file-records file)) (lines-say file 0 (letter-lines file) (laid-behind 0 (up-to-header (lines-from file 0)) (letter-lines file) (laid-letters 0 (lines-from file 0) (laid file 0))))
 
   -- ---- the order
 
@@ -71,14 +71,14 @@ module _ (file : List ℕ) where
   unfolding lines-checks first _else_
   order-says n p f = go (ltb Fasta-BYTES (length file)) refl (check19 (lines-from file 0)) refl f
     where
-      go : (b : Bool) → ltb Fasta-BYTES (length file) ≡ b → (v : Verdict) → check19 (lines-from file 0) ≡ v → refuse-if b 20 else v else first (map check4-file (records file)) ≡ refused n p → LinesRefuses file n p
-      go true e v c f = let r = says-20 n p .0 (rw e f) in too-long (r .0) (r .1 .0) (r .1 .1)
+      go : (b : Bool) → ltb Fasta-BYTES (length file) ≡ b → (v : Verdict) → check19 (lines-from file 0) ≡ v → refuse-if b 20 else v else first (map check4-file (file-records file)) ≡ refused n p → LinesRefuses file n p
+      go true e v c f = let r = says-20 n p .0 (rw e f) in file-too-long (r .0) (r .1 .0) (r .1 .1)
       go false e (refused m q) c f = let r = says-19 file 0 n p .0 (c ∙ f) in text-first (r .0) (r .1 .0) (ltb-false _ _ e) (r .1 .1)
       go false e fine c f = let r = says-4 n p .0 f in bad-letter (r .0) (ltb-false _ _ e) (λ h. no-reason _ 19 0 _ (says-19 file 0) c (refl, h)) (r .1)
 
   says-order : (n p : ℕ) → LinesRefuses file n p → first (lines-checks file) ≡ refused n p
   unfolding lines-checks first _else_
-  says-order n p (too-long a b h) = rw (says-20 n p .1 (a, (b, h)))
+  says-order n p (file-too-long a b h) = rw (says-20 n p .1 (a, (b, h)))
   says-order n p (text-first a b l h) = rw (le-ltb Fasta-BYTES (length file) l, says-19 file 0 n p .1 (a, (b, h)))
   says-order n p (bad-letter a l free h) = rw (le-ltb Fasta-BYTES (length file) l, not-refused _ 19 _ (says-19 file 0) (λ p h. free (h .1)), says-4 n p .1 (a, h))
 
@@ -91,9 +91,9 @@ module _ (file : List ℕ) where
       go fine e = refl
       go (refused n p) e = absurd (h n p (order-says n p e))
 
-  lines-printed : first (lines-checks file) ≡ fine → lines-rule file ≡ each with-end (map letters-of (records file))
+  lines-printed : first (lines-checks file) ≡ fine → lines-rule file ≡ each with-end (map letters-of (file-records file))
   unfolding lines-rule lines-for
-  lines-printed e = rw e (sym (each-map with-end letters-of (records file)))
+  lines-printed e = rw e (sym (each-map with-end letters-of (file-records file)))
 
 -- no 10 is among letters
 no-end : IsLetter 10 → ⊥
@@ -110,12 +110,12 @@ letters-without (e ∷ es) f =
 
 -- the printing program's input
 module _ (file : List ℕ) (f : first (lines-checks file) ≡ fine) where
-  letters-fine : first (map check4-file (records file)) ≡ fine
+  letters-fine : first (map check4-file (file-records file)) ≡ fine
   unfolding lines-checks
   letters-fine = first-cons _ _ .0 (first-cons _ _ .0 f .1) .1
 
   reads-records : (cs : List Component) (quorum : ℕ) → Writable cs → quorum < 10 ^ Text-QUORUM-DIGITS → length (input-of cs quorum (lines-rule file)) ≤ Text-BYTES
-      → Reads (input-of cs quorum (lines-rule file)) cs quorum (map letters-of (records file))
+      → Reads (input-of cs quorum (lines-rule file)) cs quorum (map letters-of (file-records file))
   unfolding each
   reads-records cs quorum w q short =
       record {
@@ -123,7 +123,7 @@ module _ (file : List ℕ) (f : first (lines-checks file) ≡ fine) where
         whole = ap (λ l. with-end (template-text cs) ++ (with-end (decimal quorum) ++ l)) (lines-printed file f);
         writable = w;
         few-digits = q;
-        no-end-within = letters-without (records file) letters-fine;
+        no-end-within = letters-without (file-records file) letters-fine;
       }
 
 pub fasta-program : FastaProgram
@@ -133,5 +133,5 @@ fasta-program =
       in-order = λ file n p. (order-says file n p, says-order file n p);
       refused = λ file n p h. rw (says-order file n p h);
       printed = λ file h. lines-printed file (none-refused file h);
-      searched = λ file cs quorum h w q short. text-refused .searched _ cs quorum (map letters-of (records file)) (reads-records file (none-refused file h) cs quorum w q short);
+      searched = λ file cs quorum h w q short. text-refused .searched _ cs quorum (map letters-of (file-records file)) (reads-records file (none-refused file h) cs quorum w q short);
     }

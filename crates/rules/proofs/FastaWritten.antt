@@ -10,7 +10,7 @@ use native.Mathlib.Omega.{arith}
 use lib.Dec.{eqb}
 use lib.ListN.{length, getD, replicate}
 use borrow.Author.Tests.{eq-eqb, ne-eqb, eqb-true, eqb-false}
-use Rattle.rules.specs.Fasta.{Line, line, lines-of, text?, lines-from, header?, up-to-header, entries, blank?, up-to-blank, name-of, texts, letters-of, records, text-first?}
+use Rattle.rules.specs.Fasta.{Line, line, lines-of, text?, lines-from, header?, up-to-header, entries, space-or-tab?, up-to-blank, name-of, texts, letters-of, file-records, text-first?}
 use Rattle.rules.specs.FastaWritten.{WrittenRecord, record-texts, ProperRecord, InWrittenRecords, FastaWritten}
 use Rattle.rules.specs.Lists.{if, each, joined, keep, some?}
 use Rattle.rules.specs.Text.{pieces}
@@ -55,7 +55,7 @@ NoBlank name = (b : ℕ) → List·Memᴰ b name → (b ≡ 32) ⊎ (b ≡ 9) �
 abbrev BlankFirst : List ℕ → Type 0
 BlankFirst rest = (rest ≡ []) ⊎ (getD rest 0 0 ≡ 32) ⊎ (getD rest 0 0 ≡ 9)
 
-blank-says : (b : ℕ) → (blank? b ≡ true) ↔ ((b ≡ 32) ⊎ (b ≡ 9))
+blank-says : (b : ℕ) → (space-or-tab? b ≡ true) ↔ ((b ≡ 32) ⊎ (b ≡ 9))
 blank-says b = either _ _ (same b 32) (same b 9)
 
 name-back : (name rest : List ℕ) → NoBlank name → BlankFirst rest → up-to-blank (name ++ rest) ≡ name
@@ -117,8 +117,8 @@ empties-skipped (suc n) rest (l ∷ ls) e =
     one (x ∷ xs) h = let z : _≡_ {A = ℕ} 0 1 = cc in absurd (omega arith)
 
 records-are : (file : List ℕ) (rs : List WrittenRecord) → InWrittenRecords file rs
-    → (map name-of (records file) ≡ map (λ r. r .name) rs) × (map letters-of (records file) ≡ map (λ r. joined (r .parts)) rs) × (text-first? (lines-from file 0) ≡ false)
-unfolding records lines-from
+    → (map name-of (file-records file) ≡ map (λ r. r .name) rs) × (map letters-of (file-records file) ≡ map (λ r. joined (r .parts)) rs) × (text-first? (lines-from file 0) ≡ false)
+unfolding file-records lines-from
 records-are file rs w =
     let (others, a, b) = empties-skipped (w .empties) (each record-texts rs) (lines-of 0 (pieces 10 file)) (lines-are file (w .lines) (w .last) (w .laid) ∙ w .texts) in
     let r = records-read rs others a (w .proper) in
@@ -130,9 +130,9 @@ records-are file rs w =
 name-cut : (text : List ℕ) → NoBlank (up-to-blank text) × (rest : List ℕ) × BlankFirst rest × (text ≡ up-to-blank text ++ rest)
 unfolding up-to-blank
 name-cut [] = (no-member _, [], inl refl, refl)
-name-cut (b ∷ bs) = go (blank? b) refl (name-cut bs)
+name-cut (b ∷ bs) = go (space-or-tab? b) refl (name-cut bs)
   where
-    go : (t : Bool) → blank? b ≡ t → NoBlank (up-to-blank bs) × (rest : List ℕ) × BlankFirst rest × (bs ≡ up-to-blank bs ++ rest)
+    go : (t : Bool) → space-or-tab? b ≡ t → NoBlank (up-to-blank bs) × (rest : List ℕ) × BlankFirst rest × (bs ≡ up-to-blank bs ++ rest)
         → let name = if t [] (b ∷ up-to-blank bs) in NoBlank name × (rest : List ℕ) × BlankFirst rest × (b ∷ bs ≡ name ++ rest)
     go true e ih = (no-member _, b ∷ bs, inr (blank-says b .0 e), refl)
     go false e (n, rest, f, w) = (members (λ c. (c ≡ 32) ⊎ (c ≡ 9) → ⊥) (denied _ (blank-says b) .0 e) n, rest, f, ap (λ (l : List ℕ). b ∷ l) w)

@@ -71,11 +71,11 @@ pub mod FastaRefused
 pub mod FastaFits
 pub mod FastaProgram
 pub mod FastaWritten
-pub mod Reading
+pub mod FastaReading
 pub mod Begins
 pub mod Relayed
 pub mod Completes
-pub mod Weights
+pub mod WeightIsLength
 pub mod StepsSoFar
 pub mod OneAnswer
 pub mod Demands

@@ -10,7 +10,7 @@ use Rattle.rules.specs.Calls.{LegRule, moved, stretch, supports-of, weig
 use Rattle.rules.specs.Legs.{Stop, ended, spent, full, ended?, Stretch, on, Grant, grant, leg, legs, Passed}
 use Rattle.rules.specs.Lists.{if}
 use Rattle.rules.specs.Refusals.{first, search-checks, save-checks}
-use Rattle.rules.specs.Relay.{Lent, Roomy, Relayed, alone, followed, go-on, restored, after, relay}
+use Rattle.rules.specs.Relay.{Lent, Roomy, Relayed, alone, followed, go-on, restored, then-more, relay}
 use Rattle.rules.specs.Saved.{bytes}
 use Rattle.rules.specs.Sequences.{sequences}
 use Rattle.rules.specs.Template.{trimmed}
@@ -46,7 +46,7 @@ rows-of letters lengths s l =
     }
 
 -- what follows a leg that stopped and was not refused
-after-stop : (a : Told Stop) (st : Stop) (k m : Relayed) → a ≡ gives st → after a k m ≡ if (ended? st) k (followed k m)
+after-stop : (a : Told Stop) (st : Stop) (k m : Relayed) → a ≡ gives st → then-more a k m ≡ if (ended? st) k (followed k m)
 after-stop a ended k m e = rw e
 after-stop a spent k m e = rw e
 after-stop a full k m e = rw e

@@ -13,7 +13,7 @@ use borrow.Author.Tests.{ltb-true, ltb-false, lt-ltb}
 use Rattle.rules.specs.Limits.{Text-BYTES, Text-QUORUM-DIGITS}
 use Rattle.rules.specs.Lists.{some?}
 use Rattle.rules.specs.Refusals.{_else_, first}
-use Rattle.rules.specs.Text.{well-formed?, parse-number, parse-components, lines, unended, refuse-line, line, text-checks}
+use Rattle.rules.specs.Text.{well-formed?, parse-number, parse-components, lines, unended, refuse-line, nth-line, text-checks}
 use Rattle.rules.specs.TextRefused.{NumberText, TemplateText, BadLine, too-long, missing, no-template, no-quorum, no-end, LowestBad}
 use Rattle.rules.specs.Told.{Verdict, fine, refused}
 use Rattle.rules.proofs.Prefix.{some-length, length-some}
@@ -27,11 +27,11 @@ module _ (input : List ℕ) where
   long-says : (ltb Text-BYTES (length input) ≡ true) ↔ (Text-BYTES < length input)
   long-says = (ltb-true Text-BYTES (length input), lt-ltb Text-BYTES (length input))
 
-  template-says : (not (well-formed? (parse-components (line input 1))) ≡ true) ↔ (TemplateText (line input 1) → ⊥)
-  template-says = Iff·trans (not-passes _) (fails _ (template-well (line input 1)))
+  template-says : (not (well-formed? (parse-components (nth-line input 1))) ≡ true) ↔ (TemplateText (nth-line input 1) → ⊥)
+  template-says = Iff·trans (not-passes _) (fails _ (template-well (nth-line input 1)))
 
-  quorum-says : (not (well-formed? (parse-number Text-QUORUM-DIGITS (line input 2))) ≡ true) ↔ (NumberText Text-QUORUM-DIGITS (line input 2) → ⊥)
-  quorum-says = Iff·trans (not-passes _) (fails _ (number-well Text-QUORUM-DIGITS (line input 2)))
+  quorum-says : (not (well-formed? (parse-number Text-QUORUM-DIGITS (nth-line input 2))) ≡ true) ↔ (NumberText Text-QUORUM-DIGITS (nth-line input 2) → ⊥)
+  quorum-says = Iff·trans (not-passes _) (fails _ (number-well Text-QUORUM-DIGITS (nth-line input 2)))
 
   end-says : (some? (unended input) ≡ true) ↔ (1 ≤ length (unended input))
   end-says = (some-length (unended input), length-some (unended input))
@@ -48,14 +48,14 @@ module _ (input : List ℕ) where
   bad-0 (no-quorum e l h) = absurd (omega (arith, e))
   bad-0 (no-end e h) = absurd (omega (arith, e))
 
-  bad-1 : BadLine input 1 → TemplateText (line input 1) → ⊥
+  bad-1 : BadLine input 1 → TemplateText (nth-line input 1) → ⊥
   bad-1 (too-long e h) t = omega (arith, e)
   bad-1 (missing a b h) t = template-some (rw (no-line 0 (omega arith)) at t)
   bad-1 (no-template e l h) t = h t
   bad-1 (no-quorum e l h) t = omega (arith, e)
   bad-1 (no-end e h) t = template-some (rw (no-line 0 (omega (arith, e))) at t)
 
-  bad-2 : BadLine input 2 → NumberText Text-QUORUM-DIGITS (line input 2) → ⊥
+  bad-2 : BadLine input 2 → NumberText Text-QUORUM-DIGITS (nth-line input 2) → ⊥
   bad-2 (too-long e h) t = omega (arith, e)
   bad-2 (missing a b h) t = number-some Text-QUORUM-DIGITS (rw (no-line 1 (omega arith)) at t)
   bad-2 (no-template e l h) t = omega (arith, e)
@@ -70,14 +70,14 @@ module _ (input : List ℕ) where
   bad-later p l (no-end e h) = (e, h)
 
   -- and it is bad if the test says so
-  at-1 : (TemplateText (line input 1) → ⊥) → BadLine input 1
+  at-1 : (TemplateText (nth-line input 1) → ⊥) → BadLine input 1
   at-1 h = go (ltb (length (lines input)) 1) refl
     where
       go : (z : Bool) → ltb (length (lines input)) 1 ≡ z → BadLine input 1
       go true e = missing (omega arith) (omega arith) (ltb-true _ _ e)
       go false e = no-template refl (ltb-false _ _ e) h
 
-  at-2 : (NumberText Text-QUORUM-DIGITS (line input 2) → ⊥) → BadLine input 2
+  at-2 : (NumberText Text-QUORUM-DIGITS (nth-line input 2) → ⊥) → BadLine input 2
   at-2 h = go (ltb (length (lines input)) 2) refl
     where
       go : (z : Bool) → ltb (length (lines input)) 2 ≡ z → BadLine input 2
@@ -86,8 +86,8 @@ module _ (input : List ℕ) where
 
   -- a line of which no test up to its own speaks is not bad
   not-bad : (p : ℕ) → ltb Text-BYTES (length input) ≡ false
-      → (1 ≤ p → not (well-formed? (parse-components (line input 1))) ≡ false)
-      → (2 ≤ p → not (well-formed? (parse-number Text-QUORUM-DIGITS (line input 2))) ≡ false)
+      → (1 ≤ p → not (well-formed? (parse-components (nth-line input 1))) ≡ false)
+      → (2 ≤ p → not (well-formed? (parse-number Text-QUORUM-DIGITS (nth-line input 2))) ≡ false)
       → (3 ≤ p → p ≡ suc (length (lines input)) → some? (unended input) ≡ false)
       → BadLine input p → ⊥
   not-bad zero a b c d h = false≢true (sym a ∙ long-says .1 (bad-0 h))
@@ -100,14 +100,14 @@ module _ (input : List ℕ) where
   -- what is told is the lowest bad line
   told-lowest : (n p : ℕ) → first (text-checks input) ≡ refused n p → (n ≡ 18) × LowestBad input p
   unfolding first text-checks _else_
-  told-lowest n p e = go (ltb Text-BYTES (length input)) refl (not (well-formed? (parse-components (line input 1)))) refl
-      (not (well-formed? (parse-number Text-QUORUM-DIGITS (line input 2)))) refl (some? (unended input)) refl e
+  told-lowest n p e = go (ltb Text-BYTES (length input)) refl (not (well-formed? (parse-components (nth-line input 1)))) refl
+      (not (well-formed? (parse-number Text-QUORUM-DIGITS (nth-line input 2)))) refl (some? (unended input)) refl e
     where
       at : {q : ℕ} → refused 18 q ≡ refused n p → LowestBad input q → (n ≡ 18) × LowestBad input p
       at {q} e l = let k : q ≡ p = cc in (cc, rw k at l)
 
-      go : (a : Bool) → ltb Text-BYTES (length input) ≡ a → (b : Bool) → not (well-formed? (parse-components (line input 1))) ≡ b
-          → (c : Bool) → not (well-formed? (parse-number Text-QUORUM-DIGITS (line input 2))) ≡ c → (d : Bool) → some? (unended input) ≡ d
+      go : (a : Bool) → ltb Text-BYTES (length input) ≡ a → (b : Bool) → not (well-formed? (parse-components (nth-line input 1))) ≡ b
+          → (c : Bool) → not (well-formed? (parse-number Text-QUORUM-DIGITS (nth-line input 2))) ≡ c → (d : Bool) → some? (unended input) ≡ d
           → refuse-line a 0 else (refuse-line b 1 else (refuse-line c 2 else (refuse-line d (suc (length (lines input))) else fine))) ≡ refused n p
           → (n ≡ 18) × LowestBad input p
       go true ea b eb c ec d ed e = at e (record { bad = too-long refl (long-says .0 ea); before = λ q h. absurd (omega arith) })
@@ -127,8 +127,8 @@ module _ (input : List ℕ) where
 
   -- if none is told, no test says anything, and so none is bad
   pub text-passes : first (text-checks input) ≡ fine
-      → (ltb Text-BYTES (length input) ≡ false) × (not (well-formed? (parse-components (line input 1))) ≡ false)
-      × (not (well-formed? (parse-number Text-QUORUM-DIGITS (line input 2))) ≡ false) × (some? (unended input) ≡ false)
+      → (ltb Text-BYTES (length input) ≡ false) × (not (well-formed? (parse-components (nth-line input 1))) ≡ false)
+      × (not (well-formed? (parse-number Text-QUORUM-DIGITS (nth-line input 2))) ≡ false) × (some? (unended input) ≡ false)
   unfolding text-checks
   text-passes e =
       let r = first-cons _ _ .0 e in

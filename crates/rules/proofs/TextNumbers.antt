@@ -12,16 +12,16 @@ use lib.ListN.{length, getD, length-map, List·getD-map}
 use borrow.Author.Tests.{leb-true, le-leb, eqb-true, eqb-false, eq-eqb, ltb-true, ltb-false, lt-ltb, le-ltb, not-true}
 use Rattle.rules.specs.Lists.{if, all?}
 use Rattle.rules.specs.Motif.{number, spell}
-use Rattle.rules.specs.Text.{Parsed, parsed, malformed, well-formed?, between, number?, digits, parse-number, digits-of, decimal}
+use Rattle.rules.specs.Text.{Parsed, parsed, malformed, well-formed?, in-range?, number?, digits, parse-number, digits-of, decimal}
 use Rattle.rules.specs.TextRefused.{NumberText}
 use Rattle.rules.proofs.All.{all-members, member-at}
 use Rattle.rules.proofs.Spelling.{spell-more, length-spell, number-spell, number-below, spell-number}
 use Rattle.rules.proofs.Tests.{both, fails, or-cases, or-true}
 
 -- a test of every byte for the digits says that each is one
-pub digits-all : (text : List ℕ) → (all? (between 48 57) text ≡ true) ↔ ((b : ℕ) → List·Memᴰ b text → (48 ≤ b) × (b ≤ 57))
+pub digits-all : (text : List ℕ) → (all? (in-range? 48 57) text ≡ true) ↔ ((b : ℕ) → List·Memᴰ b text → (48 ≤ b) × (b ≤ 57))
 digits-all text =
-    let a = all-members (between 48 57) text in (
+    let a = all-members (in-range? 48 57) text in (
       λ e b m. let h = both (leb 48 b) (leb b 57) .0 (a .0 e b m) in (leb-true 48 b (h .0), leb-true b 57 (h .1)),
       λ h. a .1 (λ b m. both (leb 48 b) (leb b 57) .1 (le-leb 48 b (h b m .0), le-leb b 57 (h b m .1))),
     )
@@ -30,8 +30,8 @@ digits-all text =
 pub number-says : (most : ℕ) (text : List ℕ) → (number? most text ≡ true) ↔ NumberText most text
 unfolding number?
 number-says most text = (
-  λ e. let p = both (leb 1 (length text) && leb (length text) most && all? (between 48 57) text) (eqb (length text) 1 || not (eqb (getD text 0 0) 48)) .0 e in
-      let q = both (leb 1 (length text) && leb (length text) most) (all? (between 48 57) text) .0 (p .0) in
+  λ e. let p = both (leb 1 (length text) && leb (length text) most && all? (in-range? 48 57) text) (eqb (length text) 1 || not (eqb (getD text 0 0) 48)) .0 e in
+      let q = both (leb 1 (length text) && leb (length text) most) (all? (in-range? 48 57) text) .0 (p .0) in
       let r = both (leb 1 (length text)) (leb (length text) most) .0 (q .0) in
       record {
         some = leb-true 1 (length text) (r .0);

@@ -15,7 +15,7 @@ use Rattle.rules.specs.Limits.{Text-BYTES, Text-QUORUM-DIGITS}
 use Rattle.rules.specs.Lists.{each, joined, some?}
 use Rattle.rules.specs.Refusals.{first}
 use Rattle.rules.specs.Sequences.{split, sequences}
-use Rattle.rules.specs.Text.{parsed, parse-number, parse-components, template-of, lines, unended, line, text-checks, parse-template, parse-quorum, parse-letters, parse-lengths, decimal, template-text, print-refused, print-told, print-rule}
+use Rattle.rules.specs.Text.{parsed, parse-number, parse-components, template-of, lines, unended, nth-line, text-checks, parse-template, parse-quorum, parse-letters, parse-lengths, decimal, template-text, print-refused, print-told, print-rule}
 use Rattle.rules.specs.TextRefused.{Without, WithoutAll, with-end, Lined, BadLine, too-long, missing, no-template, no-quorum, no-end, LowestBad, Reads, TextRefused}
 use Rattle.rules.specs.Told.{fine}
 use Rattle.rules.specs.declared.Component.{Component}
@@ -59,10 +59,10 @@ module _ (input : List ℕ) where
     })
 
     -- its template and its quorum
-    read-template : parse-components (line input 1) ≡ parsed (map unmixed cs)
+    read-template : parse-components (nth-line input 1) ≡ parsed (map unmixed cs)
     read-template = rw (← read-lines .0) (template-read cs (r .writable))
 
-    read-quorum : parse-number Text-QUORUM-DIGITS (line input 2) ≡ parsed quorum
+    read-quorum : parse-number Text-QUORUM-DIGITS (nth-line input 2) ≡ parsed quorum
     read-quorum = rw (← read-lines .0) (number-parsed Text-QUORUM-DIGITS (decimal quorum) quorum (omega arith) (omega arith) .1 (refl, r .few-digits))
 
     -- none of its lines is bad
@@ -72,8 +72,8 @@ module _ (input : List ℕ) where
         go : (p : ℕ) → BadLine input p → ⊥
         go p (too-long e h) = omega (arith, r .short)
         go p (missing a b h) = omega (arith, ap length (read-lines .0))
-        go p (no-template e l h) = h (template-well (line input 1) .0 (well-parsed _ .1 (map unmixed cs, read-template)))
-        go p (no-quorum e l h) = h (number-well Text-QUORUM-DIGITS (line input 2) .0 (well-parsed _ .1 (quorum, read-quorum)))
+        go p (no-template e l h) = h (template-well (nth-line input 1) .0 (well-parsed _ .1 (map unmixed cs, read-template)))
+        go p (no-quorum e l h) = h (number-well Text-QUORUM-DIGITS (nth-line input 2) .0 (well-parsed _ .1 (quorum, read-quorum)))
         go p (no-end e h) = omega (arith, ap length (read-lines .1))
 
     -- what is printed of it
@@ -85,9 +85,9 @@ module _ (input : List ℕ) where
   passed-reads : first (text-checks input) ≡ fine → (cs : List Component) × (quorum : ℕ) × (ss : List (List ℕ)) × Reads input cs quorum ss
   passed-reads e =
       let t = text-passes input e in
-      let c = template-well (line input 1) .0 (not-false _ .0 (t .1)) in
-      let q = well-parsed (parse-number Text-QUORUM-DIGITS (line input 2)) .0 (not-false _ .0 (t .2)) in
-      let n = number-parsed Text-QUORUM-DIGITS (line input 2) (q .0) (omega arith) (omega arith) .0 (q .1) in
+      let c = template-well (nth-line input 1) .0 (not-false _ .0 (t .1)) in
+      let q = well-parsed (parse-number Text-QUORUM-DIGITS (nth-line input 2)) .0 (not-false _ .0 (t .2)) in
+      let n = number-parsed Text-QUORUM-DIGITS (nth-line input 2) (q .0) (omega arith) (omega arith) .0 (q .1) in
       let r = go (lines input) (rw (none-left (unended input) (t .3)) at (lined input)) (λ h. fine-none input .0 e 2 (missing (omega arith) (omega arith) h)) (c .1) (n .0) in
       (c .0, q .0, r .0, record { short = ltb-false Text-BYTES (length input) (t .0); whole = r .1; writable = c .2; few-digits = n .1; no-end-within = r .2 })
     where

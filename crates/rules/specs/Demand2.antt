@@ -8,7 +8,7 @@ use Prim.Native.Nat.{ℕ, suc, _+_, _*_, _≤_, _<_, _^_}
 use lib.Dec.{leb}
 use lib.ListN.{length, take, getD}
 use Rattle.rules.specs.Calls.{begin-rule, leg-rule, recover-rule}
-use Rattle.rules.specs.Fasta.{letters-of, records, Held}
+use Rattle.rules.specs.Fasta.{letters-of, file-records, Held}
 use Rattle.rules.specs.FastaRead.{ReadToEnd, ReadWhole, Readable}
 use Rattle.rules.specs.FastaRefused.{FastaProgram}
 use Rattle.rules.specs.FastaWritten.{FastaWritten}
@@ -117,12 +117,12 @@ pub record Demand2 : Type 0 where
   -- so all this, and demand 3, reads of the records
   pub fasta : (file letters lengths : List ℕ) (xs : List Handing) (k : Held) → ReadToEnd file letters lengths xs k → ReadWhole file letters lengths xs k
   -- a file without a record gives none, and the search over what was read is then refused with 1
-  pub fasta-none : (file letters lengths : List ℕ) (xs : List Handing) (k : Held) → ReadToEnd file letters lengths xs k → records file ≡ [] → (t : Template) (quorum : ℕ)
+  pub fasta-none : (file letters lengths : List ℕ) (xs : List Handing) (k : Held) → ReadToEnd file letters lengths xs k → file-records file ≡ [] → (t : Template) (quorum : ℕ)
       → begin-rule (take (k .used) (k .letters)) (take (k .count) (k .lengths)) t quorum ≡ refuses 1 0
   -- and it can be read so exactly if no text stands before its first record, there is room, and the records' lines hold letters alone
   pub fasta-reads : (file letters lengths : List ℕ) → Readable file letters lengths ↔ ((xs : List Handing) × (k : Held) × ReadToEnd file letters lengths xs k)
   -- the letters of all records and a row for each are no more than the file's bytes, so a buffer and a table as long as the file have
   -- room for every record that a row can count
-  pub fasta-room : (file : List ℕ) → length (each letters-of (records file)) + length (records file) ≤ length file
+  pub fasta-room : (file : List ℕ) → length (each letters-of (file-records file)) + length (file-records file) ≤ length file
   -- the program `lines` prints the records' letters, one sequence a line, for the printing program to search
   pub fasta-lines : FastaProgram

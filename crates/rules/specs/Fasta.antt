@@ -67,12 +67,12 @@ entries [] = []
 entries (l ∷ ls) = if (header? l) (record { header = l; lines = up-to-header ls } ∷ entries ls) (entries ls)
 
 -- the name of a record: from after its > to the first space, tab or line end
-abbrev pub blank? : ℕ → Bool
-blank? b = eqb b 32 || eqb b 9
+abbrev pub space-or-tab? : ℕ → Bool
+space-or-tab? b = eqb b 32 || eqb b 9
 
 unfoldable pub up-to-blank : List ℕ → List ℕ
 up-to-blank [] = []
-up-to-blank (b ∷ bs) = if (blank? b) [] (b ∷ up-to-blank bs)
+up-to-blank (b ∷ bs) = if (space-or-tab? b) [] (b ∷ up-to-blank bs)
 
 unfoldable pub name-of : Entry → List ℕ
 name-of e = up-to-blank (drop 1 (e .header .text))
@@ -99,8 +99,8 @@ abbrev pub records-from : List ℕ → ℕ → List Entry
 records-from file at = entries (lines-from file at)
 
 -- WHAT A FILE HOLDS: its records, in file order
-unfoldable pub records : List ℕ → List Entry
-records file = records-from file 0
+unfoldable pub file-records : List ℕ → List Entry
+file-records file = records-from file 0
 
 -- WHAT IS REFUSED. 19: a line that is not empty before the first record
 abbrev pub text-first? : List Line → Bool
@@ -193,19 +193,19 @@ abbrev pub call : List ℕ → Held → ReaderRule
 call file h = reader-rule file (h .at) (h .letters) (h .used) (h .lengths) (h .count)
 
 -- after a call that handed out a record of so many letters
-abbrev pub after : List ℕ → Held → ℕ → Held
-after file h size =
+abbrev pub held-after : List ℕ → Held → ℕ → Held
+held-after file h size =
     record { at = (call file h) .at; used = h .used + size; count = suc (h .count); letters = (call file h) .letters; lengths = (call file h) .lengths }
 
 -- calls one after another, each over what the one before left: the first hands out the first of some records, and so on
 pub data HandsOut (file : List ℕ) : Held → List Handing → Held → Type 0 where
   no-call : {h : Held} → HandsOut file h [] h
   one-more : {h k : Held} {start end size : ℕ} {xs : List Handing} → (call file h) .told ≡ gives (entry start end size)
-      → HandsOut file (after file h size) xs k → HandsOut file h (entry start end size ∷ xs) k
+      → HandsOut file (held-after file h size) xs k → HandsOut file h (entry start end size ∷ xs) k
 
 -- THE PROGRAM `lines`: one sequence a line. It refuses a file that it cannot hold, then what the reader refuses
 unfoldable pub lines-checks : List ℕ → List Verdict
-lines-checks file = refuse-if (ltb Fasta-BYTES (length file)) 20 ∷ check19 (lines-from file 0) ∷ map check4-file (records file)
+lines-checks file = refuse-if (ltb Fasta-BYTES (length file)) 20 ∷ check19 (lines-from file 0) ∷ map check4-file (file-records file)
 
 -- some records, a line for each
 unfoldable pub lines-for : List Entry → List ℕ
@@ -213,4 +213,4 @@ lines-for es = each (λ e. with-end (letters-of e)) es
 
 -- ITS RULE: all that it prints for a file
 unfoldable pub lines-rule : List ℕ → List ℕ
-lines-rule file = on-refusal (first (lines-checks file)) print-refused (lines-for (records file))
+lines-rule file = on-refusal (first (lines-checks file)) print-refused (lines-for (file-records file))

@@ -7,7 +7,7 @@ use mathlib.Core.Path.{_≡_}
 use Prim.Native.Nat.{ℕ, _+_, _≤_, _<_, _^_}
 use lib.ListN.{length, getD}
 use Rattle.rules.specs.Calls.{begin-rule}
-use Rattle.rules.specs.Fasta.{Line, lines-from, Entry, size-of, records-from, records, check19, check20, check4-file, reader-rule, letters-of, lines-checks, lines-rule}
+use Rattle.rules.specs.Fasta.{Line, lines-from, Entry, size-of, records-from, file-records, check19, check20, check4-file, reader-rule, letters-of, lines-checks, lines-rule}
 use Rattle.rules.specs.Letters.{value}
 use Rattle.rules.specs.Limits.{Fasta-BYTES, Fasta-LENGTH, Text-BYTES, Text-QUORUM-DIGITS}
 use Rattle.rules.specs.Lists.{each, joined}
@@ -49,10 +49,10 @@ pub data RefusesNext (file : List ℕ) (at : ℕ) (letters : List ℕ) (used : �
 -- THE PROGRAM `lines` refuses a file that it cannot hold, above 1 MiB, with 20; then 19; then 4, with the first byte that is no letter
 -- of the lines of all its records
 abbrev pub letter-lines : List ℕ → List Line
-letter-lines file = each (λ e. e .lines) (records file)
+letter-lines file = each (λ e. e .lines) (file-records file)
 
 pub data LinesRefuses (file : List ℕ) (n p : ℕ) : Type 0 where
-  too-long : n ≡ 20 → p ≡ 0 → Fasta-BYTES < length file → LinesRefuses file n p
+  file-too-long : n ≡ 20 → p ≡ 0 → Fasta-BYTES < length file → LinesRefuses file n p
   text-first : n ≡ 19 → p ≡ 0 → length file ≤ Fasta-BYTES → TextBefore file 0 → LinesRefuses file n p
   bad-letter : n ≡ 4 → length file ≤ Fasta-BYTES → (TextBefore file 0 → ⊥) → FirstNoLetter file (letter-lines file) p → LinesRefuses file n p
 
@@ -79,9 +79,9 @@ pub record FastaProgram : Type 0 where
   pub in-order : (file : List ℕ) (n p : ℕ) → (first (lines-checks file) ≡ refused n p) ↔ LinesRefuses file n p
   pub refused : (file : List ℕ) (n p : ℕ) → LinesRefuses file n p → lines-rule file ≡ print-refused n p
   -- and else prints one sequence a line: the letters of each record, in file order
-  pub printed : (file : List ℕ) → ((n p : ℕ) → LinesRefuses file n p → ⊥) → lines-rule file ≡ each with-end (map letters-of (records file))
+  pub printed : (file : List ℕ) → ((n p : ℕ) → LinesRefuses file n p → ⊥) → lines-rule file ≡ each with-end (map letters-of (file-records file))
   -- so the printing program, given them behind a template and a quorum, tells what a search over the records tells
   pub searched : (file : List ℕ) (cs : List Component) (quorum : ℕ) → ((n p : ℕ) → LinesRefuses file n p → ⊥) → Writable cs → quorum < 10 ^ Text-QUORUM-DIGITS
       → length (input-of cs quorum (lines-rule file)) ≤ Text-BYTES
-      → let ss = map letters-of (records file) in
+      → let ss = map letters-of (file-records file) in
       print-rule (input-of cs quorum (lines-rule file)) ≡ print-told (map (map value) ss) (begin-rule (joined ss) (map length ss) (template-of cs) quorum)

@@ -7,7 +7,7 @@ use mathlib.Core.Logic.{_⊎_}
 use mathlib.Core.Path.{_≡_}
 use Prim.Native.Nat.{ℕ, _+_, _-_}
 use lib.ListN.{length, getD, replicate, take, drop}
-use Rattle.rules.specs.Fasta.{Line, line, lines-of, lines-from, Entry, name-of, name-start, name-end, letters-of, records-from, records}
+use Rattle.rules.specs.Fasta.{Line, line, lines-of, lines-from, Entry, name-of, name-start, name-end, letters-of, records-from, file-records}
 use Rattle.rules.specs.FastaRefused.{TextBefore}
 use Rattle.rules.specs.Lists.{if, each, joined}
 use Rattle.rules.specs.Text.{pieces}
@@ -67,7 +67,7 @@ pub record FastaWritten : Type 0 where
   pub lines-of-each : (file : List ℕ) → (ws : List WrittenLine) × (last : List ℕ) × InWrittenLines file ws last
   -- the records of a file are those that it was written from: their names, and their letters joined; and no text stands before them
   pub records-back : (file : List ℕ) (rs : List WrittenRecord) → InWrittenRecords file rs
-      → (map name-of (records file) ≡ map (λ r. r .name) rs) × (map letters-of (records file) ≡ map (λ r. joined (r .parts)) rs) × (TextBefore file 0 → ⊥)
+      → (map name-of (file-records file) ≡ map (λ r. r .name) rs) × (map letters-of (file-records file) ≡ map (λ r. joined (r .parts)) rs) × (TextBefore file 0 → ⊥)
   -- and every file with no text before its first record can be written from records
   pub records-of-each : (file : List ℕ) → (TextBefore file 0 → ⊥) → (rs : List WrittenRecord) × InWrittenRecords file rs
   -- from any offset on, a line's text is the part of the file from the line's own offset on

@@ -56,8 +56,8 @@ each-one : Component → ℕ
 each-one c = 1
 
 -- a whole search: its steps, then the motifs that it lists
-whole : Walk → List ℕ
-whole W = let visited = from W (start W) in length visited ∷ listed W visited
+whole-walk : Walk → List ℕ
+whole-walk W = let visited = from W (start W) in length visited ∷ listed W visited
 
 -- the bases that each of the fourteen letters stands for, A 0 to T 3, each list ended by 9
 meanings : List ℕ
@@ -81,29 +81,29 @@ kinds =
     ∷ is counted-several (0 ∷ 0 ∷ 0 ∷ 0 ∷ 1 ∷ 1 ∷ 1 ∷ 1 ∷ 1 ∷ 1 ∷ 1 ∷ 1 ∷ 1 ∷ 1 ∷ [])
     -- mixed letters, one of them in the second component, quorum 3: AK, AB and AD. A, C, G and T come first, and of these A and T
     -- are in all three sequences and have fourteen letters under them
-    ∷ is (whole (walk-in (mixed second-one) pair 3 E)) (32 ∷ 6 ∷ 10 ∷ 11 ∷ [])
+    ∷ is (whole-walk (walk-in (mixed second-one) pair 3 E)) (32 ∷ 6 ∷ 10 ∷ 11 ∷ [])
     -- one in a component of two letters: AY, AB, AH, YG, BG and HG, in 14 steps, 14 under each of A and G, and four under each of the
     -- ten mixed letters
-    ∷ is (whole (walk-in (mixed each-one) double 2 two)) (82 ∷ 5 ∷ 10 ∷ 12 ∷ 82 ∷ 162 ∷ 194 ∷ [])
+    ∷ is (whole-walk (walk-in (mixed each-one) double 2 two)) (82 ∷ 5 ∷ 10 ∷ 12 ∷ 82 ∷ 162 ∷ 194 ∷ [])
     -- AV is a motif and AN is none, nor is a digit of 15, nor RA, which has a mixed letter too many, nor a number of three digits
     ∷ is (keep (valid-in (mixed second-one) pair 2) (13 ∷ 14 ∷ 15 ∷ 64 ∷ 256 ∷ [])) (13 ∷ [])
     -- substitutions, one in the second component, quorum 3: AA, AC, AG and AT, of which AA occurs nowhere as it is
-    ∷ is (whole (walk-in (substituted second-one) pair 3 E)) (12 ∷ 0 ∷ 1 ∷ 2 ∷ 3 ∷ [])
+    ∷ is (whole-walk (walk-in (substituted second-one) pair 3 E)) (12 ∷ 0 ∷ 1 ∷ 2 ∷ 3 ∷ [])
     -- one in a component of two letters: AA, AC, AG, AT, CG, CT, GG, TC and TG
-    ∷ is (whole (walk-in (substituted each-one) double 2 two)) (20 ∷ 0 ∷ 1 ∷ 2 ∷ 3 ∷ 6 ∷ 7 ∷ 10 ∷ 13 ∷ 14 ∷ [])
+    ∷ is (whole-walk (walk-in (substituted each-one) double 2 two)) (20 ∷ 0 ∷ 1 ∷ 2 ∷ 3 ∷ 6 ∷ 7 ∷ 10 ∷ 13 ∷ 14 ∷ [])
     -- repeats in AAA. A occurs three times and may come to six with the gap to come, AA occurs three times: quorums 3, 4 and 7
-    ∷ is (whole (walk-in repeated pair 3 AAA)) (8 ∷ 0 ∷ [])
-    ∷ is (whole (walk-in repeated pair 4 AAA)) (8 ∷ [])
-    ∷ is (whole (walk-in repeated pair 7 AAA)) (4 ∷ [])
+    ∷ is (whole-walk (walk-in repeated pair 3 AAA)) (8 ∷ 0 ∷ [])
+    ∷ is (whole-walk (walk-in repeated pair 4 AAA)) (8 ∷ [])
+    ∷ is (whole-walk (walk-in repeated pair 7 AAA)) (4 ∷ [])
     -- with two gaps to come A may come to twelve, AA to six; AAA occurs once
-    ∷ is (whole (walk-in repeated triple 1 AAA)) (12 ∷ 0 ∷ [])
-    ∷ is (whole (walk-in repeated triple 7 AAA)) (8 ∷ [])
-    ∷ is (whole (walk-in repeated triple 12 AAA)) (8 ∷ [])
-    ∷ is (whole (walk-in repeated triple 13 AAA)) (4 ∷ [])
+    ∷ is (whole-walk (walk-in repeated triple 1 AAA)) (12 ∷ 0 ∷ [])
+    ∷ is (whole-walk (walk-in repeated triple 7 AAA)) (8 ∷ [])
+    ∷ is (whole-walk (walk-in repeated triple 12 AAA)) (8 ∷ [])
+    ∷ is (whole-walk (walk-in repeated triple 13 AAA)) (4 ∷ [])
     ∷ []
 
 the-kinds : map (λ f. f .computed) kinds ≡ map (λ f. f .paper) kinds
-unfolding kinds meanings counted-several has-several E AAA two double triple second-one each-one letters lengths pair whole run keep each some? all? member? sum spell value split sequences front-by stands-by reach starts occurrences allowed to-come reaches allowed-in parts-in measure walk-in repeated substituted bases stands-for several within mixed marks support rows-from occurrence-rows weight components size deal children later under onward from up next start motif listed
+unfolding kinds meanings counted-several has-several E AAA two double triple second-one each-one letters lengths pair whole-walk run keep each some? all? member? sum spell value split sequences front-by stands-by reach starts occurrences allowed to-come reaches allowed-in parts-in measure walk-in repeated substituted bases stands-for several within mixed marks support rows-from occurrence-rows weight components size deal children later under onward from up next start motif listed
 the-kinds = refl
 
 -- A MIXED SEARCH THROUGH THE CALLS: N[0,1]N over E with an allowance of one letter in the second component
@@ -126,15 +126,15 @@ begins t = search-told (begin-rule letters lengths t 3)
 mixed-at : Place → Search
 mixed-at p = record { template = one-mixed; quorum = 3; set = record { sequences = 3; letters = 12 }; place = p }
 
-leg-told : LegTold → List ℕ
-leg-told l = go (l .answer)
+leg-numbers : LegTold → List ℕ
+leg-numbers l = go (l .answer)
   where
     go : Told Stop → List ℕ
     go (gives a) = l .steps ∷ []
     go (refuses n p) = n ∷ p ∷ []
 
 leg-at : Place → List ℕ
-leg-at p = leg-told ((leg-rule letters lengths (mixed-at p) 99 (replicate 9 0) (replicate 9 0) (replicate 9 0)) .told)
+leg-at p = leg-numbers ((leg-rule letters lengths (mixed-at p) 99 (replicate 9 0) (replicate 9 0) (replicate 9 0)) .told)
 
 -- what begins, run in one leg: its steps, then its motifs, supports and weighted supports
 in-one-leg : Told Search → List ℕ
@@ -144,28 +144,28 @@ in-one-leg (gives s) =
 in-one-leg (refuses n p) = n ∷ p ∷ []
 
 -- and in legs of at most 7 steps with room for one row each, saved to 64 bytes and restored in between: two stop full, before AB and AD
-in-legs : Told Search → List ℕ
-in-legs (gives s) =
+mixed-in-legs : Told Search → List ℕ
+mixed-in-legs (gives s) =
     let g : Lent = record { budget = 7; motifs = replicate 1 0; supports = replicate 1 0; weights = replicate 1 0; buffer = replicate 64 9 } in
     let r = relay letters lengths (replicate 8 g) s in r .steps ∷ r .motifs ++ r .supports ++ r .weights
-in-legs (refuses n p) = n ∷ p ∷ []
+mixed-in-legs (refuses n p) = n ∷ p ∷ []
 
 -- a recovery of its motif m: the rows written, then the length of the list; and the buffer after it
 recovered : ℕ → List ℕ
 recovered m = counts-told ((recover-rule letters lengths one-mixed m 0 (replicate 13 9)) .told)
 
-rows : ℕ → List ℕ
-rows m = (recover-rule letters lengths one-mixed m 0 (replicate 13 9)) .out
+recovered-rows : ℕ → List ℕ
+recovered-rows m = (recover-rule letters lengths one-mixed m 0 (replicate 13 9)) .out
 
 mixed-calls : List Fact
 mixed-calls =
     -- it begins at A; quorum 3: 32 steps, then AK, AB and AD, each in 3 sequences, with 4, 5 and 4 occurrences; the same in legs
     is (begins one-mixed) (1 ∷ 0 ∷ [])
     ∷ is (in-one-leg (begin-rule letters lengths one-mixed 3)) (32 ∷ 6 ∷ 10 ∷ 11 ∷ 3 ∷ 3 ∷ 3 ∷ 4 ∷ 5 ∷ 4 ∷ [])
-    ∷ is (in-legs (begin-rule letters lengths one-mixed 3)) (32 ∷ 6 ∷ 10 ∷ 11 ∷ 3 ∷ 3 ∷ 3 ∷ 4 ∷ 5 ∷ 4 ∷ [])
+    ∷ is (mixed-in-legs (begin-rule letters lengths one-mixed 3)) (32 ∷ 6 ∷ 10 ∷ 11 ∷ 3 ∷ 3 ∷ 3 ∷ 4 ∷ 5 ∷ 4 ∷ [])
     -- AK in E: rows 1 1 3, 2 2 3, 2 2 4, 3 1 2
     ∷ is (recovered 6) (4 ∷ 4 ∷ [])
-    ∷ is (rows 6) (1 ∷ 1 ∷ 3 ∷ 2 ∷ 2 ∷ 3 ∷ 2 ∷ 2 ∷ 4 ∷ 3 ∷ 1 ∷ 2 ∷ 9 ∷ [])
+    ∷ is (recovered-rows 6) (1 ∷ 1 ∷ 3 ∷ 2 ∷ 2 ∷ 3 ∷ 2 ∷ 2 ∷ 4 ∷ 3 ∷ 1 ∷ 2 ∷ 9 ∷ [])
     -- 14: a digit of 14 or 15, RA, whose R the first component does not allow, and 256; not AV, which occurs in two sequences
     ∷ is (recovered 13) (4 ∷ 4 ∷ [])
     ∷ is (recovered 14) (14 ∷ 0 ∷ [])
@@ -189,5 +189,5 @@ mixed-calls =
     ∷ []
 
 the-mixed-calls : map (λ f. f .computed) mixed-calls ≡ map (λ f. f .paper) mixed-calls
-unfolding mixed-calls one-mixed twelve-and too-many begins mixed-at leg-told leg-at in-one-leg in-legs recovered rows search-told counts-told letters lengths value letter? run keep each joined some? all? member? sum put split sequences components size trimmed deal spell front-by stands-by reach starts occurrences marks support rows-from occurrence-rows weight allowed to-come exactly bases stands-for several within mixed profile-by allowed-in parts-in measure reaches walk-in children later under onward from up next start motif listed spelled candidate leg low-first read-low size-record component-record place-record component-records records bytes record-at field record-count component-count read-profile read-component read-place read-template read-search sized? blank? size-kind? component-kind? place-kind? size-blank? component-blank? place-blank? saved-records kind? unnamed-blank? sums? place-rule? whole-list page _else_ first first-bad check1 check2 check3 check4 check5 check6 check7 check8 check9 check10 check11 check12 passes? check13 check14 check15 check17 check21 check22 check23 check24 new-checks restore-checks search-checks save-checks recover-checks begun begin-rule stretch supports-of weights-of leg-rule save-rule restore-rule recover-rule relay
+unfolding mixed-calls one-mixed twelve-and too-many begins mixed-at leg-numbers leg-at in-one-leg mixed-in-legs recovered recovered-rows search-told counts-told letters lengths value letter? run keep each joined some? all? member? sum put split sequences components size trimmed deal spell front-by stands-by reach starts occurrences marks support rows-from occurrence-rows weight allowed to-come exactly bases stands-for several within mixed profile-by allowed-in parts-in measure reaches walk-in children later under onward from up next start motif listed spelled candidate leg low-first read-low size-record component-record place-record component-records records bytes record-at field record-count component-count read-profile read-component read-place read-template read-search sized? blank? size-kind? component-kind? place-kind? size-blank? component-blank? place-blank? saved-records kind? unnamed-blank? sums? place-rule? whole-list page _else_ first first-bad check1 check2 check3 check4 check5 check6 check7 check8 check9 check10 check11 check12 passes? check13 check14 check15 check17 check21 check22 check23 check24 new-checks restore-checks search-checks save-checks recover-checks begun begin-rule stretch supports-of weights-of leg-rule save-rule restore-rule recover-rule relay
 the-mixed-calls = refl

@@ -112,11 +112,11 @@ restored letters lengths (gives n) out = restore-rule letters lengths (take n ou
 restored letters lengths (refuses n p) out = refuses n p
 
 -- after a leg: nothing where it ended or refused, and else what is left
-abbrev pub after : Told Stop → Relayed → Relayed → Relayed
-after (gives ended) l more = l
-after (gives spent) l more = followed l more
-after (gives full) l more = followed l more
-after (refuses n p) l more = l
+abbrev pub then-more : Told Stop → Relayed → Relayed → Relayed
+then-more (gives ended) l more = l
+then-more (gives spent) l more = followed l more
+then-more (gives full) l more = followed l more
+then-more (refuses n p) l more = l
 
 module _ (letters lengths : List ℕ) where
   -- LEGS, until one ends: each saves the search it leaves and the next restores it
@@ -126,7 +126,7 @@ module _ (letters lengths : List ℕ) where
       let l = leg-rule letters lengths s (g .budget) (g .motifs) (g .supports) (g .weights) in
       let w = save-rule letters lengths (l .told .search) (g .buffer) in
       let more = go-on (restored letters lengths (w .told) (w .out)) (relay gs) in
-      after (l .told .answer) (alone l) more
+      then-more (l .told .answer) (alone l) more
 
 -- WHAT A RECOVERY OF THE MOTIF m ANSWERS, whichever first row up to w it is asked for: that the list has w rows
 abbrev pub Recovers : List ℕ → List ℕ → Template → ℕ → ℕ → Type 0

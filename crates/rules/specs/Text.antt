@@ -40,11 +40,11 @@ pieces b [] = [] ∷ []
 pieces b (x ∷ xs) = let rest = pieces b xs in if (eqb x b) ([] ∷ rest) (onto x rest)
 
 -- a number of 1 to `most` digits, with no leading zero but 0 itself: whether a text is one, and which
-abbrev pub between : ℕ → ℕ → ℕ → Bool
-between low high b = leb low b && leb b high
+abbrev pub in-range? : ℕ → ℕ → ℕ → Bool
+in-range? low high b = leb low b && leb b high
 
 unfoldable pub number? : ℕ → List ℕ → Bool
-number? most ds = leb 1 (length ds) && leb (length ds) most && all? (between 48 57) ds && (eqb (length ds) 1 || not (eqb (getD ds 0 0) 48))
+number? most ds = leb 1 (length ds) && leb (length ds) most && all? (in-range? 48 57) ds && (eqb (length ds) 1 || not (eqb (getD ds 0 0) 48))
 
 unfoldable pub digits : List ℕ → ℕ
 digits ds = number 10 (map (λ b. b - 48) ds)
@@ -134,15 +134,15 @@ abbrev pub refuse-line : Bool → ℕ → Verdict
 refuse-line b n = if b (refused 18 n) fine
 
 -- the lines by number, from 1; one that is not there is empty, and so malformed
-abbrev pub line : List ℕ → ℕ → List ℕ
-line input n = getD (lines input) (n - 1) []
+abbrev pub nth-line : List ℕ → ℕ → List ℕ
+nth-line input n = getD (lines input) (n - 1) []
 
 -- too long; the first line; the second; a last line without its end
 unfoldable pub text-checks : List ℕ → List Verdict
 text-checks input =
     refuse-line (ltb Text-BYTES (length input)) 0
-    ∷ refuse-line (not (well-formed? (parse-components (line input 1)))) 1
-    ∷ refuse-line (not (well-formed? (parse-number Text-QUORUM-DIGITS (line input 2)))) 2
+    ∷ refuse-line (not (well-formed? (parse-components (nth-line input 1)))) 1
+    ∷ refuse-line (not (well-formed? (parse-number Text-QUORUM-DIGITS (nth-line input 2)))) 2
     ∷ refuse-line (some? (unended input)) (suc (length (lines input)))
     ∷ []
 
@@ -151,10 +151,10 @@ or-else (parsed a) b = a
 or-else malformed b = b
 
 unfoldable pub parse-template : List ℕ → Template
-parse-template input = template-of (or-else (parse-components (line input 1)) [])
+parse-template input = template-of (or-else (parse-components (nth-line input 1)) [])
 
 unfoldable pub parse-quorum : List ℕ → ℕ
-parse-quorum input = or-else (parse-number Text-QUORUM-DIGITS (line input 2)) 0
+parse-quorum input = or-else (parse-number Text-QUORUM-DIGITS (nth-line input 2)) 0
 
 -- one sequence a line
 unfoldable pub parse-letters : List ℕ → List ℕ

@@ -13,7 +13,7 @@ use Rattle.rules.specs.Limits.{Text-BYTES, Text-GAP-DIGITS, Text-QUORUM-
 use Rattle.rules.specs.Lists.{each, joined}
 use Rattle.rules.specs.Refusals.{first}
 use Rattle.rules.specs.Template.{none}
-use Rattle.rules.specs.Text.{lines, unended, line, decimal, template-text, parsed, malformed, parse-number, parse-components, template-of, text-checks, parse-template, print-refused, print-told, print-rule}
+use Rattle.rules.specs.Text.{lines, unended, nth-line, decimal, template-text, parsed, malformed, parse-number, parse-components, template-of, text-checks, parse-template, print-refused, print-told, print-rule}
 use Rattle.rules.specs.Told.{fine, refused}
 use Rattle.rules.specs.declared.Component.{Component}
 use Rattle.rules.specs.declared.Profile.the-variants.{Exact}
@@ -71,9 +71,9 @@ pub data BadLine (input : List ℕ) (p : ℕ) : Type 0 where
   -- the first or the second line is missing
   missing : 1 ≤ p → p ≤ 2 → length (lines input) < p → BadLine input p
   -- the first is there, and is no template's text
-  no-template : p ≡ 1 → 1 ≤ length (lines input) → (TemplateText (line input 1) → ⊥) → BadLine input p
+  no-template : p ≡ 1 → 1 ≤ length (lines input) → (TemplateText (nth-line input 1) → ⊥) → BadLine input p
   -- the second is there, and is no number of 1 to 5 digits
-  no-quorum : p ≡ 2 → 2 ≤ length (lines input) → (NumberText Text-QUORUM-DIGITS (line input 2) → ⊥) → BadLine input p
+  no-quorum : p ≡ 2 → 2 ≤ length (lines input) → (NumberText Text-QUORUM-DIGITS (nth-line input 2) → ⊥) → BadLine input p
   -- the last line has no end: it stands after the lines that have one
   no-end : p ≡ suc (length (lines input)) → 1 ≤ length (unended input) → BadLine input p
 

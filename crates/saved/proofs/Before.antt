@@ -14,7 +14,7 @@ use Rattle.rules.specs.declared.Search.{Search}
 use Rattle.rules.proofs.EachCheck.{check23-fine}
 use Rattle.rules.proofs.Sound.{set-sound, template-sound}
 use Rattle.rules.proofs.Verdicts.{else-fine, first-append, first-both, none-of, all-fine}
-use Rattle.saved.specs.Orders.{saved-checks-before-13, restore-checks-before-13}
+use Rattle.saved.specs.RestoreOrder.{saved-checks-before-13, restore-checks-before-13}
 
 -- a check made after others
 pub then-next : (us : List Verdict) {q r w v : Verdict} → r ≡ q else w → q ≡ first us → w ≡ v → r ≡ first (us ++ (v ∷ []))

@@ -10,7 +10,7 @@ ghost use Rattle.rules.specs.Calls.{save-rule, restore-rule, unless};
 ghost use Rattle.rules.specs.Refusals.{first, restore-checks};
 ghost use Rattle.rules.specs.Saved.{read-search};
 ghost use Rattle.rules.specs.Told.{toldChecked, toldSaved, toldBegun};
-ghost use Rattle.saved.specs.Orders.{restore-checks-before-13};
+ghost use Rattle.saved.specs.RestoreOrder.{restore-checks-before-13};
 use blanks::check_blanks;
 use checks::check_allowances;
 use checks::check_count;

@@ -22,7 +22,7 @@ use Rattle.rules.specs.declared.Profile.the-variants.{Exact, Mixed}
 use Rattle.rules.specs.declared.Template.{Template}
 use Rattle.rules.proofs.Components.{components-at, components-length}
 use Rattle.rules.proofs.Rises.{letters-to, shorter-valid, child-valid, valid-fits, first-child, risen-valid, exact-rises, rises-past-t, rises-not-t}
-use Rattle.rows.specs.Prefix.{At, letters-before}
+use Rattle.rows.specs.NextLetter.{At, letters-before}
 use Rattle.matching.specs.Path.{Inside}
 use Rattle.matching.proofs.Extend.{letter-at, inside-letter, inside-component}
 use Rattle.search.specs.Kind.{walk-by, Rises}

@@ -30,7 +30,7 @@ use Rattle.rules.proofs.Sound.{SoundSearch}
 use Rattle.rules.proofs.Tests.{both}
 use Rattle.search.proofs.Follow.{Following, follow-start, follow-passes, follow-lists}
 use Rattle.search.specs.Kind.{walk-by}
-use Rattle.search.specs.Told.{room-of, told-of}
+use Rattle.search.specs.AcceptedLeg.{room-of, told-of}
 
 put-length : (xs table : List ℕ) → length xs ≤ length table → length (put xs table) ≡ length table
 unfolding put

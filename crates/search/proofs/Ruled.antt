@@ -7,7 +7,7 @@ use Rattle.rules.specs.Lists.{put}
 use Rattle.rules.specs.Refusals.{first, search-checks}
 use Rattle.rules.specs.Told.{refuses, fine, refused, LegTold}
 use Rattle.rules.specs.declared.Search.{Search}
-use Rattle.search.specs.Told.{room-of, told-of}
+use Rattle.search.specs.AcceptedLeg.{room-of, told-of}
 
 module _ (letters lengths : List ℕ) (s : Search) (budget : ℕ) (motifs supports weights : List ℕ) where
   pub declined : {n p : ℕ} → refused n p ≡ first (search-checks letters lengths s)

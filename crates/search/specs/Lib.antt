@@ -1,3 +1,3 @@
 -- What the contracts of this crate say, beside the definitions of `rules`.
 pub mod Kind
-pub mod Told
+pub mod AcceptedLeg

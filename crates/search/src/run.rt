@@ -27,7 +27,7 @@ ghost use Rattle.rules.specs.Walk.{place};
 ghost use Rattle.rows.specs.Set.{Row};
 ghost use Rattle.matching.specs.Path.{prefix-starts, Tables, Made};
 ghost use Rattle.matching.specs.Weights.{prefix-of, Counted};
-ghost use Rattle.search.specs.Told.{room-of, told-of};
+ghost use Rattle.search.specs.AcceptedLeg.{room-of, told-of};
 
 // Whether a support reaches the quorum.
 fn reaches(quorum: u64, found: u32) -> bool

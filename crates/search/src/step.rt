@@ -10,7 +10,7 @@ ghost use lib.Dec.{ltb, eqb};
 ghost use lib.ListN.{getD};
 ghost use Prim.Native.Nat.{ℕ, _-_, _/_, _≤_};
 ghost use Rattle.matching.specs.Path.{Inside};
-ghost use Rattle.rows.specs.Prefix.{At};
+ghost use Rattle.rows.specs.NextLetter.{At};
 ghost use Rattle.rules.specs.Limits.{Letter-DIGITS};
 ghost use Rattle.rules.specs.Motif.{spell};
 ghost use Rattle.rules.specs.Profile.{several};

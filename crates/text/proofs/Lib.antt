@@ -1,13 +1,13 @@
 -- The laws that the proofs of this crate's functions lean on.
 pub mod Printed
 pub mod Decimal
-pub mod Letters
-pub mod Shape
+pub mod MotifLetters
+pub mod ShapedMotif
 pub mod Line
-pub mod Page
+pub mod PrintedPage
 pub mod Scan
-pub mod Numbers
-pub mod Components
-pub mod Slots
+pub mod DigitByDigit
+pub mod ComponentText
+pub mod ComponentsByPiece
 pub mod Lines
-pub mod Sequences
+pub mod SequenceLines

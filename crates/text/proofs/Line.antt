@@ -9,28 +9,28 @@ use Rattle.rules.specs.Support.{support, weight, parts}
 use Rattle.rules.specs.Template.{size}
 use Rattle.rules.specs.Text.{decimal, print-row}
 use Rattle.rules.specs.declared.Template.{Template}
-use Rattle.text.specs.Printed.{Line-ROOM, Wrote, Line, pair, row}
+use Rattle.text.specs.Printed.{Line-ROOM, Wrote, WroteLine, number-pair, row}
 use Rattle.text.proofs.Decimal.{decimal-short}
 use Rattle.text.proofs.Printed.{wrote-as, wrote-put, room, length-pair, _then_}
 
 module _ (head : List ℕ) (x y : ℕ) where
-  line-is : head ++ pair 32 x 32 y 10 ≡ head ++ 32 ∷ decimal x ++ 32 ∷ decimal y ++ 10 ∷ []
-  unfolding pair
+  line-is : head ++ number-pair 32 x 32 y 10 ≡ head ++ 32 ∷ decimal x ++ 32 ∷ decimal y ++ 10 ∷ []
+  unfolding number-pair
   line-is =
       sym (append-assoc head (32 ∷ decimal x ++ 32 ∷ decimal y) (10 ∷ []))
       ∙ ap (λ (l : List ℕ). l ++ (10 ∷ [])) (sym (append-assoc head (32 ∷ decimal x) (32 ∷ decimal y)))
 
   module _ (h : length head ≤ 77) (f : x < 10 ^ 20) (g : y < 10 ^ 20) where
-    short : length (head ++ pair 32 x 32 y 10) ≤ Line-ROOM
+    short : length (head ++ number-pair 32 x 32 y 10) ≤ Line-ROOM
     short = rw length-append (omega (arith, length-pair 32 x 32 y 10, decimal-short 19 0 x refl f, decimal-short 19 0 y refl g))
 
     -- after the head there is room for the numbers
-    pub line-room : {a b : List ℕ} {next : ℕ} → Line-ROOM ≤ length a → Wrote 0 head a b next → next + length (pair 32 x 32 y 10) ≤ length b
-    line-room r w = room (length (pair 32 x 32 y 10)) w (omega (arith, short, length-append head (pair 32 x 32 y 10)))
+    pub line-room : {a b : List ℕ} {next : ℕ} → Line-ROOM ≤ length a → Wrote 0 head a b next → next + length (number-pair 32 x 32 y 10) ≤ length b
+    line-room r w = room (length (number-pair 32 x 32 y 10)) w (omega (arith, short, length-append head (number-pair 32 x 32 y 10)))
 
     -- the head and the numbers are the line
-    pub line-done : {a b c : List ℕ} {next last : ℕ} → Line-ROOM ≤ length a → Wrote 0 head a b next → Wrote next (pair 32 x 32 y 10) b c last
-        → Line (head ++ 32 ∷ decimal x ++ 32 ∷ decimal y ++ 10 ∷ []) a c last
+    pub line-done : {a b c : List ℕ} {next last : ℕ} → Line-ROOM ≤ length a → Wrote 0 head a b next → Wrote next (number-pair 32 x 32 y 10) b c last
+        → WroteLine (head ++ 32 ∷ decimal x ++ 32 ∷ decimal y ++ 10 ∷ []) a c last
     line-done r v w =
         let u = v then w in
         let e = u .end ∙ zero-add _ in

@@ -14,22 +14,22 @@ use Rattle.rules.proofs.Verdicts.{else-fine}
 use Rattle.rules.specs.Limits.{Text-BYTES, Text-QUORUM-DIGITS}
 use Rattle.rules.specs.Lists.{some?}
 use Rattle.rules.specs.Refusals.{_else_, first}
-use Rattle.rules.specs.Text.{well-formed?, pieces, but-last, last, lines, line, unended, refuse-line, text-checks, parse-components, parse-number}
+use Rattle.rules.specs.Text.{well-formed?, pieces, but-last, last, lines, nth-line, unended, refuse-line, text-checks, parse-components, parse-number}
 use Rattle.rules.specs.Told.{Verdict, fine, refused}
-use Rattle.text.specs.Pieces.{find, after}
+use Rattle.text.specs.Pieces.{find, after-pieces}
 use Rattle.text.proofs.Scan.{pieces-cut, lines-after, lines-more, lines-none}
 
 -- ---- one line
 
 -- the lines after n others are those of the text after them
-lines-from : (n start : ℕ) (l : List ℕ) → drop start l ≡ after 10 n l → getD (lines l) n [] ≡ getD (but-last (pieces 10 (drop start l))) 0 []
+lines-from : (n start : ℕ) (l : List ℕ) → drop start l ≡ after-pieces 10 n l → getD (lines l) n [] ≡ getD (but-last (pieces 10 (drop start l))) 0 []
 unfolding lines
 lines-from n start l a =
     ap (λ (k : ℕ). getD (but-last (pieces 10 l)) k []) (sym (add-zero n))
     ∙ sym (getD-drop n (but-last (pieces 10 l)) 0 [])
     ∙ rw (lines-after 10 n l, a)
 
-module _ (n start : ℕ) {end : ℕ} (l : List ℕ) (a : drop start l ≡ after 10 n l) (e : end ≡ start + find 10 (drop start l)) (s : start ≤ length l) where
+module _ (n start : ℕ) {end : ℕ} (l : List ℕ) (a : drop start l ≡ after-pieces 10 n l) (e : end ≡ start + find 10 (drop start l)) (s : start ≤ length l) where
   -- a line ends where byte 10 stands
   pub line-found : end < length l → take (end - start) (drop start l) ≡ getD (lines l) n []
   line-found h = sym (lines-from n start l a ∙ rw (lines-more 10 start end l e s h))
@@ -71,8 +71,8 @@ module _ (l : List ℕ) where
 
   -- and else the first line, the second, and a last line without its end
   pub text-order : length l ≤ Text-BYTES → {a b c : Verdict}
-      → a ≡ refuse-line (not (well-formed? (parse-components (line l 1)))) 1
-      → b ≡ refuse-line (not (well-formed? (parse-number Text-QUORUM-DIGITS (line l 2)))) 2
+      → a ≡ refuse-line (not (well-formed? (parse-components (nth-line l 1)))) 1
+      → b ≡ refuse-line (not (well-formed? (parse-number Text-QUORUM-DIGITS (nth-line l 2)))) 2
       → c ≡ refuse-line (some? (unended l)) (suc (length (lines l)))
       → a else (b else c) ≡ first (text-checks l)
   unfolding first text-checks _else_
@@ -84,5 +84,5 @@ module _ (l : List ℕ) where
     text-short = ltb-false Text-BYTES (length l) (text-passes l e .0)
 
     -- its first line is a template
-    pub text-template : well-formed? (parse-components (line l 1)) ≡ true
+    pub text-template : well-formed? (parse-components (nth-line l 1)) ≡ true
     text-template = not-false _ (text-passes l e .1)

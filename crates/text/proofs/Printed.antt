@@ -9,7 +9,7 @@ use lib.ListN.{length, take, set, getD, length-append}
 use lib.Seq.{sets, sets-eq, length-sets, take-suc}
 use Rattle.rules.specs.Lists.{put}
 use Rattle.rules.specs.Text.{decimal}
-use Rattle.text.specs.Printed.{write, Wrote, pair}
+use Rattle.text.specs.Printed.{write, Wrote, number-pair}
 
 sets-append : (l : List ℕ) (i : ℕ) (xs ys : List ℕ) → sets (sets l i xs) (i + length xs) ys ≡ sets l i (xs ++ ys)
 sets-append l i [] ys = rw add-zero
@@ -70,11 +70,11 @@ wrote-put {r} {xs} {a} h w = w .out ∙ sets-eq xs a 0 (omega arith) ∙ rw zero
 
 module _ (before a between b after : ℕ) where
   -- two numbers and three bytes, one after the other
-  pub pair-is : (before ∷ []) ++ decimal a ++ (between ∷ []) ++ decimal b ++ (after ∷ []) ≡ pair before a between b after
-  unfolding pair
+  pub pair-is : (before ∷ []) ++ decimal a ++ (between ∷ []) ++ decimal b ++ (after ∷ []) ≡ number-pair before a between b after
+  unfolding number-pair
   pair-is = simp append-assoc
 
   -- how long they are
-  pub length-pair : length (pair before a between b after) ≡ 1 + (length (decimal a) + (1 + (length (decimal b) + 1)))
-  unfolding pair
+  pub length-pair : length (number-pair before a between b after) ≡ 1 + (length (decimal a) + (1 + (length (decimal b) + 1)))
+  unfolding number-pair
   length-pair = simp length-append (omega arith)

@@ -13,7 +13,7 @@ use borrow.Author.Tests.{eq-eqb, ne-eqb, eqb-true, eqb-false, lt-ltb, le-ltb, lt
 use Rattle.rules.proofs.Tables.{drop-min}
 use Rattle.rules.specs.Lists.{if, member?}
 use Rattle.rules.specs.Text.{pieces, onto, last, but-last}
-use Rattle.text.specs.Pieces.{find, others, after, two?}
+use Rattle.text.specs.Pieces.{find, others, after-pieces, two?}
 
 -- ---- the scan
 
@@ -183,20 +183,20 @@ module _ (b start end : ℕ) (l : List ℕ) (e : end ≡ start + find b (drop st
 
 -- ---- the text after some pieces
 
-after-nil : (b n : ℕ) → after b n [] ≡ []
-unfolding after
+after-nil : (b n : ℕ) → after-pieces b n [] ≡ []
+unfolding after-pieces
 after-nil b zero = refl
 after-nil b (suc n) = after-nil b n
 
 -- the pieces after n others, if there are so many
-pub pieces-after : (b n : ℕ) (l : List ℕ) → n < length (pieces b l) → drop n (pieces b l) ≡ pieces b (after b n l)
-unfolding after
+pub pieces-after : (b n : ℕ) (l : List ℕ) → n < length (pieces b l) → drop n (pieces b l) ≡ pieces b (after-pieces b n l)
+unfolding after-pieces
 pieces-after b zero l h = refl
 pieces-after b (suc n) l h = go (ltb (find b l) (length l)) refl (pieces-after b n (drop (suc (find b l)) l))
   where
     go : (t : Bool) → ltb (find b l) (length l) ≡ t
-        → (n < length (pieces b (drop (suc (find b l)) l)) → drop n (pieces b (drop (suc (find b l)) l)) ≡ pieces b (after b n (drop (suc (find b l)) l)))
-        → drop (suc n) (pieces b l) ≡ pieces b (after b n (drop (suc (find b l)) l))
+        → (n < length (pieces b (drop (suc (find b l)) l)) → drop n (pieces b (drop (suc (find b l)) l)) ≡ pieces b (after-pieces b n (drop (suc (find b l)) l)))
+        → drop (suc n) (pieces b l) ≡ pieces b (after-pieces b n (drop (suc (find b l)) l))
     go true e ih =
         let k : pieces b l ≡ take (find b l) l ∷ pieces b (drop (suc (find b l)) l) = pieces-cut b l ∙ rw (others-more b l (ltb-true _ _ e)) in
         rw k (ih (omega (arith, ap length k)))
@@ -205,26 +205,26 @@ pieces-after b (suc n) l h = go (ltb (find b l) (length l)) refl (pieces-after b
         absurd (omega (arith, ap length k))
 
 -- the lines after n others
-pub lines-after : (b n : ℕ) (l : List ℕ) → drop n (but-last (pieces b l)) ≡ but-last (pieces b (after b n l))
-unfolding after but-last pieces
+pub lines-after : (b n : ℕ) (l : List ℕ) → drop n (but-last (pieces b l)) ≡ but-last (pieces b (after-pieces b n l))
+unfolding after-pieces but-last pieces
 lines-after b zero l = refl
 lines-after b (suc n) l = go (ltb (find b l) (length l)) refl (lines-after b n (drop (suc (find b l)) l))
   where
     go : (t : Bool) → ltb (find b l) (length l) ≡ t
-        → drop n (but-last (pieces b (drop (suc (find b l)) l))) ≡ but-last (pieces b (after b n (drop (suc (find b l)) l)))
-        → drop (suc n) (but-last (pieces b l)) ≡ but-last (pieces b (after b n (drop (suc (find b l)) l)))
+        → drop n (but-last (pieces b (drop (suc (find b l)) l))) ≡ but-last (pieces b (after-pieces b n (drop (suc (find b l)) l)))
+        → drop (suc n) (but-last (pieces b l)) ≡ but-last (pieces b (after-pieces b n (drop (suc (find b l)) l)))
     go true e ih = rw (pieces-cut b l, others-more b l (ltb-true _ _ e), but-last-onto b (take (find b l) l) (drop (suc (find b l)) l)) ih
     go false e ih =
         let r : drop (suc (find b l)) l ≡ [] = drop-of-length-le l {i = suc (find b l)} (omega (arith, ltb-false (find b l) (length l) e)) in
         rw (pieces-cut b l, others-none b l (ltb-false _ _ e), r, after-nil b n)
 
-after-suc : (b n : ℕ) (l : List ℕ) → after b (suc n) l ≡ after b n (drop (suc (find b l)) l)
-unfolding after
+after-suc : (b n : ℕ) (l : List ℕ) → after-pieces b (suc n) l ≡ after-pieces b n (drop (suc (find b l)) l)
+unfolding after-pieces
 after-suc b n l = refl
 
 -- one piece more is passed
 pub after-more : (b n k at : ℕ) (l : List ℕ) {end next : ℕ} → k < n → end ≡ at + find b (drop at l) → next ≡ min (end + 1) (length l)
-    → after b (n - k) (drop at l) ≡ after b (n - (k + 1)) (drop next l)
+    → after-pieces b (n - k) (drop at l) ≡ after-pieces b (n - (k + 1)) (drop next l)
 after-more b n k at l {end} {next} h e r =
     let j : n - k ≡ suc (n - (k + 1)) = omega arith in
     let f : at + suc (find b (drop at l)) ≡ end + 1 = omega arith in

@@ -17,9 +17,9 @@ unfoldable pub others : ℕ → List ℕ → List (List ℕ)
 others b l = if (ltb (find b l) (length l)) (pieces b (drop (suc (find b l)) l)) []
 
 -- the text after n pieces, and nothing where there are fewer
-unfoldable pub after : ℕ → ℕ → List ℕ → List ℕ
-after b zero l = l
-after b (suc n) l = after b n (drop (suc (find b l)) l)
+unfoldable pub after-pieces : ℕ → ℕ → List ℕ → List ℕ
+after-pieces b zero l = l
+after-pieces b (suc n) l = after-pieces b n (drop (suc (find b l)) l)
 
 abbrev pub two? : List (List ℕ) → Bool
 two? [] = false

@@ -27,23 +27,23 @@ pub record Wrote (at : ℕ) (text before after : List ℕ) (next : ℕ) : Type 0
   pub end : next ≡ at + length text
 
 -- a line stands at the front of a buffer, `next` bytes long, and what lies past it is as it was
-pub record Line (text before after : List ℕ) (next : ℕ) : Type 0 where
+pub record WroteLine (text before after : List ℕ) (next : ℕ) : Type 0 where
   pub out : after ≡ put text before
   pub end : next ≡ length text
   pub short : next ≤ Line-ROOM
 
--- two numbers with a byte before, between and after them: a gap range is `pair 91 low 44 high 93`, and a line ends in
--- `pair 32 a 32 b 10`
-unfoldable pub pair : ℕ → ℕ → ℕ → ℕ → ℕ → List ℕ
-pair before a between b after = before ∷ decimal a ++ between ∷ decimal b ++ after ∷ []
+-- two numbers with a byte before, between and after them: a gap range is `number-pair 91 low 44 high 93`, and a line ends in
+-- `number-pair 32 a 32 b 10`
+unfoldable pub number-pair : ℕ → ℕ → ℕ → ℕ → ℕ → List ℕ
+number-pair before a between b after = before ∷ decimal a ++ between ∷ decimal b ++ after ∷ []
 
 -- the first n of the last j letters of a motif
-unfoldable pub letters : ℕ → ℕ → ℕ → List ℕ
-letters n j m = map letter (take n (spell Letter-BASES j m))
+unfoldable pub motif-letters : ℕ → ℕ → ℕ → List ℕ
+motif-letters n j m = map letter (take n (spell Letter-BASES j m))
 
 -- a component after the first: its gap range, and its letters, the first of the last j of the motif
 unfoldable pub ranged-word : Component → ℕ → ℕ → List ℕ
-ranged-word c j m = pair 91 (c .low) 44 (c .high) 93 ++ letters (c .length) j m
+ranged-word c j m = number-pair 91 (c .low) 44 (c .high) 93 ++ motif-letters (c .length) j m
 
 -- the letters of the components from index i on, and their part of a motif's shape
 unfoldable pub size-from : Template → ℕ → ℕ
@@ -57,11 +57,11 @@ unfoldable pub row : Template → ℕ → ℕ → ℕ → List ℕ
 row t m support weight = print-motif t m ++ 32 ∷ decimal support ++ 32 ∷ decimal weight ++ 10 ∷ []
 
 -- a page: the lines of the rows of three tables, one after another
-unfoldable pub page : Template → List ℕ → List ℕ → List ℕ → List ℕ
-page t (m ∷ ms) (s ∷ ss) (w ∷ ws) = row t m s w ++ page t ms ss ws
-page t [] ss ws = []
-page t (m ∷ ms) [] ws = []
-page t (m ∷ ms) (s ∷ ss) [] = []
+unfoldable pub printed-page : Template → List ℕ → List ℕ → List ℕ → List ℕ
+printed-page t (m ∷ ms) (s ∷ ss) (w ∷ ws) = row t m s w ++ printed-page t ms ss ws
+printed-page t [] ss ws = []
+printed-page t (m ∷ ms) [] ws = []
+printed-page t (m ∷ ms) (s ∷ ss) [] = []
 
 -- a page of n rows stands at the front of a buffer, `next` bytes long, and what lies past it is as it was
 pub record Page (n : ℕ) (text before after : List ℕ) (next : ℕ) : Type 0 where

@@ -15,7 +15,7 @@ ghost use lib.ListN.{length, getD, take, drop};
 ghost use Rattle.rules.specs.Limits.{Text-BYTES, Text-QUORUM-DIGITS};
 ghost use Rattle.rules.specs.Lists.{all?};
 ghost use Rattle.rules.specs.Template.{none};
-ghost use Rattle.rules.specs.Text.{well-formed?, or-else, pieces, between, number?, digits, run?, ranged, parse-number, parse-ranged, parse-component, parse-first, parse-components, template-of};
+ghost use Rattle.rules.specs.Text.{well-formed?, or-else, pieces, in-range?, number?, digits, run?, ranged, parse-number, parse-ranged, parse-component, parse-first, parse-components, template-of};
 ghost use Rattle.text.specs.Parsed.{toldNumber, toldPiece, Below};
 
 // What the text of a number comes to.
@@ -32,14 +32,14 @@ pub(crate) enum Piece {
 
 // Whether a byte is one of `low` to `high`.
 fn between(low: u8, high: u8, b: u8) -> bool
-    ensures { λ r. ⌜ r ≡ between low high b ⌝ }
+    ensures { λ r. ⌜ r ≡ in-range? low high b ⌝ }
 {
     (low <= b) & (b <= high)
 }
 
 // Whether every byte is one of `low` to `high`.
 fn all_between(low: u8, high: u8, text: &[u8]) -> bool
-    ensures { λ r. ⌜ r ≡ all? (between low high) (now (text .entry)) ⌝ }
+    ensures { λ r. ⌜ r ≡ all? (in-range? low high) (now (text .entry)) ⌝ }
 {
     let mut i = 0;
     while i < text.len() {
@@ -70,7 +70,7 @@ pub(crate) fn is_number(most: usize, text: &[u8]) -> bool
 
 // The number that some digits make.
 fn value(text: &[u8]) -> u64
-    requires { ⌜ (all? (between 48 57) (now text) ≡ true) × (length (now text) ≤ Text-QUORUM-DIGITS) ⌝ }
+    requires { ⌜ (all? (in-range? 48 57) (now text) ≡ true) × (length (now text) ≤ Text-QUORUM-DIGITS) ⌝ }
     ensures { λ r. ⌜ (r ≡ digits (now (text .entry))) × (r < 10 ^ length (now (text .entry))) ⌝ }
 {
     let mut value: u64 = 0;

@@ -5,7 +5,7 @@ ghost use Prim.Native.Nat.{_+_, _≤_, min};
 ghost use lib.ListN.{length, drop};
 ghost use Rattle.rules.specs.Lists.{member?};
 ghost use Rattle.rules.specs.Text.{pieces, last};
-ghost use Rattle.text.specs.Pieces.{find, after, two?};
+ghost use Rattle.text.specs.Pieces.{find, after-pieces, two?};
 
 // Whether a byte is among some. All are looked at, also past it: with no way out of the loop, many can be taken at a time.
 fn among(b: u8, bytes: &[u8]) -> bool
@@ -60,7 +60,7 @@ fn past(at: usize, end: usize) -> usize
 
 // Where the text goes on after `n` pieces; its end where there are fewer.
 pub(crate) fn skip(b: u8, n: usize, text: &[u8]) -> usize
-    ensures { λ r. ⌜ (r ≤ length (now (text .entry))) × (drop r (now (text .entry)) ≡ after b n (now (text .entry))) ⌝ }
+    ensures { λ r. ⌜ (r ≤ length (now (text .entry))) × (drop r (now (text .entry)) ≡ after-pieces b n (now (text .entry))) ⌝ }
 {
     let mut at = 0;
     let mut k = 0;

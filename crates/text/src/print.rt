@@ -10,7 +10,7 @@ ghost use Rattle.rules.specs.Limits.{Template-COMPONENTS, Template-LETTERS};
 ghost use Rattle.rules.specs.Text.{decimal, print-motif, print-end, print-refused};
 ghost use Rattle.rules.specs.Template.{slots, none};
 ghost use Rattle.rules.specs.Sound.{SoundTemplate};
-ghost use Rattle.text.specs.Printed.{Line-ROOM, Wrote, Line, pair, letters, ranged-word, size-from, shape-from, row, page, Page};
+ghost use Rattle.text.specs.Printed.{Line-ROOM, Wrote, WroteLine, number-pair, motif-letters, ranged-word, size-from, shape-from, row, printed-page, Page};
 
 // Room for the longest line that is printed.
 pub const LINE: usize = 256;
@@ -41,7 +41,7 @@ fn print_number(n: u64, at: usize, out: &mut [u8]) -> usize
 // The first `n` of the last `left` letters of a motif.
 fn print_letters(motif: u64, left: u64, n: u64, at: usize, out: &mut [u8]) -> usize
     requires { ⌜ (n ≤ left) × (left ≤ Template-LETTERS) × (at + n ≤ length (now out)) ⌝ }
-    ensures { λ r. ⌜ Wrote at (letters n left motif) (now (out .entry)) (now (out .exit)) r ⌝ }
+    ensures { λ r. ⌜ Wrote at (motif-letters n left motif) (now (out .entry)) (now (out .exit)) r ⌝ }
 {
     let mut next = at;
     let mut i = 0;
@@ -67,8 +67,8 @@ fn print_pair(
     at: usize,
     out: &mut [u8],
 ) -> usize
-    requires { ⌜ at + length (pair before a between b after) ≤ length (now out) ⌝ }
-    ensures { λ r. ⌜ Wrote at (pair before a between b after) (now (out .entry)) (now (out .exit)) r ⌝ }
+    requires { ⌜ at + length (number-pair before a between b after) ≤ length (now out) ⌝ }
+    ensures { λ r. ⌜ Wrote at (number-pair before a between b after) (now (out .entry)) (now (out .exit)) r ⌝ }
 {
     let first = print_byte(before, at, out);
     let second = print_number(a, first, out);
@@ -131,7 +131,7 @@ fn print_motif(template: Template, motif: u64, out: &mut [u8]) -> usize
 // A row: the motif in the template's shape, its support and its weighted support.
 pub fn print_row(template: Template, motif: u64, support: u32, weight: u64, out: &mut [u8]) -> usize
     requires { ⌜ SoundTemplate template × (Line-ROOM ≤ length (now out)) ⌝ }
-    ensures { λ r. ⌜ Line (row template motif support weight) (now (out .entry)) (now (out .exit)) r ⌝ }
+    ensures { λ r. ⌜ WroteLine (row template motif support weight) (now (out .entry)) (now (out .exit)) r ⌝ }
 {
     let next = print_motif(template, motif, out);
     let marks = support as u64;
@@ -165,7 +165,7 @@ pub fn print_page(
     requires { ⌜ (1 ≤ rows → SoundTemplate template) ⌝ }
     requires { ⌜ (rows ≤ length (now motifs)) × (rows ≤ length (now supports)) × (rows ≤ length (now weights)) ⌝ }
     requires { ⌜ rows * Line-ROOM ≤ length (now out) ⌝ }
-    ensures { λ r. ⌜ Page rows (page template (take rows (now (motifs .entry))) (take rows (now (supports .entry))) (take rows (now (weights .entry)))) (now (out .entry)) (now (out .exit)) r ⌝ }
+    ensures { λ r. ⌜ Page rows (printed-page template (take rows (now (motifs .entry))) (take rows (now (supports .entry))) (take rows (now (weights .entry)))) (now (out .entry)) (now (out .exit)) r ⌝ }
 {
     let mut next: usize = 0;
     let mut i: usize = 0;
@@ -192,7 +192,7 @@ pub(crate) fn write_bytes(text: &[u8], at: usize, out: &mut [u8]) -> usize
 // The last line: "end", the steps, the rows.
 pub fn print_end(steps: u64, rows: u64, out: &mut [u8]) -> usize
     requires { ⌜ Line-ROOM ≤ length (now out) ⌝ }
-    ensures { λ r. ⌜ Line (print-end steps rows) (now (out .entry)) (now (out .exit)) r ⌝ }
+    ensures { λ r. ⌜ WroteLine (print-end steps rows) (now (out .entry)) (now (out .exit)) r ⌝ }
 {
     let next = write_bytes(b"end", 0, out);
     print_pair(b' ', steps, b' ', rows, b'\n', next, out)
@@ -201,7 +201,7 @@ pub fn print_end(steps: u64, rows: u64, out: &mut [u8]) -> usize
 // The only line of a refusal: "refused", its number, its place.
 pub fn print_refused(number: u64, place: u64, out: &mut [u8]) -> usize
     requires { ⌜ Line-ROOM ≤ length (now out) ⌝ }
-    ensures { λ r. ⌜ Line (print-refused number place) (now (out .entry)) (now (out .exit)) r ⌝ }
+    ensures { λ r. ⌜ WroteLine (print-refused number place) (now (out .entry)) (now (out .exit)) r ⌝ }
 {
     let next = write_bytes(b"refused", 0, out);
     print_pair(b' ', number, b' ', place, b'\n', next, out)

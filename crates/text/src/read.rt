@@ -20,7 +20,7 @@ ghost use lib.ListN.{length, getD, take, drop};
 ghost use Rattle.rules.specs.Limits.{Text-BYTES, Text-QUORUM-DIGITS};
 ghost use Rattle.rules.specs.Lists.{put, some?};
 ghost use Rattle.rules.specs.Refusals.{_else_, first};
-ghost use Rattle.rules.specs.Text.{well-formed?, lines, line, unended, refuse-line, text-checks, parse-components, parse-number, parse-template, parse-quorum, parse-letters, parse-lengths};
+ghost use Rattle.rules.specs.Text.{well-formed?, lines, nth-line, unended, refuse-line, text-checks, parse-components, parse-number, parse-template, parse-quorum, parse-letters, parse-lengths};
 ghost use Rattle.rules.specs.Told.{fine, toldChecked};
 ghost use Rattle.text.specs.Printed.{Wrote};
 
@@ -46,7 +46,7 @@ fn find_line(n: usize, input: &[u8]) -> Span
 // The first line is a template's.
 fn check_template(input: &[u8]) -> Checked
     requires { ⌜ length (now input) ≤ Text-BYTES ⌝ }
-    ensures { λ r. ⌜ toldChecked r ≡ refuse-line (not (well-formed? (parse-components (line (now (input .entry)) 1)))) 1 ⌝ }
+    ensures { λ r. ⌜ toldChecked r ≡ refuse-line (not (well-formed? (parse-components (nth-line (now (input .entry)) 1)))) 1 ⌝ }
 {
     let span = find_line(0, input);
     let start = span.start;
@@ -57,7 +57,7 @@ fn check_template(input: &[u8]) -> Checked
 
 // The second line is a number.
 fn check_quorum(input: &[u8]) -> Checked
-    ensures { λ r. ⌜ toldChecked r ≡ refuse-line (not (well-formed? (parse-number Text-QUORUM-DIGITS (line (now (input .entry)) 2)))) 2 ⌝ }
+    ensures { λ r. ⌜ toldChecked r ≡ refuse-line (not (well-formed? (parse-number Text-QUORUM-DIGITS (nth-line (now (input .entry)) 2)))) 2 ⌝ }
 {
     let span = find_line(1, input);
     let start = span.start;

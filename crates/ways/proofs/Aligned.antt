@@ -13,7 +13,7 @@ use Rattle.rules.specs.Sound.{SoundComponent, SoundTemplate}
 use Rattle.rules.specs.Template.{Part, Reading, none, slots, components, size, part-of, deal}
 use Rattle.rules.specs.declared.Component.{Component}
 use Rattle.rules.specs.declared.Template.{Template}
-use Rattle.ways.specs.Counts.{counts, most-ways, entry, ending, leading, letters-of, by-bases, aligned}
+use Rattle.ways.specs.Counts.{counts, most-ways, at-position, ending, leading, letters-taken, by-bases, aligned}
 use Rattle.ways.proofs.Counting.{counts-after, ending-counts, ending-most, leading-counts, leading-most}
 
 -- ---- dealing out the letters
@@ -26,8 +26,8 @@ deal-some R n c cs [] h = absurd (omega arith)
 deal-some R n c cs (x ∷ w) h = refl
 
 -- the later components take no more letters than all
-pub letters-within : (cs : List Component) (c : ℕ) → letters-of (drop c cs) ≤ letters-of cs
-unfolding letters-of sum
+pub letters-within : (cs : List Component) (c : ℕ) → letters-taken (drop c cs) ≤ letters-taken cs
+unfolding letters-taken sum
 letters-within cs zero = omega arith
 letters-within [] (suc c) = omega arith
 letters-within (x ∷ cs) (suc c) = omega (arith, letters-within cs c)
@@ -58,25 +58,25 @@ module _ {t : Template} {cs : List Component} {w : List ℕ} (held : Held t cs w
   onward-end : (c : ℕ) → t .count ≤ c → onward cs (t .count) c ≡ []
   onward-end c h = drop-of-length-le (take (t .count) cs) {i = c} (rw counted h)
 
-  letters-step : (c : ℕ) → c < t .count → letters-of (onward cs (t .count) c) ≡ (getD cs c none) .length + letters-of (onward cs (t .count) (suc c))
-  unfolding letters-of sum
+  letters-step : (c : ℕ) → c < t .count → letters-taken (onward cs (t .count) c) ≡ (getD cs c none) .length + letters-taken (onward cs (t .count) (suc c))
+  unfolding letters-taken sum
   letters-step c h = rw (onward-step c h)
 
-  letters-fit : (c : ℕ) → letters-of (onward cs (t .count) c) ≤ length w
-  unfolding size components letters-of
-  letters-fit c = let e : letters-of (take (t .count) cs) ≡ size t = rw (held .slotted) in omega (arith, held .fits, letters-within (take (t .count) cs) c)
+  letters-fit : (c : ℕ) → letters-taken (onward cs (t .count) c) ≤ length w
+  unfolding size components letters-taken
+  letters-fit c = let e : letters-taken (take (t .count) cs) ≡ size t = rw (held .slotted) in omega (arith, held .fits, letters-within (take (t .count) cs) c)
 
   -- past the last component none begin
-  pub begins-none : length w + letters-of (onward cs (t .count) (t .count)) ≡ length w
-  unfolding letters-of sum
+  pub begins-none : length w + letters-taken (onward cs (t .count) (t .count)) ≡ length w
+  unfolding letters-taken sum
   begins-none = rw (onward-end (t .count) (omega arith), add-zero (length w))
 
   -- those of a component end at b, where those of the next begin
-  pub begins-more : (c b : ℕ) → c < t .count → b + letters-of (onward cs (t .count) (suc c)) ≡ length w → ((getD cs c none) .length ≤ b) × ((b - (getD cs c none) .length) + letters-of (onward cs (t .count) c) ≡ length w)
+  pub begins-more : (c b : ℕ) → c < t .count → b + letters-taken (onward cs (t .count) (suc c)) ≡ length w → ((getD cs c none) .length ≤ b) × ((b - (getD cs c none) .length) + letters-taken (onward cs (t .count) c) ≡ length w)
   begins-more c b h e = let l = letters-step c h in let n = letters-fit c in (omega arith, omega arith)
 
   -- the letters of the component c, which begin at b
-  module _ (c b : ℕ) (within : c < t .count) (begins : b + letters-of (onward cs (t .count) c) ≡ length w) where
+  module _ (c b : ℕ) (within : c < t .count) (begins : b + letters-taken (onward cs (t .count) c) ≡ length w) where
     abbrev pub own : List ℕ
     own = take (b + (getD cs c none) .length - b) (drop b w)
 
@@ -105,7 +105,7 @@ module _ {t : Template} {cs : List Component} {w : List ℕ} (held : Held t cs w
     -- with none before them
     aligned-dealt : aligned (onward cs (t .count) c) w ≡ deal by-bases 0 (onward cs (t .count) c) (drop b w)
     unfolding aligned
-    aligned-dealt = let here : length w - letters-of (onward cs (t .count) c) ≡ b = omega arith in rw here
+    aligned-dealt = let here : length w - letters-taken (onward cs (t .count) c) ≡ b = omega arith in rw here
 
     -- the pass of the last component
     pub last-made : (s : List ℕ) → suc c ≡ t .count → {y : List ℕ} → y ≡ map (ending own s) (run 1 (length s)) → y ≡ counts (aligned (onward cs (t .count) c) w) s
@@ -113,7 +113,7 @@ module _ {t : Template} {cs : List Component} {w : List ℕ} (held : Held t cs w
     last-made s h e = e ∙ rw (aligned-dealt, own-dealt 0, onward-end (suc c) (omega arith)) (ending-counts 0 (getD cs c none) own s)
 
   -- the pass of a component c before others, d the next
-  pub next-made : (s : List ℕ) (c d b : ℕ) (after : d ≡ suc c) (h : d < t .count) (k : c < t .count) (e : b + letters-of (onward cs (t .count) c) ≡ length w) → {x y : List ℕ}
+  pub next-made : (s : List ℕ) (c d b : ℕ) (after : d ≡ suc c) (h : d < t .count) (k : c < t .count) (e : b + letters-taken (onward cs (t .count) c) ≡ length w) → {x y : List ℕ}
       → x ≡ counts (aligned (onward cs (t .count) d) w) s
       → y ≡ map (leading (own c b k e) ((getD cs d none) .low) ((getD cs d none) .high) s x) (run 1 (length s))
       → y ≡ counts (aligned (onward cs (t .count) c) w) s
@@ -121,7 +121,7 @@ module _ {t : Template} {cs : List Component} {w : List ℕ} (held : Held t cs w
   next-made s c d b after h k e {x} {y} ex ey =
       let n = (getD cs c none) .length in
       let l : onward cs (t .count) (suc c) ≡ onward cs (t .count) d = rw after in
-      let e′ : b + n + letters-of (onward cs (t .count) d) ≡ length w = rw after (omega (arith, letters-step c k)) in
+      let e′ : b + n + letters-taken (onward cs (t .count) d) ≡ length w = rw after (omega (arith, letters-step c k)) in
       let some : 0 < length (own d (b + n) h e′) = rw (own-length d (b + n) h e′) (component-sound d h .some) in
       let later : x ≡ counts (deal by-bases n (onward cs (t .count) d) (drop (b + n) w)) s = ex ∙ rw (aligned-dealt d (b + n) h e′) (counts-after by-bases 0 n (onward cs (t .count) d) (drop (b + n) w) s) in
       let near = ap (λ n. n + (getD cs d none) .low) (sym (own-length c b k e)) in
@@ -129,16 +129,16 @@ module _ {t : Template} {cs : List Component} {w : List ℕ} (held : Held t cs w
       ey ∙ rw (later, aligned-dealt c b k e, own-dealt c b k e 0, l, own-dealt d (b + n) h e′ n) (leading-counts 0 (getD cs c none) (own c b k e) s (own-part d (b + n) h e′ n) _ _ _ near far some)
 
   -- no count is too large: k components follow, each at one of so many distances
-  counts-most : (s : List ℕ) (k c : ℕ) → suc (c + k) ≡ t .count → (p : ℕ) → entry (counts (aligned (onward cs (t .count) c) w) s) p ≤ (Template-GAP + 1) ^ k
+  counts-most : (s : List ℕ) (k c : ℕ) → suc (c + k) ≡ t .count → (p : ℕ) → at-position (counts (aligned (onward cs (t .count) c) w) s) p ≤ (Template-GAP + 1) ^ k
   counts-most s zero c h p =
-      let e : length w - letters-of (onward cs (t .count) c) + letters-of (onward cs (t .count) c) ≡ length w = omega (arith, letters-fit c) in
+      let e : length w - letters-taken (onward cs (t .count) c) + letters-taken (onward cs (t .count) c) ≡ length w = omega (arith, letters-fit c) in
       rw pow-zero (ending-most _ s (length s) (sym (last-made c _ (omega arith) e s (omega arith) refl)) p)
   counts-most s (suc k) c h p =
-      let e : length w - letters-of (onward cs (t .count) c) + letters-of (onward cs (t .count) c) ≡ length w = omega (arith, letters-fit c) in
+      let e : length w - letters-taken (onward cs (t .count) c) + letters-taken (onward cs (t .count) c) ≡ length w = omega (arith, letters-fit c) in
       let next : suc c < t .count = omega arith in
       rw pow-succ' (leading-most _ _ _ s _ _ (length s) (component-sound (suc c) next .near) (counts-most s k (suc c) (omega arith)) (sym (next-made s c (suc c) _ refl next (omega arith) e refl refl)) p)
 
-  pub counts-small : (s : List ℕ) (c : ℕ) → c < t .count → {y : List ℕ} → y ≡ counts (aligned (onward cs (t .count) c) w) s → (p : ℕ) → entry y p ≤ most-ways
+  pub counts-small : (s : List ℕ) (c : ℕ) → c < t .count → {y : List ℕ} → y ≡ counts (aligned (onward cs (t .count) c) w) s → (p : ℕ) → at-position y p ≤ most-ways
   counts-small s c h e p =
       let k : suc (c + (t .count - suc c)) ≡ t .count = omega arith in
       let few : t .count - suc c ≤ Template-COMPONENTS - 1 = omega (arith, held .sound .few) in

@@ -14,11 +14,11 @@ use Rattle.rules.specs.Lists.{run, if, sum}
 use Rattle.rules.specs.Occurrence.{stands-by, reach, ways}
 use Rattle.rules.specs.Template.{Part, Reading, part-of, deal}
 use Rattle.rules.specs.declared.Component.{Component}
-use Rattle.ways.specs.Counts.{stands, counts, entry, cell, ending, leading, by-bases}
-use Rattle.ways.proofs.Standing.{stands-by-short}
+use Rattle.ways.specs.Counts.{stands-in-bytes, counts, at-position, cell, ending, leading, by-bases}
+use Rattle.ways.proofs.LetterByLetter.{stands-by-short}
 use Rattle.rules.proofs.Over.{length-map-run, getD-map-run}
 use Rattle.rules.proofs.Tables.{map-same}
-use Rattle.ways.proofs.Tables.{over-most, window-most}
+use Rattle.ways.proofs.FilledTables.{over-most, window-most}
 
 -- one count for each letter of the sequence
 pub length-counts : (cs : List Part) (s : List ℕ) → length (counts cs s) ≡ length s
@@ -42,8 +42,8 @@ unfolding counts
 counts-inside cs s o h = getD-map-run (ways cs s) 0 1 (length s) o h ∙ ap (ways cs s) (one-add o)
 
 -- and 0 where there are none
-counts-at : (c : Part) (cs : List Part) (s : List ℕ) → 0 < length (c .word) → (p : ℕ) → entry (counts (c ∷ cs) s) p ≡ ways (c ∷ cs) s p
-unfolding entry
+counts-at : (c : Part) (cs : List Part) (s : List ℕ) → 0 < length (c .word) → (p : ℕ) → at-position (counts (c ∷ cs) s) p ≡ ways (c ∷ cs) s p
+unfolding at-position
 counts-at c cs s some zero = sym (ways-none c cs s)
 counts-at c cs s some (suc o) =
     elim (decLt o (length s)) [
@@ -79,12 +79,12 @@ module _ (n : ℕ) (c : Component) (w s : List ℕ) where
   unfolding counts leading cell ways
   leading-counts d ds low high near far some =
       map-same (leading w low high s (counts (d ∷ ds) s)) (ways (part-of by-bases n c w ∷ d ∷ ds) s)
-      (λ p. rw (← near, ← far, map-same (entry (counts (d ∷ ds) s)) (ways (d ∷ ds) s) (counts-at d ds s some) (reach (d .near) (d .far) p)))
+      (λ p. rw (← near, ← far, map-same (at-position (counts (d ∷ ds) s)) (ways (d ∷ ds) s) (counts-at d ds s some) (reach (d .near) (d .far) p)))
       (run 1 (length s))
 
 -- what a sliding sum has at an offset goes into the cell there
 pub leading-at : (w : List ℕ) (low high : ℕ) (s later : List ℕ) (o : ℕ) {t v : ℕ}
-    → t ≡ sum (map (entry later) (run (suc (o + (length w + low))) (high + 1 - low))) → v ≡ cell w s (suc o) t → v ≡ leading w low high s later (suc o)
+    → t ≡ sum (map (at-position later) (run (suc (o + (length w + low))) (high + 1 - low))) → v ≡ cell w s (suc o) t → v ≡ leading w low high s later (suc o)
 unfolding leading reach
 leading-at w low high s later o et ev =
     let span : length w + high + 1 - (length w + low) ≡ high + 1 - low = omega arith in
@@ -94,21 +94,21 @@ leading-at w low high s later o et ev =
 
 cell-most : (w s : List ℕ) (p v : ℕ) → cell w s p v ≤ v
 unfolding cell
-cell-most w s p v = elim (stands w s p) as (λ b. if b v 0 ≤ v) [ true ↦ omega arith | false ↦ omega arith ]
+cell-most w s p v = elim (stands-in-bytes w s p) as (λ b. if b v 0 ≤ v) [ true ↦ omega arith | false ↦ omega arith ]
 
 -- the last part stands at a position or does not
-pub ending-most : (w s : List ℕ) (n : ℕ) {y : List ℕ} → y ≡ map (ending w s) (run 1 n) → (p : ℕ) → entry y p ≤ 1
+pub ending-most : (w s : List ℕ) (n : ℕ) {y : List ℕ} → y ≡ map (ending w s) (run 1 n) → (p : ℕ) → at-position y p ≤ 1
 unfolding ending
 ending-most w s n e = over-most (ending w s) 1 (λ p. cell-most w s p 1) n e
 
 -- a pass multiplies by no more than the distances at which the next part may start
-pub leading-most : (w : List ℕ) (low high : ℕ) (s later : List ℕ) (b n : ℕ) → high ≤ Template-GAP → ((p : ℕ) → entry later p ≤ b)
-    → {y : List ℕ} → y ≡ map (leading w low high s later) (run 1 n) → (p : ℕ) → entry y p ≤ (Template-GAP + 1) * b
+pub leading-most : (w : List ℕ) (low high : ℕ) (s later : List ℕ) (b n : ℕ) → high ≤ Template-GAP → ((p : ℕ) → at-position later p ≤ b)
+    → {y : List ℕ} → y ≡ map (leading w low high s later) (run 1 n) → (p : ℕ) → at-position y p ≤ (Template-GAP + 1) * b
 unfolding leading reach
 leading-most w low high s later b n near h e =
     over-most (leading w low high s later) ((Template-GAP + 1) * b)
     (λ p.
     le-trans (cell-most w s p _)
-    (le-trans (window-most (entry later) b h (p + (length w + low)) (length w + high + 1 - (length w + low))) (mul-le-mul-right b (omega arith))))
+    (le-trans (window-most (at-position later) b h (p + (length w + low)) (length w + high + 1 - (length w + low))) (mul-le-mul-right b (omega arith))))
     n
     e

@@ -1,7 +1,7 @@
 -- The laws that the proofs of this crate's functions lean on.
-pub mod Standing
-pub mod Tables
+pub mod LetterByLetter
+pub mod FilledTables
 pub mod Counting
 pub mod Aligned
-pub mod Bytes
+pub mod SetsInBytes
 pub mod Motifs

@@ -21,20 +21,20 @@ abbrev pub most-ways : ℕ
 most-ways = (Template-GAP + 1) ^ (Template-COMPONENTS - 1)
 
 -- A PASS. What a list of counts has for a position; 0 where it has none
-unfoldable pub entry : List ℕ → ℕ → ℕ
-entry l zero = 0
-entry l (suc o) = getD l o 0
+unfoldable pub at-position : List ℕ → ℕ → ℕ
+at-position l zero = 0
+at-position l (suc o) = getD l o 0
 
 -- the letters w, each given by the bases that it stands for, stand in the bytes s at a position
 abbrev pub fits-byte : ℕ → ℕ → Bool
 fits-byte set b = has-base set (value b)
 
-abbrev pub stands : List ℕ → List ℕ → ℕ → Bool
-stands w s p = stands-by fits-byte 0 w s p
+abbrev pub stands-in-bytes : List ℕ → List ℕ → ℕ → Bool
+stands-in-bytes w s p = stands-by fits-byte 0 w s p
 
 -- v where they do, and else 0
 unfoldable pub cell : List ℕ → List ℕ → ℕ → ℕ → ℕ
-cell w s p v = if (stands w s p) v 0
+cell w s p v = if (stands-in-bytes w s p) v 0
 
 -- the ways of the last part
 unfoldable pub ending : List ℕ → List ℕ → ℕ → ℕ
@@ -42,11 +42,11 @@ ending w s p = cell w s p 1
 
 -- the ways of a part and those after it, from the counts of those: the sum over all positions where the next may start
 unfoldable pub leading : List ℕ → ℕ → ℕ → List ℕ → List ℕ → ℕ → ℕ
-leading w low high s later p = cell w s p (sum (map (entry later) (reach (distance (length w) low) (distance (length w) high) p)))
+leading w low high s later p = cell w s p (sum (map (at-position later) (reach (distance (length w) low) (distance (length w) high) p)))
 
 -- THE LETTERS. How many letters some components take
-unfoldable pub letters-of : List Component → ℕ
-letters-of cs = sum (map (λ c. c .length) cs)
+unfoldable pub letters-taken : List Component → ℕ
+letters-taken cs = sum (map (λ c. c .length) cs)
 
 -- a letter is read as the bases that it stands for
 abbrev pub by-bases : Reading
@@ -54,4 +54,4 @@ by-bases = record { fits = fits-byte; slack = λ c. 0 }
 
 -- the parts that they are if their letters are the last of w, with none before them
 unfoldable pub aligned : List Component → List ℕ → List Part
-aligned cs w = deal by-bases 0 cs (drop (length w - letters-of cs) w)
+aligned cs w = deal by-bases 0 cs (drop (length w - letters-taken cs) w)

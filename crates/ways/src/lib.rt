@@ -11,12 +11,12 @@ ghost use Rattle.rules.specs.Limits.{Template-LENGTH, Template-GAP};
 ghost use Rattle.rules.specs.Lists.{run, sum};
 ghost use Rattle.rules.specs.Sound.{SoundComponent, SoundTemplate};
 ghost use Rattle.rules.specs.Template.{size, components};
-ghost use Rattle.ways.specs.Counts.{stands, counts, most-ways, entry, cell, ending, leading, letters-of, aligned};
+ghost use Rattle.ways.specs.Counts.{stands-in-bytes, counts, most-ways, at-position, cell, ending, leading, letters-taken, aligned};
 
 // Whether the letters of `word`, each given by the bases that it stands for, stand in `s` at the offset `o`.
 fn stands(word: &[u8], s: &[u8], o: usize) -> bool
     requires { ⌜ o ≤ length (now s) ⌝ }
-    ensures { λ r. ⌜ r ≡ stands (now (word .entry)) (now (s .entry)) (suc o) ⌝ }
+    ensures { λ r. ⌜ r ≡ stands-in-bytes (now (word .entry)) (now (s .entry)) (suc o) ⌝ }
 {
     if s.len() - o < word.len() {
         return false;
@@ -45,15 +45,15 @@ fn cell(word: &[u8], s: &[u8], o: usize, v: u64) -> u64
 
 // The number at `i`, and 0 past the end.
 fn at(a: &[u64], i: usize) -> u64
-    ensures { λ r. ⌜ r ≡ entry (now (a .entry)) (suc i) ⌝ }
+    ensures { λ r. ⌜ r ≡ at-position (now (a .entry)) (suc i) ⌝ }
 {
     if i < a.len() { a[i] } else { 0 }
 }
 
 // The sum of the `count` numbers from `from` on.
 fn window(a: &[u64], from: usize, count: usize) -> u64
-    requires { ⌜ (from ≤ Template-LENGTH + Template-GAP) × (count ≤ Template-GAP + 1) × ((p : ℕ) → entry (now a) p ≤ most-ways) ⌝ }
-    ensures { λ r. ⌜ r ≡ sum (map (entry (now (a .entry))) (run (suc from) count)) ⌝ }
+    requires { ⌜ (from ≤ Template-LENGTH + Template-GAP) × (count ≤ Template-GAP + 1) × ((p : ℕ) → at-position (now a) p ≤ most-ways) ⌝ }
+    ensures { λ r. ⌜ r ≡ sum (map (at-position (now (a .entry))) (run (suc from) count)) ⌝ }
 {
     let mut total: u64 = 0;
     let mut k = 0;
@@ -79,7 +79,7 @@ fn last(word: &[u8], s: &[u8], ways: &mut [u64])
 // The ways of a component and those after it, from the ways of those: `next` has the gap range between. One sum slides
 // along, so a wide range costs no more than a narrow one, and no place is read once it is written.
 fn pass(word: &[u8], next: Component, s: &[u8], ways: &mut [u64])
-    requires { ⌜ (length (now ways) ≡ length (now s)) × (length (now word) ≤ Template-LENGTH) × ((p : ℕ) → entry (now ways) p ≤ most-ways) ⌝ }
+    requires { ⌜ (length (now ways) ≡ length (now s)) × (length (now word) ≤ Template-LENGTH) × ((p : ℕ) → at-position (now ways) p ≤ most-ways) ⌝ }
     requires { ⌜ SoundComponent next ⌝ }
     ensures { λ _. ⌜ now (ways .exit) ≡ map (leading (now (word .entry)) (next .low) (next .high) (now (s .entry)) (now (ways .entry))) (run 1 (length (now (s .entry)))) ⌝ }
 {
@@ -101,7 +101,7 @@ fn pass(word: &[u8], next: Component, s: &[u8], ways: &mut [u64])
 fn begins(template: Template, word: &[u8], component: usize) -> usize
     requires { ⌜ SoundTemplate template ⌝ }
     requires { ⌜ (component ≤ template .count) × (size template ≤ length (now word)) ⌝ }
-    ensures { λ r. ⌜ r + letters-of (drop component (components template)) ≡ length (now (word .entry)) ⌝ }
+    ensures { λ r. ⌜ r + letters-taken (drop component (components template)) ≡ length (now (word .entry)) ⌝ }
 {
     let components = template.components();
     let mut begin = word.len();

@@ -9,7 +9,7 @@ use borrow.Author.Tests.{lt-ltb, le-ltb}
 use Rattle.rules.specs.Refusals.{bad-byte}
 use Rattle.rules.proofs.Verdicts.{here, later, over}
 use borrow.Author.Needs.{needs}
-use Rattle.checks.specs.Scanned.{LettersUpTo}
+use Rattle.checks.specs.ScannedLetters.{LettersUpTo}
 use Rattle.checks.proofs.find_mark.Statement.{statement}
 use Rattle.checks.proofs.find_mark.Tie as tie
 

@@ -6,7 +6,7 @@ use native.Mathlib.Nat.{zero-add}
 use native.Mathlib.Omega.{arith}
 use lib.ListN.{length}
 use Rattle.rules.proofs.Tests.{not-false}
-use Rattle.checks.specs.Scanned.{LettersUpTo}
+use Rattle.checks.specs.ScannedLetters.{LettersUpTo}
 use Rattle.checks.proofs.Laws.{letters-past}
 use Rattle.checks.proofs.pass_letters.Statement.{statement}
 use Rattle.checks.proofs.pass_letters.Tie as tie

@@ -7,7 +7,7 @@ use Prim.Native.Nat.{ℕ, suc, _+_, _-_, _≤_, _<_}
 use native.Mathlib.Omega.{arith}
 use lib.ListN.{length, take, drop, length-set}
 use lib.Seq.{take-set-le}
-use Rattle.descent.specs.Buffer.{buffer, Inside}
+use Rattle.descent.specs.Buffer.{buffer, InBuffer}
 use Rattle.descent.specs.Paths.{flag, handed}
 use Rattle.descent.proofs.Descent.{next-turn, handed-last, handed-full}
 use Rattle.descent.proofs.Paths.{handed-past, handed-again, handed-done}
@@ -53,7 +53,7 @@ abbrev descend-Inv-loop : descend-lts.InvT-loop
 descend-Inv-loop template component starts letters flags out₀ count next width end row p₀ q₀ out longer p q =
     let on = handed (drop component (components template)) letters flags row component in
     (length out ≡ length out₀)
-    × Inside p (length out)
+    × InBuffer p (length out)
     × (length longer ≡ Template-COMPONENTS + 1)
     × (take (suc component) longer ≡ take (suc component) row)
     × (q₀ ≤ q)

@@ -8,7 +8,7 @@ use Prim.Native.Nat.{suc, _+_, _-_, _≤_, _<_}
 use native.Mathlib.Omega.{arith}
 use lib.ListN.{length, take, length-set, length-take}
 use lib.Seq.{take-set-le}
-use Rattle.descent.specs.Buffer.{buffer, Inside}
+use Rattle.descent.specs.Buffer.{buffer, InBuffer}
 use Rattle.descent.specs.Paths.{flag, handed}
 use Rattle.descent.proofs.Descent.{last-turn}
 use Rattle.descent.proofs.Paths.{handed-past, handed-again, handed-done}
@@ -21,7 +21,7 @@ abbrev Inv-loop : tie.InvT-loop
 Inv-loop component starts letters flags out₀ last width end row p₀ q₀ out longer p q =
     let on = handed (none ∷ []) letters flags row component in
     (length out ≡ length out₀)
-    × Inside p (length out)
+    × InBuffer p (length out)
     × (length longer ≡ Template-COMPONENTS + 1)
     × (take (suc component) longer ≡ take (suc component) row)
     × (q₀ ≤ q)

@@ -6,7 +6,7 @@ use mathlib.Core.List.{_∷_}
 use Prim.Native.Nat.{_+_, _-_, _≤_}
 use native.Mathlib.Omega.{arith}
 use lib.ListN.{length, replicate}
-use Rattle.descent.specs.Buffer.{buffer, Inside}
+use Rattle.descent.specs.Buffer.{buffer, InBuffer}
 use Rattle.descent.specs.Paths.{handed}
 use Rattle.descent.proofs.Descent.{handed-full, handed-all}
 use Rattle.descent.proofs.Paths.{handed-past, handed-again, handed-done}
@@ -18,7 +18,7 @@ use Rattle.descent.proofs.list_starts.Tie as tie
 abbrev Inv-loop : tie.InvT-loop
 Inv-loop template letters flags ways out₀ width row end p₀ at₀ out p at =
     let on = handed (components template) letters flags row 0 in
-    (length out ≡ length out₀) × Inside p (length out) × (1 ≤ at) × (on at end (buffer p out) ≡ on at₀ end (buffer p₀ out₀))
+    (length out ≡ length out₀) × InBuffer p (length out) × (1 ≤ at) × (on at end (buffer p out) ≡ on at₀ end (buffer p₀ out₀))
 
 abbrev μ-loop : tie.MeasureT-loop
 μ-loop template letters flags ways out₀ width row end p₀ at₀ out p at = end - at

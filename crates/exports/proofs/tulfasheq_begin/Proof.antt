@@ -1,7 +1,7 @@
 -- A new search is saved; what that tells, as numbers.
 use borrow.Author.Needs.{needs}
 use Rattle.exports.specs.Exported.{profile-check, begin-outcome}
-use Rattle.exports.specs.Shape.{template-of}
+use Rattle.exports.specs.Shape.{shaped-template}
 use Rattle.exports.proofs.Outcomes.{begun-outcome}
 use Rattle.exports.proofs.tulfasheq_begin.Statement.{statement}
 use Rattle.exports.proofs.tulfasheq_begin.Tie as tie
@@ -28,7 +28,7 @@ returns : tie.Need-returns
 unfolding begin-outcome
 returns c =
     let b = c .before .before .before in
-    begun-outcome _ _ (profile-check _ _ _) (template-of _ _ _ _) _ _ (b .before .before .before .check-profile .ensures) (b .before .before .before .before .read .ensures) (b .before .before .begin .ensures) (c .saved2 .ensures) (b .save-begun .ensures)
+    begun-outcome _ _ (profile-check _ _ _) (shaped-template _ _ _ _) _ _ (b .before .before .before .check-profile .ensures) (b .before .before .before .before .read .ensures) (b .before .before .begin .ensures) (c .saved2 .ensures) (b .save-begun .ensures)
 
 pub tulfasheq-begin-spec : {M : Type 1} → statement M
 tulfasheq-begin-spec =

@@ -4,12 +4,12 @@ use native.Mathlib.Omega.{arith}
 use lib.ListN.{length}
 use borrow.Author.Count.{below-more}
 use borrow.Author.Needs.{needs}
-use Rattle.joins.specs.Pass.{Before}
+use Rattle.joins.specs.Pass.{LieBefore}
 use Rattle.joins.proofs.skip.Statement.{statement}
 use Rattle.joins.proofs.skip.Tie as tie
 
 abbrev Inv-loop : tie.InvT-loop
-Inv-loop list at least j₀ j = (j ≤ length list) × Before list j least
+Inv-loop list at least j₀ j = (j ≤ length list) × LieBefore list j least
 
 abbrev μ-loop : tie.MeasureT-loop
 μ-loop list at least j₀ j = length list - j

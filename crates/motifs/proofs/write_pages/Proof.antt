@@ -3,15 +3,15 @@ use borrow.Author.Needs.{needs}
 use mathlib.Core.Path.{_≡_, sym, _∙_}
 use native.Mathlib.Omega.{arith}
 use lib.ListN.{length, length-take}
-use Rattle.motifs.specs.Pages.{Ready}
-use Rattle.motifs.proofs.Laid.{amount}
+use Rattle.motifs.specs.Pages.{Printable}
+use Rattle.motifs.proofs.PagesLaid.{amount}
 use Rattle.motifs.proofs.Next.{ready-written, less-written}
 use Rattle.motifs.proofs.write_pages.Statement.{statement}
 use Rattle.motifs.proofs.write_pages.Tie as tie
 
 abbrev Inv-loop : tie.InvT-loop
 Inv-loop letters lengths motifs₀ supports₀ weights₀ out₀ left₀ motifs supports weights out left =
-    Ready letters lengths left
+    Printable letters lengths left
     × (length motifs ≡ length motifs₀)
     × (length supports ≡ length supports₀)
     × (length weights ≡ length weights₀)

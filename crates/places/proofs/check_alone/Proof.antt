@@ -2,7 +2,7 @@
 use mathlib.Core.Path.{sym, ap, _∙_}
 use borrow.Author.Needs.{needs}
 use Rattle.rules.specs.Told.{toldChecked}
-use Rattle.places.proofs.InTurn.{refused-before, left-to-13, set-is, template-is, rule-is}
+use Rattle.places.proofs.ChecksInTurn.{refused-before, left-to-13, set-is, template-is, rule-is}
 use Rattle.places.proofs.check_alone.Statement.{statement}
 use Rattle.places.proofs.check_alone.Tie as tie
 

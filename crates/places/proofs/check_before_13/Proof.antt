@@ -1,6 +1,6 @@
 -- The checks of the set, and then those of the search.
 use borrow.Author.Needs.{needs}
-use Rattle.places.proofs.InTurn.{before-told}
+use Rattle.places.proofs.ChecksInTurn.{before-told}
 use Rattle.places.proofs.check_before_13.Statement.{statement}
 use Rattle.places.proofs.check_before_13.Tie as tie
 

@@ -2,7 +2,7 @@
 use mathlib.Core.Path.{sym, ap, _∙_}
 use borrow.Author.Needs.{needs}
 use Rattle.rules.specs.Told.{toldChecked}
-use Rattle.places.proofs.InTurn.{refused-before, left-to-13, set-is, template-is, rule-is, not-fine}
+use Rattle.places.proofs.ChecksInTurn.{refused-before, left-to-13, set-is, template-is, rule-is, not-fine}
 use Rattle.places.proofs.check_search.Statement.{statement}
 use Rattle.places.proofs.check_search.Tie as tie
 

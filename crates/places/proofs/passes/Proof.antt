@@ -4,7 +4,7 @@ use native.Mathlib.Omega.{arith}
 use borrow.Author.Needs.{needs}
 use Rattle.rules.proofs.EachKind.{base-most}
 use Rattle.rules.proofs.Spells.{place-rule-says}
-use Rattle.matching.proofs.First.{slot-long, table-long, slot-is}
+use Rattle.matching.proofs.PathStart.{slot-long, table-long, slot-is}
 use Rattle.matching.proofs.Slots.{slot-same}
 use Rattle.places.proofs.Through.{passes-none, passes-by}
 use Rattle.places.proofs.passes.Statement.{statement}

@@ -6,8 +6,8 @@ use mathlib.Core.Path.{_∙_}
 use native.Mathlib.Omega.{arith}
 use lib.ListN.{length, length-map, length-take}
 use Rattle.descent.specs.Buffer.{buffer}
-use Rattle.descent.proofs.Flags.{listed-are}
-use Rattle.recovery.proofs.Marks.{counts-sum, counted}
+use Rattle.descent.proofs.RightFlags.{listed-are}
+use Rattle.recovery.proofs.FlagsFromWays.{counts-sum, counted}
 use Rattle.rules.specs.Letters.{value}
 use Rattle.rules.specs.Support.{parts}
 use Rattle.rules.specs.Template.{size}

@@ -5,8 +5,8 @@ use mathlib.Core.Path.{_≡_, refl, sym, _∙_}
 use Prim.Native.Nat.{suc, _+_, _-_, _*_, _≤_, _<_}
 use native.Mathlib.Omega.{arith}
 use lib.ListN.{length, drop, length-take, length-drop}
-use Rattle.descent.specs.Buffer.{buffer, progress, Inside}
-use Rattle.recovery.proofs.Rows.{going-through, through-all, through-none, through-again, left, left-all, left-none, left-more, left-few}
+use Rattle.descent.specs.Buffer.{buffer, progress, InBuffer}
+use Rattle.recovery.proofs.SequenceBySequence.{going-through, through-all, through-none, through-again, left, left-all, left-none, left-more, left-few}
 use Rattle.rules.specs.Limits.{SequenceSet-LETTERS, Template-COMPONENTS}
 use Rattle.rules.specs.Lists.{sum}
 use Rattle.rules.specs.Support.{parts}
@@ -23,7 +23,7 @@ Inv-loop letters lengths template motif first ways₀ flags₀ out₀ progress�
     × (length ways ≡ SequenceSet-LETTERS)
     × (length flags ≡ Template-COMPONENTS * SequenceSet-LETTERS)
     × (length out ≡ length out₀)
-    × Inside done (length out)
+    × InBuffer done (length out)
     × (begin + sum (drop i lengths) ≡ length letters)
     × (through i begin (buffer done out) ≡ through 0 0 (buffer progress₀ out₀))
     × (total + left cs lengths letters i begin ≡ left cs lengths letters 0 0)

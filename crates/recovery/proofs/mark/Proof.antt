@@ -6,7 +6,7 @@ use Prim.Native.Nat.{suc, _+_, _-_, _*_, _≤_, _<_}
 use native.Mathlib.Omega.{arith}
 use lib.ListN.{length, take, drop, length-map}
 use Rattle.descent.specs.Paths.{Flagged}
-use Rattle.recovery.proofs.Marks.{flagged-more, flagged-none}
+use Rattle.recovery.proofs.FlagsFromWays.{flagged-more, flagged-none}
 use Rattle.rules.specs.Letters.{value}
 use Rattle.rules.specs.Limits.{SequenceSet-LETTERS, Template-COMPONENTS, Template-LETTERS}
 use Rattle.rules.specs.Support.{parts}

@@ -6,7 +6,7 @@ use native.Mathlib.Omega.{arith}
 use lib.ListN.{drop, length-take, length-drop}
 use lib.Seq.{length-take-le}
 use Rattle.descent.proofs.Parts.{put-back}
-use Rattle.recovery.proofs.Marks.{front-counts}
+use Rattle.recovery.proofs.FlagsFromWays.{front-counts}
 use Rattle.rules.specs.Limits.{SequenceSet-LETTERS}
 use Rattle.rules.specs.Template.{components}
 use Rattle.ways.specs.Counts.{aligned}

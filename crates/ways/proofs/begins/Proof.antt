@@ -5,13 +5,13 @@ use Prim.Native.Nat.{suc, _+_, _-_, _≤_}
 use native.Mathlib.Omega.{arith}
 use lib.ListN.{length, getD}
 use Rattle.rules.specs.Template as template
-use Rattle.ways.specs.Counts.{letters-of}
+use Rattle.ways.specs.Counts.{letters-taken}
 use Rattle.ways.proofs.Aligned.{Held, onward, begins-none, begins-more}
 use Rattle.ways.proofs.begins.Statement.{statement}
 use Rattle.ways.proofs.begins.Tie as tie
 
 abbrev Inv-loop : tie.InvT-loop
-Inv-loop word component components begin₀ c₀ begin c = (component ≤ c) × (c ≤ c₀) × (begin + letters-of (onward components c₀ c) ≡ length word)
+Inv-loop word component components begin₀ c₀ begin c = (component ≤ c) × (c ≤ c₀) × (begin + letters-taken (onward components c₀ c) ≡ length word)
 
 abbrev μ-loop : tie.MeasureT-loop
 μ-loop word component components begin₀ c₀ begin c = c
@@ -26,7 +26,7 @@ module _ (l : tie.In-loop Inv-loop μ-loop) where
   earlier = omega (arith, l .loop-test .taken)
 
   more : ((getD (l .before .before .before .components .result) (l .before .loop .c - 1) template.none) .length ≤ l .before .loop .begin)
-      × ((l .before .loop .begin - (getD (l .before .before .before .components .result) (l .before .loop .c - 1) template.none) .length) + letters-of (onward (l .before .before .before .components .result) (l .before .before .before .before .before .args .template .count) (l .before .loop .c - 1)) ≡ length (l .before .before .before .before .before .args .word .now))
+      × ((l .before .loop .begin - (getD (l .before .before .before .components .result) (l .before .loop .c - 1) template.none) .length) + letters-taken (onward (l .before .before .before .components .result) (l .before .before .before .before .before .args .template .count) (l .before .loop .c - 1)) ≡ length (l .before .before .before .before .before .args .word .now))
   more = begins-more (held (l .before .before .before)) (l .before .loop .c - 1) (l .before .loop .begin) (omega (arith, earlier)) (rw earlier (l .before .loop .inv .2))
 
 components-requires : tie.Need-components-requires Inv-loop μ-loop

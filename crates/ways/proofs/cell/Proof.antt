@@ -1,6 +1,6 @@
 -- `cell` meets its contract, by the ways of its two tests.
 use mathlib.Core.Path.{sym, _∙_}
-use Rattle.ways.proofs.Standing.{cell-true, cell-false, cell-none}
+use Rattle.ways.proofs.LetterByLetter.{cell-true, cell-false, cell-none}
 use native.Mathlib.Omega.{arith}
 use borrow.Author.Needs.{needs}
 use Rattle.ways.proofs.cell.Statement.{statement}

@@ -6,7 +6,7 @@ use lib.ListN.{length}
 use Rattle.ways.specs.Counts.{ending}
 use Rattle.rules.specs.Lists.{over}
 use Rattle.rules.proofs.Over.{over-none, over-put}
-use Rattle.ways.proofs.Tables.{by-offset, entry-all}
+use Rattle.ways.proofs.FilledTables.{by-offset, entry-all}
 use Rattle.ways.proofs.last.Statement.{statement}
 use Rattle.ways.proofs.last.Tie as tie
 

@@ -8,10 +8,10 @@ use native.Mathlib.Omega.{arith}
 use native.Mathlib.Nat.{zero-add}
 use lib.ListN.{length}
 use Rattle.rules.specs.Lists.{run, sum, over}
-use Rattle.ways.specs.Counts.{entry, most-ways, leading}
+use Rattle.ways.specs.Counts.{at-position, most-ways, leading}
 use Rattle.ways.proofs.Counting.{leading-at}
 use Rattle.rules.proofs.Over.{over-none, over-put}
-use Rattle.ways.proofs.Tables.{by-offset, entry-all, entry-keeps, window-slide, window-most}
+use Rattle.ways.proofs.FilledTables.{by-offset, entry-all, entry-keeps, window-slide, window-most}
 use Rattle.ways.proofs.pass.Statement.{statement}
 use Rattle.ways.proofs.pass.Tie as tie
 
@@ -20,7 +20,7 @@ Inv-loop word s ways₀ low high distance count total₀ o₀ ways total o =
     (o ≤ length ways₀)
     × (length ways ≡ length ways₀)
     × (ways ≡ over (by-offset (leading word low high s ways₀)) o ways₀)
-    × (total ≡ sum (map (entry ways₀) (run (suc (o + distance)) count)))
+    × (total ≡ sum (map (at-position ways₀) (run (suc (o + distance)) count)))
 
 abbrev μ-loop : tie.MeasureT-loop
 μ-loop word s ways₀ low high distance count total₀ o₀ ways total o = length ways₀ - o
@@ -37,15 +37,15 @@ module _ (l : tie.At-loop Inv-loop μ-loop) where
   span = l .before .before .before .before .before .before .before .before .args .next .high + 1 - l .before .before .before .before .before .before .before .before .args .next .low
 
 -- the number that comes into the sum, and the one that goes out: both are still as they were
-comes-in : (c : tie.After-at Inv-loop μ-loop) → c .at .result ≡ entry (later (c .before .before .before .before)) (suc (from (c .before .before .before .before) + span (c .before .before .before .before)))
+comes-in : (c : tie.After-at Inv-loop μ-loop) → c .at .result ≡ at-position (later (c .before .before .before .before)) (suc (from (c .before .before .before .before) + span (c .before .before .before .before)))
 comes-in c = c .at .ensures ∙ entry-keeps _ _ _ (c .before .before .before .before .loop .inv .2) _ (omega arith)
 
-goes-out : (c : tie.After-at2 Inv-loop μ-loop) → c .at2 .result ≡ entry (later (c .before .before .before .before .before .before)) (suc (from (c .before .before .before .before .before .before)))
+goes-out : (c : tie.After-at2 Inv-loop μ-loop) → c .at2 .result ≡ at-position (later (c .before .before .before .before .before .before)) (suc (from (c .before .before .before .before .before .before)))
 goes-out c = c .at2 .ensures ∙ entry-keeps _ _ _ (c .before .before .before .before .before .before .loop .inv .2) _ (omega arith)
 
 slides : (c : tie.After-at2 Inv-loop μ-loop)
-    → c .before .before .before .before .before .before .loop .total + c .before .before .at .result ≡ c .at2 .result + sum (map (entry (later (c .before .before .before .before .before .before))) (run (suc (from (c .before .before .before .before .before .before) + 1)) (span (c .before .before .before .before .before .before))))
-slides c = omega (arith, comes-in (c .before .before), goes-out c, c .before .before .before .before .before .before .loop .inv .3, window-slide (entry (later (c .before .before .before .before .before .before))) (from (c .before .before .before .before .before .before)) (span (c .before .before .before .before .before .before)))
+    → c .before .before .before .before .before .before .loop .total + c .before .before .at .result ≡ c .at2 .result + sum (map (at-position (later (c .before .before .before .before .before .before))) (run (suc (from (c .before .before .before .before .before .before) + 1)) (span (c .before .before .before .before .before .before))))
+slides c = omega (arith, comes-in (c .before .before), goes-out c, c .before .before .before .before .before .before .loop .inv .3, window-slide (at-position (later (c .before .before .before .before .before .before))) (from (c .before .before .before .before .before .before)) (span (c .before .before .before .before .before .before)))
 
 cast-low : tie.Need-cast-low Inv-loop μ-loop
 cast-low c = search needs
@@ -84,7 +84,7 @@ add-total : tie.Need-add-total Inv-loop μ-loop
 add-total c =
     let l = c .before .before .before .before in
     let b = l .before .before .before .before .before .before .before .before .pre .0 .2 in
-    omega (arith, comes-in c, l .loop .inv .3, window-most (entry (later l)) most-ways b (suc (from l)) (span l), b (suc (from l + span l)))
+    omega (arith, comes-in c, l .loop .inv .3, window-most (at-position (later l)) most-ways b (suc (from l)) (span l), b (suc (from l + span l)))
 
 add-at-3 : tie.Need-add-at-3 Inv-loop μ-loop
 add-at-3 c = search needs

@@ -4,13 +4,13 @@ use mathlib.Core.Path.{_≡_, sym, _∙_}
 use Prim.Native.Nat.{suc, _+_, _-_, _≤_}
 use lib.ListN.{length}
 use Rattle.rules.proofs.Tests.{not-false, not-passes}
-use Rattle.ways.specs.Counts.{stands}
-use Rattle.ways.proofs.Standing.{rest, value-small, stands-short, rest-all, rest-next, rest-stop, rest-done}
+use Rattle.ways.specs.Counts.{stands-in-bytes}
+use Rattle.ways.proofs.LetterByLetter.{rest, value-small, stands-short, rest-all, rest-next, rest-stop, rest-done}
 use Rattle.ways.proofs.stands.Statement.{statement}
 use Rattle.ways.proofs.stands.Tie as tie
 
 abbrev Inv-loop : tie.InvT-loop
-Inv-loop word s o j₀ j = (j ≤ length word) × (o + length word ≤ length s) × (stands word s (suc o) ≡ rest word s o j)
+Inv-loop word s o j₀ j = (j ≤ length word) × (o + length word ≤ length s) × (stands-in-bytes word s (suc o) ≡ rest word s o j)
 
 abbrev μ-loop : tie.MeasureT-loop
 μ-loop word s o j₀ j = length word - j

@@ -7,7 +7,7 @@ use native.Mathlib.Numerals.{add-one}
 use native.Mathlib.Omega.{arith}
 use lib.ListN.{length}
 use Rattle.rules.specs.Template as template
-use Rattle.ways.specs.Counts.{counts, letters-of, aligned}
+use Rattle.ways.specs.Counts.{counts, letters-taken, aligned}
 use Rattle.ways.proofs.Aligned.{Held, onward, component-sound, own-ends, own-short, last-made, next-made, counts-small}
 use Rattle.ways.proofs.step.Statement.{statement}
 use Rattle.ways.proofs.step.Tie as tie
@@ -17,7 +17,7 @@ module _ (c : tie.After-begins) where
   held : Held (c .before .before .before .before .before .before .before .before .args .template) (c .before .before .before .before .components .result) (c .before .before .before .before .before .before .before .before .args .word .now)
   held = record { sound = c .before .before .before .before .before .before .before .before .pre .0; slotted = c .before .before .before .before .components .ensures; fits = c .before .before .before .before .before .before .before .before .pre .1 .0 .1 }
 
-  begun : c .begins .result + letters-of (onward (c .before .before .before .before .components .result) (c .before .before .before .before .before .before .before .before .args .template .count) (c .before .before .before .before .before .before .before .before .args .component)) ≡ length (c .before .before .before .before .before .before .before .before .args .word .now)
+  begun : c .begins .result + letters-taken (onward (c .before .before .before .before .components .result) (c .before .before .before .before .before .before .before .before .args .template .count) (c .before .before .before .before .before .before .before .before .args .component)) ≡ length (c .before .before .before .before .before .before .before .before .args .word .now)
   unfolding template.components
   begun = rw (c .before .before .before .before .components .ensures) (c .begins .ensures)
 

@@ -5,13 +5,13 @@ use Prim.Native.Nat.{suc, _+_, _-_, _≤_}
 use native.Mathlib.Omega.{arith}
 use mathlib.Core.List.{map}
 use Rattle.rules.specs.Lists.{run, sum}
-use Rattle.ways.specs.Counts.{entry, most-ways}
-use Rattle.ways.proofs.Tables.{window-none, window-more, window-most}
+use Rattle.ways.specs.Counts.{at-position, most-ways}
+use Rattle.ways.proofs.FilledTables.{window-none, window-more, window-most}
 use Rattle.ways.proofs.window.Statement.{statement}
 use Rattle.ways.proofs.window.Tie as tie
 
 abbrev Inv-loop : tie.InvT-loop
-Inv-loop a from count total₀ k₀ total k = (k ≤ count) × (total ≡ sum (map (entry a) (run (suc from) k)))
+Inv-loop a from count total₀ k₀ total k = (k ≤ count) × (total ≡ sum (map (at-position a) (run (suc from) k)))
 
 abbrev μ-loop : tie.MeasureT-loop
 μ-loop a from count total₀ k₀ total k = count - k
@@ -29,7 +29,7 @@ add-total : tie.Need-add-total Inv-loop μ-loop
 add-total c =
     let a = c .before .before .before .before .args in
     let p = c .before .before .before .before .pre in
-    omega (arith, p .2 (suc (a .from + c .before .before .loop .k)), window-most (entry (a .a .now)) most-ways (p .2) (suc (a .from)) (c .before .before .loop .k))
+    omega (arith, p .2 (suc (a .from + c .before .before .loop .k)), window-most (at-position (a .a .now)) most-ways (p .2) (suc (a .from)) (c .before .before .loop .k))
 
 add-k : tie.Need-add-k Inv-loop μ-loop
 add-k c = search needs
@@ -38,7 +38,7 @@ loop-less : tie.Need-loop-less Inv-loop μ-loop
 loop-less c = search needs
 
 loop-again : tie.Need-loop-again Inv-loop μ-loop
-loop-again c = (search needs, cc (window-more (entry (c .before .before .before .before .args .a .now)) (c .before .before .before .before .args .from) (c .before .before .loop .k)))
+loop-again c = (search needs, cc (window-more (at-position (c .before .before .before .before .args .a .now)) (c .before .before .before .before .args .from) (c .before .before .loop .k)))
 
 returns : tie.Need-returns Inv-loop μ-loop
 returns c =

@@ -1,6 +1,6 @@
 -- `read`: the kind of search, and the slots one after another, each with its allowance.
 use borrow.Author.Needs.{needs}
-use Rattle.exports.specs.Shape.{template-of}
+use Rattle.exports.specs.Shape.{shaped-template}
 use Rattle.exports.proofs.shape.read.Statement.{statement}
 use Rattle.exports.proofs.shape.read.Tie as tie
 
@@ -65,7 +65,7 @@ new-requires : tie.Need-new-requires
 new-requires c κs = search needs
 
 returns : tie.Need-returns
-unfolding template-of
+unfolding shaped-template
 returns c =
     let f = c .before in
     let e = f .before .before .before in

@@ -5,13 +5,13 @@ use Prim.Native.Nat.{_+_, _-_, _≤_}
 use native.Mathlib.Omega.{arith}
 use lib.ListN.{length}
 use Rattle.rules.specs.Fasta.{up-to-blank}
-use Rattle.fasta.specs.Scanned.{part}
+use Rattle.fasta.specs.Scanned.{file-part}
 use Rattle.fasta.proofs.Names.{blank-here, blank-on, blank-end}
 use Rattle.fasta.proofs.record.name_end.Statement.{statement}
 use Rattle.fasta.proofs.record.name_end.Tie as tie
 
 abbrev Inv-loop : tie.InvT-loop
-Inv-loop file from end i₀ i = (i ≤ end) × (from + length (up-to-blank (part file from end)) ≡ i + length (up-to-blank (part file i end)))
+Inv-loop file from end i₀ i = (i ≤ end) × (from + length (up-to-blank (file-part file from end)) ≡ i + length (up-to-blank (file-part file i end)))
 
 abbrev μ-loop : tie.MeasureT-loop
 μ-loop file from end i₀ i = end - i

@@ -5,7 +5,7 @@ use native.Mathlib.Omega.{arith}
 use Rattle.matching.specs.Path.{row-slot}
 use Rattle.rows.specs.Set.{between}
 use Rattle.matching.proofs.Slots.{row-long}
-use Rattle.matching.proofs.Bytes.{copied-long, shifted-from}
+use Rattle.matching.proofs.BaseRows.{copied-long, shifted-from}
 use Rattle.matching.proofs.letters.later_slot.Statement.{statement}
 use Rattle.matching.proofs.letters.later_slot.Tie as tie
 

@@ -7,7 +7,7 @@ use lib.ListN.{length, getD}
 use borrow.Rule.Slice.PartMut.{mid-len}
 use Rattle.rows.proofs.Offsets.{turn-letters}
 use Rattle.rows.proofs.Sets.{turn-lies}
-use Rattle.matching.proofs.Bytes.{spelt-part, Whole, whole-none, whole-more, whole-end}
+use Rattle.matching.proofs.BaseRows.{spelt-part, Whole, whole-none, whole-more, whole-end}
 use Rattle.matching.proofs.Slots.{enough}
 use Rattle.matching.proofs.letters.letter_slots.Statement.{statement}
 use Rattle.matching.proofs.letters.letter_slots.Tie as tie

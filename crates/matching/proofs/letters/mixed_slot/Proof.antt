@@ -1,7 +1,7 @@
 -- The row is made in `work` and copied to the part of the table that is the slot.
 use borrow.Author.Needs.{needs}
 use mathlib.Core.Path.{_∙_}
-use Rattle.matching.proofs.Bytes.{slot-copied}
+use Rattle.matching.proofs.BaseRows.{slot-copied}
 use Rattle.matching.proofs.Standing.{from-row}
 use Rattle.matching.proofs.letters.mixed_slot.Statement.{statement}
 use Rattle.matching.proofs.letters.mixed_slot.Tie as tie

@@ -2,7 +2,7 @@
 use borrow.Author.Needs.{needs}
 use native.Mathlib.Omega.{arith}
 use lib.ListN.{length-set}
-use Rattle.matching.proofs.Bytes.{slots-put}
+use Rattle.matching.proofs.BaseRows.{slots-put}
 use Rattle.matching.proofs.letters.put_words.Statement.{statement}
 use Rattle.matching.proofs.letters.put_words.Tie as tie
 

@@ -4,7 +4,7 @@ use mathlib.Core.Path.{_≡_, refl, _∙_}
 use Prim.Native.Nat.{_-_, _*_, _≤_}
 use native.Mathlib.Omega.{arith}
 use lib.ListN.{length, length-take}
-use Rattle.matching.proofs.Bytes.{spelt-part, Begun, begun-none, begun-more, begun-all}
+use Rattle.matching.proofs.BaseRows.{spelt-part, Begun, begun-none, begun-more, begun-all}
 use Rattle.matching.proofs.letters.sequence_slots.Statement.{statement}
 use Rattle.matching.proofs.letters.sequence_slots.Tie as tie
 

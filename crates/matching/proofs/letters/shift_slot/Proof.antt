@@ -3,7 +3,7 @@ use borrow.Author.Needs.{needs}
 use Prim.Native.Nat.{_+_, _*_}
 use native.Mathlib.Omega.{arith}
 use borrow.Rule.Slice.PartMut.{mid-len}
-use Rattle.matching.proofs.Bytes.{slot-filled}
+use Rattle.matching.proofs.BaseRows.{slot-filled}
 use Rattle.matching.proofs.letters.shift_slot.Statement.{statement}
 use Rattle.matching.proofs.letters.shift_slot.Tie as tie
 

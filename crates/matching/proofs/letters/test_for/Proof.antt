@@ -4,7 +4,7 @@ use Prim.Native.Nat.{_+_, _-_, _*_, _%_, _≤_, _<_}
 use native.Mathlib.Omega.{arith}
 use lib.ListN.{length, getD}
 use Rattle.matching.specs.Path.{row-slot, kept-places}
-use Rattle.matching.proofs.Tests.{near-inside, near-last, far-inside, far-last}
+use Rattle.matching.proofs.LetterTests.{near-inside, near-last, far-inside, far-last}
 use Rattle.matching.proofs.letters.test_for.Statement.{statement}
 use Rattle.matching.proofs.letters.test_for.Tie as tie
 

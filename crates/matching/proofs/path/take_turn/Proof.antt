@@ -7,7 +7,7 @@ use Rattle.rows.proofs.ByFlags.{row-bounded}
 use Rattle.matching.proofs.Slots.{enough, even-table, odd-table, slot-same}
 use Rattle.matching.proofs.Standing.{from-letter}
 use Rattle.matching.proofs.Steps.{prefix-long}
-use Rattle.matching.proofs.Tests.{made-last}
+use Rattle.matching.proofs.LetterTests.{made-last}
 use Rattle.matching.proofs.path.take_turn.Statement.{statement}
 use Rattle.matching.proofs.path.take_turn.Tie as tie
 

@@ -1,6 +1,6 @@
 -- The slot gets every mark and every bit, which is what the first letter is added to.
 use native.Mathlib.Omega.{arith}
-use Rattle.matching.proofs.First.{first-slot}
+use Rattle.matching.proofs.PathStart.{first-slot}
 use borrow.Author.Needs.{needs}
 use Rattle.matching.proofs.tables.first_slot.Statement.{statement}
 use Rattle.matching.proofs.tables.first_slot.Tie as tie

@@ -5,7 +5,7 @@ use Prim.Native.Nat.{_+_, _-_, _*_, _≤_}
 use native.Mathlib.Omega.{arith}
 use lib.ListN.{length, take, length-set}
 use lib.Seq.{take-set-le}
-use Rattle.matching.proofs.Places.{Coded, coded-none, coded-more, coded-end}
+use Rattle.matching.proofs.LetterPlaces.{Coded, coded-none, coded-more, coded-end}
 use Rattle.matching.proofs.tables.place_component.Statement.{statement}
 use Rattle.matching.proofs.tables.place_component.Tie as tie
 

@@ -4,8 +4,8 @@ use mathlib.Core.Path.{_≡_, refl, _∙_}
 use Prim.Native.Nat.{_-_, _≤_}
 use native.Mathlib.Omega.{arith}
 use lib.ListN.{length, take}
-use Rattle.rows.specs.Prefix.{letters-before}
-use Rattle.matching.proofs.Places.{letters-none, Placed, placed-none, placed-end, read-short, read-next, read-most, read-placed}
+use Rattle.rows.specs.NextLetter.{letters-before}
+use Rattle.matching.proofs.LetterPlaces.{letters-none, Placed, placed-none, placed-end, read-short, read-next, read-most, read-placed}
 use Rattle.matching.proofs.tables.place_letters.Statement.{statement}
 use Rattle.matching.proofs.tables.place_letters.Tie as tie
 

@@ -15,7 +15,7 @@ use Rattle.matching.specs.Weights.{kept-counts, weight-at}
 use Rattle.matching.proofs.Leads.{counts-lie}
 use Rattle.rows.proofs.Sets.{turn-lies}
 use Rattle.matching.proofs.Totals.{weights-up, weights-next, weights-none, weights-word, words-cover, dark-past, own-sum}
-use Rattle.rows.proofs.Walk.{Next, all-left, rest-none, next, next-rest, next-less}
+use Rattle.rows.proofs.MarksWalk.{Next, all-left, rest-none, next, next-rest, next-less}
 use Rattle.matching.proofs.weights.add_sequences.Statement.{statement}
 use Rattle.matching.proofs.weights.add_sequences.Tie as tie
 

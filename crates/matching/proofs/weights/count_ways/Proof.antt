@@ -14,10 +14,10 @@ use Rattle.rules.specs.Lists.{sum}
 use Rattle.rules.specs.Profile.{base-of}
 use Rattle.rules.specs.Template as templates
 use Rattle.rules.specs.declared.Component.{Component}
-use Rattle.rows.specs.Prefix.{letters-before}
+use Rattle.rows.specs.NextLetter.{letters-before}
 use Rattle.rows.proofs.ByFlags.{row-bounded}
 use Rattle.matching.specs.Weights.{Leads-to}
-use Rattle.matching.proofs.Onward.{Turn, begin-letters, begin-part, begin-long, only-led, end-led, behind-sound, here-sound, next-letters, next-some, next-deep, next-less, next-path, next-small, next-dark, next-led}
+use Rattle.matching.proofs.OneMoreComponent.{Turn, begin-letters, begin-part, begin-long, only-led, end-led, behind-sound, here-sound, next-letters, next-some, next-deep, next-less, next-path, next-small, next-dark, next-led}
 use Rattle.matching.proofs.Slots.{enough}
 use Rattle.matching.proofs.Steps.{prefix-long}
 use Rattle.matching.proofs.weights.count_ways.Statement.{statement}

@@ -6,7 +6,7 @@ use borrow.Rule.Slice.PartMut.{midOf, putMid}
 use Rattle.rows.specs.Bits.{held}
 use Rattle.rows.specs.Flags.{added, masked}
 use Rattle.rows.specs.Set.{between}
-use Rattle.matching.specs.Weights.{begun}
+use Rattle.matching.specs.Weights.{counted-from}
 use Rattle.matching.proofs.Leads.{part-first, part-led}
 use Rattle.matching.proofs.weights.lead_between.Statement.{statement}
 use Rattle.matching.proofs.weights.lead_between.Tie as tie
@@ -80,7 +80,7 @@ module _ (c : tie.After-begin) where
   start = c .before .before .before .before .before .before
 
   kept : masked (held (between (start .args .from) (start .args .to) (start .args .row .now))) (midOf (start .args .a .0) (start .args .e .0 - start .args .a .0) (putMid (start .args .a .0) (start .args .e .0 - start .args .a .0) (start .args .counts .now) (c .begin .last .1 .1 .0)))
-      ≡ masked (held (between (start .args .from) (start .args .to) (start .args .row .now))) (begun (start .args .first) (between (start .args .a .0) (start .args .e .0) (start .args .counts .now)))
+      ≡ masked (held (between (start .args .from) (start .args .to) (start .args .row .now))) (counted-from (start .args .first) (between (start .args .a .0) (start .args .e .0) (start .args .counts .now)))
   unfolding between
   kept =
       let s = start in

@@ -10,10 +10,10 @@ use Rattle.rules.specs.Lists.{sum}
 use Rattle.rows.specs.Bits.{held}
 use Rattle.rows.specs.Flags.{added, masked}
 use Rattle.rows.specs.Set.{between, marked?}
-use Rattle.matching.specs.Weights.{begun, begun-counts}
+use Rattle.matching.specs.Weights.{counted-from, begun-counts}
 use Rattle.matching.proofs.Leads.{led-at, Led, led-none, led-end, led-turn, begun-are-at, begun-same, counts-lie, counts-room}
 use Rattle.rows.proofs.Sets.{bits-are-at, turn-lies}
-use Rattle.rows.proofs.Walk.{Next, all-left, rest-none, next, next-rest, next-less}
+use Rattle.rows.proofs.MarksWalk.{Next, all-left, rest-none, next, next-rest, next-less}
 use Rattle.matching.proofs.weights.lead_sequences.Statement.{statement}
 use Rattle.matching.proofs.weights.lead_sequences.Tie as tie
 
@@ -82,7 +82,7 @@ module _ (t : tie.In-loop Inv-loop μ-loop) where
   ends = t .before .before .before .before .before .before .before .before .before .pre .1 .1 .0 .same (at + 1) (omega (arith, inside))
 
   -- whose counts are still as they were
-  own : masked (held (between (getD firsts at 0) (getD firsts (at + 1) 0) row)) (begun (t .before .before .before .before .before .before .before .before .before .args .first) (between (getD offsets at 0) (getD offsets (at + 1) 0) (t .before .loop .counts)))
+  own : masked (held (between (getD firsts at 0) (getD firsts (at + 1) 0) row)) (counted-from (t .before .before .before .before .before .before .before .before .before .args .first) (between (getD offsets at 0) (getD offsets (at + 1) 0) (t .before .loop .counts)))
       ≡ begun-counts (t .before .before .before .before .before .before .before .before .before .args .first) ns row (t .before .before .before .before .before .before .before .before .before .args .counts .now) at
   own =
       begun-are-at ns at inside begins ends (t .before .before .before .before .before .before .before .before .before .args .first) (found .begins) (found .ends) row (t .before .loop .counts)

@@ -3,7 +3,7 @@ use borrow.Author.Needs.{needs}
 use native.Mathlib.Omega.{arith}
 use lib.ListN.{length-take}
 use Rattle.text.proofs.Lines.{text-short}
-use Rattle.motifs.proofs.Reading.{sound, begin-fronts}
+use Rattle.motifs.proofs.InputRead.{sound, begin-fronts}
 use Rattle.motifs.proofs.input.begin.Statement.{statement}
 use Rattle.motifs.proofs.input.begin.Tie as tie
 

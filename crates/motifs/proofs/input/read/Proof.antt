@@ -2,7 +2,7 @@
 use borrow.Author.Needs.{needs}
 use mathlib.Core.Path.{refl, sym, ap, _∙_}
 use Rattle.rules.specs.Told.{toldChecked}
-use Rattle.motifs.proofs.Reading.{declined}
+use Rattle.motifs.proofs.InputRead.{declined}
 use Rattle.motifs.proofs.input.read.Statement.{statement}
 use Rattle.motifs.proofs.input.read.Tie as tie
 

@@ -1,7 +1,7 @@
 -- Each kind of what is left has its own page.
 use borrow.Author.Needs.{needs}
 use mathlib.Core.Path.{subst}
-use Rattle.motifs.specs.Pages.{Ready}
+use Rattle.motifs.specs.Pages.{Printable}
 use Rattle.motifs.proofs.Next.{refusal-next, end-next, nothing-next}
 use Rattle.motifs.proofs.pages.next.Statement.{statement}
 use Rattle.motifs.proofs.pages.next.Tie as tie
@@ -18,7 +18,7 @@ enum-known-left-2 c = search needs
 next-rows-requires : tie.Need-next-rows-requires
 next-rows-requires c κs =
     let s = c .before .before .before .before .before .before .before .before .before .before .before .before .before in
-    (subst (Ready (s .args .letters .now) (s .args .lengths .now)) (c .before .before .before .before .before .left2 .given .1) (s .pre .0), s .pre .1)
+    (subst (Printable (s .args .letters .now) (s .args .lengths .now)) (c .before .before .before .before .before .left2 .given .1) (s .pre .0), s .pre .1)
 
 enum-known-left-3 : tie.Need-enum-known-left-3
 enum-known-left-3 c = search needs

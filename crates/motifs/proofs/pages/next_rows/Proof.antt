@@ -5,7 +5,7 @@ use mathlib.Core.Path.{ap, _∙_}
 use Prim.Native.Nat.{ℕ}
 use lib.ListN.{length}
 use Rattle.rules.specs.Lists.{put}
-use Rattle.motifs.proofs.Laid.{leg-page-is, leg-counts, leg-leaves}
+use Rattle.motifs.proofs.PagesLaid.{leg-page-is, leg-counts, leg-leaves}
 use Rattle.motifs.proofs.pages.next_rows.Statement.{statement}
 use Rattle.motifs.proofs.pages.next_rows.Tie as tie
 

@@ -6,7 +6,7 @@ use native.Mathlib.Omega.{arith}
 use lib.ListN.{length}
 use Rattle.rules.specs.Limits.{SequenceSet-SEQUENCES}
 use Rattle.rows.specs.Set.{Row-MARKS, marked?, window-at}
-use Rattle.rows.proofs.Rewritten.{Rewritten, same-bounds, rewritten-none, opened-word, opened-marks, opened-all}
+use Rattle.rows.proofs.RowsRewritten.{Rewritten, same-bounds, rewritten-none, opened-word, opened-marks, opened-all}
 use Rattle.rows.proofs.gap.open_all.Statement.{statement}
 use Rattle.rows.proofs.gap.open_all.Tie as tie
 

@@ -8,8 +8,8 @@ use lib.Count.{trailingZeros}
 use lib.ListN.{length, getD}
 use Rattle.rows.specs.Set.{marked?, window-at}
 use Rattle.rows.proofs.Sets.{first-past, window-is-at, turn-lies}
-use Rattle.rows.proofs.Walk.{Next, walked-end, all-left, rest-none, next, next-rest, next-less}
-use Rattle.rows.proofs.Rewritten.{Rewritten, later-words, later-window, rewritten-none, rewritten-turn}
+use Rattle.rows.proofs.MarksWalk.{Next, walked-end, all-left, rest-none, next, next-rest, next-less}
+use Rattle.rows.proofs.RowsRewritten.{Rewritten, later-words, later-window, rewritten-none, rewritten-turn}
 use Rattle.rows.proofs.gap.open_sequences.Statement.{statement}
 use Rattle.rows.proofs.gap.open_sequences.Tie as tie
 

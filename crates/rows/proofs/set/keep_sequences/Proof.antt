@@ -10,7 +10,7 @@ use Rattle.rows.proofs.Sets.{first-past, kept-from, extended-is-at, bit
 use Rattle.rows.proofs.Kept.{Going, going-begin, lost-few, going-most, end-tallied, end-left, end-walked, going-next, going-turn}
 use Rattle.rows.proofs.Lowest.{lowest-in, lowest-less}
 use Rattle.rows.proofs.Tally.{bit-few}
-use Rattle.rows.proofs.Walk.{mark-left}
+use Rattle.rows.proofs.MarksWalk.{mark-left}
 use Rattle.rows.proofs.set.keep_sequences.Statement.{statement}
 use Rattle.rows.proofs.set.keep_sequences.Tie as tie
 use Rattle.rows.proofs.set.keep_sequences.Reads as reads

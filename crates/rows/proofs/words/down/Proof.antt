@@ -1,7 +1,7 @@
 -- The code computes what the rule says: the shifts lose what leaves the 64 bits.
 use borrow.Author.Needs.{needs}
 use mathlib.Core.Path.{refl}
-use Rattle.rows.specs.Words.{down}
+use Rattle.rows.specs.Words.{shifted-down}
 use Rattle.rows.proofs.words.down.Statement.{statement}
 use Rattle.rows.proofs.words.down.Tie as tie
 
@@ -15,7 +15,7 @@ shl-result : tie.Need-shl-result
 shl-result c = search needs
 
 returns : tie.Need-returns
-unfolding down
+unfolding shifted-down
 returns c = refl
 
 pub down-spec : {M : Type 1} → statement M

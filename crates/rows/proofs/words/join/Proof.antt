@@ -1,6 +1,6 @@
 -- A turn writes the next word with the bits of both; the word that it reads is as it was. Word by word it is what the rule says of bits.
 use borrow.Author.Needs.{needs}
-use Rattle.rows.proofs.Turns.{either-is}
+use Rattle.rows.proofs.WordByWord.{either-is}
 use mathlib.Core.Path.{_≡_, ap, _∙_}
 use Prim.Native.Nat.{_-_, _≤_}
 use lib.ListN.{length}

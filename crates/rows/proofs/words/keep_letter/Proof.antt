@@ -1,7 +1,7 @@
 -- Where nothing is shifted the loop makes all words; else all but the last, past which there is none to shift bits in from. A row of no words
 -- has none to keep.
 use borrow.Author.Needs.{needs}
-use Rattle.rows.proofs.Turns.{kept-whole, kept-plain, kept-empty}
+use Rattle.rows.proofs.WordByWord.{kept-whole, kept-plain, kept-empty}
 use Rattle.rows.proofs.words.keep_letter.Statement.{statement}
 use Rattle.rows.proofs.words.keep_letter.Tie as tie
 

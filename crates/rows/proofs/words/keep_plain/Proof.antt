@@ -11,7 +11,7 @@ use Rattle.rules.proofs.Over.{over-none, over-put, over-end}
 use Rattle.rows.specs.Flags.{left?}
 use Rattle.rows.specs.Words.{extended-word}
 use Rattle.rows.proofs.Joined.{joined-none, joined-more, joined-end}
-use Rattle.rows.proofs.Turns.{extended-plain}
+use Rattle.rows.proofs.WordByWord.{extended-plain}
 use Rattle.rows.proofs.words.keep_plain.Statement.{statement}
 use Rattle.rows.proofs.words.keep_plain.Tie as tie
 

@@ -1,7 +1,7 @@
 -- A turn writes the next word, and joins it to those before: all of them are 0 if none has a bit left. `low` is the word of the letter's
 -- row that the turn stands at.
 use borrow.Author.Needs.{needs}
-use Rattle.rows.proofs.Turns.{extended-is}
+use Rattle.rows.proofs.WordByWord.{extended-is}
 use mathlib.Core.Path.{_≡_, refl, ap, _∙_}
 use Prim.Native.Nat.{ℕ, _+_, _-_, _≤_, _<_}
 use lib.ListN.{length, getD}
@@ -11,7 +11,7 @@ use mathlib.Core.Bool.{not}
 use mathlib.Core.List.{map}
 use lib.Dec.{eqb}
 use Rattle.rows.specs.Flags.{left?}
-use Rattle.rows.specs.Words.{down, extended-word}
+use Rattle.rows.specs.Words.{shifted-down, extended-word}
 use Rattle.rows.proofs.Joined.{joined-none, joined-more, joined-end}
 use Rattle.rows.proofs.words.keep_words.Statement.{statement}
 use Rattle.rows.proofs.words.keep_words.Tie as tie
@@ -65,7 +65,7 @@ loop-again : tie.Need-loop-again Inv-loop μ-loop
 loop-again c =
     let l = c .before .before .before .before .loop in
     let a = c .before .before .before .before .before .before .before .before .before .args in
-    let w = c .down-some .ensures ∙ ap (λ (x : ℕ). down (a .i) x (getD (a .letters .now) (l .q + 1) 0)) (l .inv .7) in (
+    let w = c .down-some .ensures ∙ ap (λ (x : ℕ). shifted-down (a .i) x (getD (a .letters .now) (l .q + 1) 0)) (l .inv .7) in (
       search needs,
       search needs,
       search needs,

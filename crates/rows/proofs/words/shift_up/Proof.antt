@@ -1,7 +1,7 @@
 -- The first words get no bits, the next those of the first word alone, and the others, by the loop, those of two; a shift past all words leaves nothing.
 use borrow.Author.Needs.{needs}
 use lib.Seq.{length-take-le}
-use Rattle.rows.proofs.Turns.{shift-begun, shift-length, shift-whole, shift-out}
+use Rattle.rows.proofs.WordByWord.{shift-begun, shift-length, shift-whole, shift-out}
 use mathlib.Core.Path.{sym, _∙_}
 use Rattle.rules.proofs.Over.{over-again}
 use Rattle.rows.proofs.words.shift_up.Statement.{statement}

@@ -1,6 +1,6 @@
 -- A turn writes the next word, of two words of the row side by side.
 use borrow.Author.Needs.{needs}
-use Rattle.rows.proofs.Turns.{behind-is}
+use Rattle.rows.proofs.WordByWord.{behind-is}
 use mathlib.Core.Path.{_≡_}
 use Prim.Native.Nat.{_-_, _≤_, _<_}
 use lib.ListN.{length}

@@ -7,7 +7,7 @@ use lib.ListN.{length}
 use Rattle.rows.specs.Bits.{held}
 use Rattle.rows.specs.Rows.{window}
 use Rattle.rows.proofs.Window.{window-one, spread-more}
-use Rattle.rows.proofs.Turns.{bit-small}
+use Rattle.rows.proofs.WordByWord.{bit-small}
 use Rattle.rows.proofs.words.spread.Statement.{statement}
 use Rattle.rows.proofs.words.spread.Tie as tie
 

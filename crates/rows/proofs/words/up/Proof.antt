@@ -1,7 +1,7 @@
 -- The code computes what the rule says: the shifts lose what leaves the 64 bits.
 use borrow.Author.Needs.{needs}
 use mathlib.Core.Path.{refl}
-use Rattle.rows.specs.Words.{up}
+use Rattle.rows.specs.Words.{shifted-up}
 use Rattle.rows.proofs.words.up.Statement.{statement}
 use Rattle.rows.proofs.words.up.Tie as tie
 
@@ -15,7 +15,7 @@ shr-result : tie.Need-shr-result
 shr-result c = search needs
 
 returns : tie.Need-returns
-unfolding up
+unfolding shifted-up
 returns c = refl
 
 pub up-spec : {M : Type 1} → statement M

@@ -3,7 +3,7 @@ use mathlib.Core.Path.{_≡_, sym, _∙_}
 use Prim.Native.Nat.{_+_, _-_}
 use Rattle.rules.specs.Refusals.{check11}
 use Rattle.rules.specs.Saved.{kind?}
-use Rattle.saved.proofs.InTurn.{Left, left-all, left-next, left-bad, left-none}
+use Rattle.saved.proofs.RecordsInTurn.{Left, left-all, left-next, left-bad, left-none}
 use borrow.Author.Needs.{needs}
 use Rattle.saved.proofs.kinds.check_kinds.Statement.{statement}
 use Rattle.saved.proofs.kinds.check_kinds.Tie as tie

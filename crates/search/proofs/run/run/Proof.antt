@@ -20,7 +20,7 @@ use Rattle.rules.proofs.Sound.{SoundSearch, search-sound}
 use Rattle.rules.proofs.Tests.{both}
 use Rattle.matching.specs.Path.{Made}
 use Rattle.matching.specs.Weights.{Counted}
-use Rattle.search.specs.Told.{room-of}
+use Rattle.search.specs.AcceptedLeg.{room-of}
 use Rattle.search.proofs.Follow.{follow-ended, follow-spent, follow-full}
 use Rattle.search.proofs.Round.{Running, run-start, run-depth, run-valid, run-below, run-step, run-done, motif-is, next-is, frequent-is, hit-reaches, good-reaches, row-left, run-lengths}
 use Rattle.search.proofs.Rowed.{path-first}

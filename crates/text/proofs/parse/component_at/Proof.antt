@@ -4,7 +4,7 @@ use mathlib.Core.Path.{sym, _∙_}
 use native.Mathlib.Omega.{arith}
 use Rattle.rules.specs.Template.{none}
 use Rattle.text.proofs.Scan.{scan-from, scan-to}
-use Rattle.text.proofs.Slots.{slot-at, slot-past}
+use Rattle.text.proofs.ComponentsByPiece.{slot-at, slot-past}
 use Rattle.text.proofs.parse.component_at.Statement.{statement}
 use Rattle.text.proofs.parse.component_at.Tie as tie
 

@@ -1,6 +1,6 @@
 -- From N to N there is N alone.
 use borrow.Author.Needs.{needs}
-use Rattle.text.proofs.Numbers.{run-is}
+use Rattle.text.proofs.DigitByDigit.{run-is}
 use Rattle.text.proofs.parse.is_run.Statement.{statement}
 use Rattle.text.proofs.parse.is_run.Tie as tie
 

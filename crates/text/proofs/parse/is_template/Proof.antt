@@ -9,7 +9,7 @@ use lib.ListN.{length, drop}
 use Rattle.rules.specs.Text.{well-formed?, parse-rest, parse-components}
 use Rattle.text.specs.Pieces.{find, others}
 use Rattle.text.proofs.Scan.{scan-from, scan-to}
-use Rattle.text.proofs.Components.{well-first, well-more, well-end}
+use Rattle.text.proofs.ComponentText.{well-first, well-more, well-end}
 use Rattle.text.proofs.parse.is_template.Statement.{statement}
 use Rattle.text.proofs.parse.is_template.Tie as tie
 

@@ -8,7 +8,7 @@ use lib.ListN.{length, take, drop}
 use lib.Seq.{length-take-le}
 use Rattle.rules.specs.Text.{pieces, parse-component}
 use Rattle.text.proofs.Scan.{two-is, part-short}
-use Rattle.text.proofs.Components.{not-pair, component-is}
+use Rattle.text.proofs.ComponentText.{not-pair, component-is}
 use Rattle.text.proofs.parse.parse_component.Statement.{statement}
 use Rattle.text.proofs.parse.parse_component.Tie as tie
 

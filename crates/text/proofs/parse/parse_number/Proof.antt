@@ -3,7 +3,7 @@ use borrow.Author.Needs.{needs}
 use mathlib.Core.Path.{sym, _∙_}
 use native.Mathlib.Nat.{le-trans}
 use Rattle.rules.proofs.TextNumbers.{number-yes, number-no}
-use Rattle.text.proofs.Numbers.{number-digits, number-long, number-below}
+use Rattle.text.proofs.DigitByDigit.{number-digits, number-long, number-below}
 use Rattle.text.proofs.parse.parse_number.Statement.{statement}
 use Rattle.text.proofs.parse.parse_number.Tie as tie
 

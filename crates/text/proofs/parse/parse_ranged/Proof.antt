@@ -8,7 +8,7 @@ use lib.ListN.{length, take, drop}
 use lib.Seq.{length-take-le}
 use Rattle.rules.specs.Text.{pieces}
 use Rattle.text.proofs.Scan.{two-is, part-short}
-use Rattle.text.proofs.Components.{not-ranged, ranged-is, digits-fit}
+use Rattle.text.proofs.ComponentText.{not-ranged, ranged-is, digits-fit}
 use Rattle.text.proofs.parse.parse_ranged.Statement.{statement}
 use Rattle.text.proofs.parse.parse_ranged.Tie as tie
 

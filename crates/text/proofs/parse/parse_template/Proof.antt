@@ -4,7 +4,7 @@ use mathlib.Core.Path.{sym, _∙_}
 use native.Mathlib.Nat.{zero-add}
 use native.Mathlib.Omega.{arith}
 use Rattle.text.proofs.Scan.{scan-to}
-use Rattle.text.proofs.Slots.{slot-count, slot-first, template-is}
+use Rattle.text.proofs.ComponentsByPiece.{slot-count, slot-first, template-is}
 use Rattle.text.proofs.parse.parse_template.Statement.{statement}
 use Rattle.text.proofs.parse.parse_template.Tie as tie
 

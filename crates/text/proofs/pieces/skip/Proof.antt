@@ -5,13 +5,13 @@ use Prim.Native.Nat.{ℕ, _-_, _≤_}
 use native.Mathlib.Nat.{sub-zero}
 use native.Mathlib.Omega.{arith}
 use lib.ListN.{length, drop}
-use Rattle.text.specs.Pieces.{find, after}
+use Rattle.text.specs.Pieces.{find, after-pieces}
 use Rattle.text.proofs.Scan.{scan-to, after-more}
 use Rattle.text.proofs.pieces.skip.Statement.{statement}
 use Rattle.text.proofs.pieces.skip.Tie as tie
 
 abbrev Inv-loop : tie.InvT-loop
-Inv-loop b n text at₀ k₀ at k = (k ≤ n) × (at ≤ length text) × (after b n text ≡ after b (n - k) (drop at text))
+Inv-loop b n text at₀ k₀ at k = (k ≤ n) × (at ≤ length text) × (after-pieces b n text ≡ after-pieces b (n - k) (drop at text))
 
 abbrev μ-loop : tie.MeasureT-loop
 μ-loop b n text at₀ k₀ at k = n - k
@@ -40,10 +40,10 @@ loop-again c = (
 )
 
 returns : tie.Need-returns Inv-loop μ-loop
-unfolding after
+unfolding after-pieces
 returns c =
     let e : c .before .before .before .args .n - c .before .loop .k ≡ 0 = omega arith in
-    (c .before .loop .inv .1, sym (c .before .loop .inv .2 ∙ ap (λ (j : ℕ). after (c .before .before .before .args .b) j (drop (c .before .loop .at) (c .before .before .before .args .text .now))) e))
+    (c .before .loop .inv .1, sym (c .before .loop .inv .2 ∙ ap (λ (j : ℕ). after-pieces (c .before .before .before .args .b) j (drop (c .before .loop .at) (c .before .before .before .args .text .now))) e))
 
 pub skip-spec : {M : Type 1} → statement M
 skip-spec = tie.close (tie.spec Inv-loop μ-loop loop-holds find-requires past-requires add-k loop-less loop-again returns)

@@ -3,7 +3,7 @@ use borrow.Author.Needs.{needs}
 use native.Mathlib.Omega.{arith}
 use Rattle.text.specs.Printed.{ranged-word}
 use Rattle.text.proofs.Printed.{room, _then_}
-use Rattle.text.proofs.Shape.{length-ranged}
+use Rattle.text.proofs.ShapedMotif.{length-ranged}
 use Rattle.text.proofs.print.print_component.Statement.{statement}
 use Rattle.text.proofs.print.print_component.Tie as tie
 

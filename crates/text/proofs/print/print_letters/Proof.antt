@@ -3,14 +3,14 @@ use borrow.Author.Needs.{needs}
 use mathlib.Core.Path.{ap}
 use Prim.Native.Nat.{ℕ, _-_, _≤_}
 use native.Mathlib.Omega.{arith}
-use Rattle.text.specs.Printed.{Wrote, letters}
+use Rattle.text.specs.Printed.{Wrote, motif-letters}
 use Rattle.text.proofs.Printed.{wrote-none, wrote-as, wrote-length, _then_}
-use Rattle.text.proofs.Letters.{letters-none, letters-more, length-letters}
+use Rattle.text.proofs.MotifLetters.{letters-none, letters-more, length-letters}
 use Rattle.text.proofs.print.print_letters.Statement.{statement}
 use Rattle.text.proofs.print.print_letters.Tie as tie
 
 abbrev Inv-loop : tie.InvT-loop
-Inv-loop motif left n at out₀ next₀ i₀ out next i = (i ≤ n) × Wrote at (letters i left motif) out₀ out next
+Inv-loop motif left n at out₀ next₀ i₀ out next i = (i ≤ n) × Wrote at (motif-letters i left motif) out₀ out next
 
 abbrev μ-loop : tie.MeasureT-loop
 μ-loop motif left n at out₀ next₀ i₀ out next i = n - i
@@ -55,7 +55,7 @@ same-length : tie.Need-same-length Inv-loop μ-loop
 same-length c = wrote-length (c .before .loop .inv .1)
 
 returns : tie.Need-returns Inv-loop μ-loop
-returns c = wrote-as (c .before .loop .inv .1) (ap (λ (k : ℕ). letters k (c .before .before .before .args .left) (c .before .before .before .args .motif)) (omega arith))
+returns c = wrote-as (c .before .loop .inv .1) (ap (λ (k : ℕ). motif-letters k (c .before .before .before .args .left) (c .before .before .before .args .motif)) (omega arith))
 
 pub print-letters-spec : {M : Type 1} → statement M
 print-letters-spec =

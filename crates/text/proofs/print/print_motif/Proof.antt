@@ -2,8 +2,8 @@
 use borrow.Author.Needs.{needs}
 use native.Mathlib.Omega.{arith}
 use Rattle.text.proofs.Printed.{wrote-length, _then_}
-use Rattle.text.proofs.Letters.{length-letters}
-use Rattle.text.proofs.Shape.{size-is, shape-is, shape-room}
+use Rattle.text.proofs.MotifLetters.{length-letters}
+use Rattle.text.proofs.ShapedMotif.{size-is, shape-is, shape-room}
 use Rattle.text.proofs.print.print_motif.Statement.{statement}
 use Rattle.text.proofs.print.print_motif.Tie as tie
 

@@ -4,9 +4,9 @@ use mathlib.Core.Path.{_≡_, refl, _∙_}
 use Prim.Native.Nat.{_-_, _*_, _≤_}
 use native.Mathlib.Omega.{arith}
 use lib.ListN.{length, take}
-use Rattle.text.specs.Printed.{Line-ROOM, Wrote, page}
+use Rattle.text.specs.Printed.{Line-ROOM, Wrote, printed-page}
 use Rattle.text.proofs.Printed.{wrote-as, wrote-length, _then_}
-use Rattle.text.proofs.Page.{page-none, page-more, page-done}
+use Rattle.text.proofs.PrintedPage.{page-none, page-more, page-done}
 use Rattle.text.proofs.print.print_page.Statement.{statement}
 use Rattle.text.proofs.print.print_page.Tie as tie
 
@@ -15,7 +15,7 @@ Inv-loop template motifs supports weights rows out₀ next₀ i₀ out next i =
     (i ≤ rows)
     × (next ≤ i * Line-ROOM)
     × (length out ≡ length out₀)
-    × Wrote 0 (page template (take i motifs) (take i supports) (take i weights)) out₀ out next
+    × Wrote 0 (printed-page template (take i motifs) (take i supports) (take i weights)) out₀ out next
 
 abbrev μ-loop : tie.MeasureT-loop
 μ-loop template motifs supports weights rows out₀ next₀ i₀ out next i = rows - i

@@ -6,7 +6,7 @@ use Prim.Native.Nat.{ℕ, _-_, _≤_}
 use native.Mathlib.Omega.{arith}
 use Rattle.text.specs.Printed.{Wrote, size-from, shape-from}
 use Rattle.text.proofs.Printed.{wrote-none, wrote-as, wrote-length, _then_}
-use Rattle.text.proofs.Shape.{size-is, shape-from-end, next-fits, next-left, next-done, next-room}
+use Rattle.text.proofs.ShapedMotif.{size-is, shape-from-end, next-fits, next-left, next-done, next-room}
 use Rattle.text.proofs.print.print_rest.Statement.{statement}
 use Rattle.text.proofs.print.print_rest.Tie as tie
 

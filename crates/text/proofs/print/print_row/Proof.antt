@@ -6,7 +6,7 @@ use lib.ListN.{length}
 use Rattle.rules.specs.Text.{print-motif}
 use Rattle.text.specs.Printed.{row}
 use Rattle.text.proofs.Line.{line-room, line-done}
-use Rattle.text.proofs.Shape.{shape-room, length-shape}
+use Rattle.text.proofs.ShapedMotif.{shape-room, length-shape}
 use Rattle.text.proofs.print.print_row.Statement.{statement}
 use Rattle.text.proofs.print.print_row.Tie as tie
 

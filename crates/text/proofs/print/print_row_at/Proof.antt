@@ -1,7 +1,7 @@
 -- The line of a row stands at the front of the buffer's part from the place on.
 use borrow.Author.Needs.{needs}
 use native.Mathlib.Omega.{arith}
-use Rattle.text.proofs.Page.{line-at}
+use Rattle.text.proofs.PrintedPage.{line-at}
 use Rattle.text.proofs.print.print_row_at.Statement.{statement}
 use Rattle.text.proofs.print.print_row_at.Tie as tie
 

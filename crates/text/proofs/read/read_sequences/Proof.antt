@@ -8,7 +8,7 @@ use Rattle.rules.specs.Limits.{Text-BYTES}
 use Rattle.text.specs.Pieces.{find}
 use Rattle.text.proofs.Lines.{text-short}
 use Rattle.text.proofs.Printed.{wrote-length}
-use Rattle.text.proofs.Sequences.{Taken, taken-none, taken-more, taken-all}
+use Rattle.text.proofs.SequenceLines.{Taken, taken-none, taken-more, taken-all}
 use Rattle.text.proofs.read.read_sequences.Statement.{statement}
 use Rattle.text.proofs.read.read_sequences.Tie as tie
 

@@ -1,6 +1,6 @@
 -- `Restored::begun` goes by what the answer is.
 use borrow.Author.Needs.{needs}
-use Rattle.exports.specs.Numbers.{search-told}
+use Rattle.exports.specs.Numbers.{restored-told}
 use Rattle.exports.proofs.told.Restored.begun.Statement.{statement}
 use Rattle.exports.proofs.told.Restored.begun.Tie as tie
 
@@ -23,11 +23,11 @@ place-requires : tie.Need-place-requires
 place-requires c κs = search needs
 
 returns : tie.Need-returns
-unfolding search-told
+unfolding restored-told
 returns c = rw (c .before .before .before .answer .given .1, c .number .ensures)
 
 returns-2 : tie.Need-returns-2
-unfolding search-told
+unfolding restored-told
 returns-2 c = rw (c .before .before .before .answer2 .given .1, c .before .number2 .ensures, c .place .ensures)
 
 pub begun-spec : {M : Type 1} → statement M

@@ -3,8 +3,8 @@ use mathlib.Core.Path.{_≡_, sym, ap, _∙_}
 use mathlib.Core.Bool.{Bool, true, false, not, false≢true}
 use mathlib.Core.List.{List}
 use Prim.Native.Nat.{ℕ}
-use Rattle.checks.specs.Orders.{template-checks, value-checks-before-13}
-use Rattle.places.specs.Orders.{before-13}
+use Rattle.checks.specs.CheckOrders.{template-checks, value-checks-before-13}
+use Rattle.places.specs.SearchOrder.{before-13}
 use Rattle.rules.specs.Lists.{if}
 use Rattle.rules.specs.Refusals.{_else_, first, check13, passes?, set-checks, search-checks}
 use Rattle.rules.specs.Saved.{place-rule?}

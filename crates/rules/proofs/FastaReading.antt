@@ -10,7 +10,7 @@ use native.Mathlib.Numerals.{add-one}
 use native.Mathlib.Omega.{arith}
 use lib.ListN.{length, take, length-append, length-map}
 use Rattle.rules.specs.Calls.{begin-rule, on-refusal}
-use Rattle.rules.specs.Fasta.{lines-from, Entry, letters-of, size-of, records-from, records, text-first?, check19, next-checks, reader-checks, ReaderRule, handing, cursor-after, stays, hands-out, reader-rule, Held, at-first, call, after, HandsOut, no-call, one-more}
+use Rattle.rules.specs.Fasta.{lines-from, Entry, letters-of, size-of, records-from, file-records, text-first?, check19, next-checks, reader-checks, ReaderRule, handing, cursor-after, stays, hands-out, reader-rule, Held, at-first, call, held-after, HandsOut, no-call, one-more}
 use Rattle.rules.specs.FastaRead.{ReadToEnd, ReadWhole, Readable}
 use Rattle.rules.specs.Letters.{value}
 use Rattle.rules.specs.Limits.{Fasta-LENGTH}
@@ -99,7 +99,7 @@ module _ (file : List ℕ) where
             (x, es, record { records = q; no-text = k .0 }, (k .1, k .2), (cc))
 
     -- what a caller then holds
-    after-next : (e : Entry) (es : List Entry) → Left file (h .at) (e ∷ es) → Fit h e → after file h (size-of e) ≡ moved-on h e es
+    after-next : (e : Entry) (es : List Entry) → Left file (h .at) (e ∷ es) → Fit h e → held-after file h (size-of e) ≡ moved-on h e es
     after-next e es l f = rw (call-next e es l f)
 
     -- what such a call leaves: outside the record's letters and its row nothing changes
@@ -181,12 +181,12 @@ module _ (file : List ℕ) where
   run-of (one-more {h} {k} {start} {end} {size} {xs} q rest) e u c = go (found-next h q) (run-of rest e)
     where
       go : ((x : Entry) × (es : List Entry) × Left file (h .at) (x ∷ es) × Fit h x × (handing x ≡ entry start end size))
-          → ((after file h size) .used ≤ length ((after file h size) .letters) → (after file h size) .count ≤ length ((after file h size) .lengths)
-          → Run (after file h size) (records-from file ((after file h size) .at)) xs k)
+          → ((held-after file h size) .used ≤ length ((held-after file h size) .letters) → (held-after file h size) .count ≤ length ((held-after file h size) .lengths)
+          → Run (held-after file h size) (records-from file ((held-after file h size) .at)) xs k)
           → Run h (records-from file (h .at)) (entry start end size ∷ xs) k
       go (x, es, l, f, s) r =
           let n : size ≡ size-of x = cc in
-          let a : after file h size ≡ moved-on h x es = ap (after file h) n ∙ after-next h x es l f in
+          let a : held-after file h size ≡ moved-on h x es = ap (held-after file h) n ∙ after-next h x es l f in
           rw (← s) (run-behind h k x es xs l f a r)
 
   -- and where each record that is left fits, they are handed out one after another
@@ -204,7 +204,7 @@ module _ (file : List ℕ) where
       (omega (arith, put-at-long (h .count) (size-of e ∷ []) (h .lengths) m))
       (λ x i. s x (List·Memᴰ·tail i))
       (λ x i. t x (List·Memᴰ·tail i)) in
-      let q : HandsOut file (after file h (size-of e)) (map handing es) k = rw (after-next h e es l f) r in
+      let q : HandsOut file (held-after file h (size-of e)) (map handing es) k = rw (after-next h e es l f) r in
       (k, one-more (ap (λ r. r .told) (call-next h e es l f)) q, z)
 
 -- ---- a file read to its end
@@ -220,15 +220,15 @@ sum-sizes [] = refl
 sum-sizes (e ∷ es) = omega (arith, sum-sizes es, length-append (letters-of e) (each letters-of es))
 
 module _ (file letters lengths : List ℕ) where
-  run-whole : {xs : List Handing} {k : Held} → ReadToEnd file letters lengths xs k → Run file (at-first letters lengths) (records file) xs k
-  unfolding records
+  run-whole : {xs : List Handing} {k : Held} → ReadToEnd file letters lengths xs k → Run file (at-first letters lengths) (file-records file) xs k
+  unfolding file-records
   run-whole r = run-of file (r .calls) (r .no-more) (omega arith) (omega arith)
 
   pub read-whole : (xs : List Handing) (k : Held) → ReadToEnd file letters lengths xs k → ReadWhole file letters lengths xs k
   unfolding put-at sequences
   read-whole xs k e =
       let r = run-whole e in
-      let es = records file in
+      let es = file-records file in
       let u : k .used ≡ length (each letters-of es) = omega (arith, r .used) in
       let c : k .count ≡ length (map size-of es) = omega (arith, r .count, length-map es size-of) in
       let a : take (k .used) (k .letters) ≡ each letters-of es = rw (r .buffer) (put-front (k .used) (each letters-of es) letters (sym u)) in
@@ -245,17 +245,17 @@ module _ (file letters lengths : List ℕ) where
       }
 
   -- a file without a record gives none: no row is used, so a search over them is refused
-  pub read-none : (xs : List Handing) (k : Held) → ReadToEnd file letters lengths xs k → records file ≡ [] → (t : Template) (quorum : ℕ)
+  pub read-none : (xs : List Handing) (k : Held) → ReadToEnd file letters lengths xs k → file-records file ≡ [] → (t : Template) (quorum : ℕ)
       → begin-rule (take (k .used) (k .letters)) (take (k .count) (k .lengths)) t quorum ≡ refuses 1 0
   unfolding begin-rule new-checks check1 first _else_
   read-none xs k e n t quorum = let b : take (k .count) (k .lengths) ≡ [] = read-whole xs k e .sizes ∙ ap (map size-of) n in rw b
 
   -- exactly the readable files can be read so
   pub reads : Readable file letters lengths ↔ ((xs : List Handing) × (k : Held) × ReadToEnd file letters lengths xs k)
-  unfolding records
+  unfolding file-records
   reads = (
-    λ r. let (k, c, e) = run-to file (records file) (at-first letters lengths) (record { records = refl; no-text = denied _ (text-says file 0) .1 (r .no-text) }) (omega (arith, r .room)) (omega (arith, r .rows)) (r .short) (r .all-letters) in
-        (map handing (records file), k, record { calls = c; no-more = e }),
+    λ r. let (k, c, e) = run-to file (file-records file) (at-first letters lengths) (record { records = refl; no-text = denied _ (text-says file 0) .1 (r .no-text) }) (omega (arith, r .room)) (omega (arith, r .rows)) (r .short) (r .all-letters) in
+        (map handing (file-records file), k, record { calls = c; no-more = e }),
     λ h. let r = run-whole (h .2) in
         record { no-text = denied _ (text-says file 0) .0 (no-text (h .2 .calls) (h .2 .no-more)); room = omega (arith, r .room); rows = omega (arith, r .rows); short = r .short; all-letters = r .spelt },
   )

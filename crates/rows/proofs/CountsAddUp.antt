@@ -16,7 +16,7 @@ use Rattle.rules.proofs.Ways.{occurrences-count}
 use Rattle.rules.specs.Lists.{if, sign, run, sum, some?}
 use Rattle.rules.specs.Occurrence.{front-by, stands-by, found, reach, occurrences, ways}
 use Rattle.rules.specs.Template.{Part, span}
-use Rattle.rows.specs.Flags.{kept-at, kept, matched, recent, around, added, following, last-by, last-starts, last-ways, left?}
+use Rattle.rows.specs.Flags.{kept-at, kept-flags, matched, recent, around, added, following, last-by, last-starts, last-ways, left?}
 use Rattle.rows.proofs.Last.{length-matched, length-added}
 use Rattle.rows.proofs.Signs.{sign-some, sign-none, starts-sign}
 use Rattle.rows.proofs.Sums.{sum-agree, sum-is, exchanged}
@@ -50,8 +50,8 @@ module _ (f : ℕ → ℕ → Bool) where
   twice false true x = refl
   twice false false x = refl
 
-  kept-is : (x j : ℕ) (s ks : List ℕ) (o : ℕ) → o < length s → getD (kept f x j s ks) o 0 ≡ if (stands-by f 0 (x ∷ []) s (suc (o + j))) (getD ks o 0) 0
-  unfolding kept kept-at
+  kept-is : (x j : ℕ) (s ks : List ℕ) (o : ℕ) → o < length s → getD (kept-flags f x j s ks) o 0 ≡ if (stands-by f 0 (x ∷ []) s (suc (o + j))) (getD ks o 0) 0
+  unfolding kept-flags kept-at
   kept-is x j s ks o h = getD-map-run (kept-at f x j s ks) 0 0 (length s) o h ∙ ap (kept-at f x j s ks) (zero-add o)
 
   -- a word keeps what stands where it does
@@ -59,7 +59,7 @@ module _ (f : ℕ → ℕ → Bool) where
   unfolding matched
   matched-is [] j s ks o h = unfold stands-by front-by in refl
   matched-is (x ∷ w) j s ks o h =
-      matched-is w (suc j) s (kept f x j s ks) o h
+      matched-is w (suc j) s (kept-flags f x j s ks) o h
       ∙ ap (λ (k : ℕ). if (stands-by f 0 w s (suc (o + suc j))) k 0) (kept-is x j s ks o h)
       ∙ twice (stands-by f 0 (x ∷ []) s (suc (o + j))) (stands-by f 0 w s (suc (o + suc j))) (getD ks o 0)
       ∙ ap (λ (b : Bool). if b (getD ks o 0) 0) (sym (stands-cons x w s o j))

@@ -7,7 +7,7 @@ use native.Mathlib.Numerals.{add-one}
 use native.Mathlib.Omega.{arith}
 use lib.ListN.{length, take, drop, getD, length-append, length-map, drop-of-length-le}
 use lib.Seq.{drop-cons, drop-drop}
-use Rattle.descent.specs.Buffer.{Buffer, emits, after}
+use Rattle.descent.specs.Buffer.{Buffer, emits, with-front}
 use Rattle.descent.proofs.Buffer.{emits-append}
 use Rattle.rules.specs.Letters.{value}
 use Rattle.rules.specs.Occurrence.{occurrences}
@@ -37,15 +37,15 @@ module _ (w : ℕ) (cs : List Part) (ns l : List ℕ) where
 
   -- first those of sequence i
   through-on : (i b : ℕ) (s : Buffer) → i < length ns
-      → going-through i b s ≡ going-through (i + 1) (b + getD ns i 0) (emits w (after ((i + 1) ∷ []) (occurrences cs (map value (take (getD ns i 0) (drop b l))))) s)
-  unfolding going-through split rows-from after
+      → going-through i b s ≡ going-through (i + 1) (b + getD ns i 0) (emits w (with-front ((i + 1) ∷ []) (occurrences cs (map value (take (getD ns i 0) (drop b l))))) s)
+  unfolding going-through split rows-from with-front
   through-on i b s h =
       rw (add-one i, drop-cons ns i 0 h, drop-drop (getD ns i 0) b (map value l), add-one (suc i), map-drop value b l, map-take value (getD ns i 0) (drop b l))
       (emits-append w _ _ s)
 
   -- so after the turn of sequence i there is as much left to do
   pub through-again : (i b e : ℕ) (s : Buffer) {s′ x : Buffer} {z : List ℕ} → i < length ns → e ≡ b + getD ns i 0 → z ≡ take (e - b) (drop b l)
-      → s′ ≡ emits w (after ((i + 1) ∷ []) (occurrences cs (map value z))) s → going-through i b s ≡ x → going-through (i + 1) e s′ ≡ x
+      → s′ ≡ emits w (with-front ((i + 1) ∷ []) (occurrences cs (map value z))) s → going-through i b s ≡ x → going-through (i + 1) e s′ ≡ x
   through-again i b e s h q p k r = let d : e - b ≡ getD ns i 0 = omega arith in rw (k, p, d, q) (sym (through-on i b s h) ∙ r)
 
 -- ---- how many there are

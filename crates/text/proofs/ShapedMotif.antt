@@ -16,25 +16,25 @@ use Rattle.rules.specs.declared.Template.{Template}
 use Rattle.rules.proofs.Components.{components-more, components-none}
 use Rattle.rules.proofs.Spelling.{spell-drop}
 use Rattle.rules.proofs.Tables.{map-take, map-drop}
-use Rattle.text.specs.Printed.{Wrote, pair, letters, ranged-word, size-from, shape-from}
+use Rattle.text.specs.Printed.{Wrote, number-pair, motif-letters, ranged-word, size-from, shape-from}
 use Rattle.text.proofs.Decimal.{decimal-short}
 use Rattle.text.proofs.Printed.{length-pair, room}
-use Rattle.text.proofs.Letters.{length-letters}
+use Rattle.text.proofs.MotifLetters.{length-letters}
 
 ranged-is : (c : Component) (w rest : List ℕ)
-    → 91 ∷ decimal (c .low) ++ 44 ∷ decimal (c .high) ++ 93 ∷ w ++ rest ≡ (pair 91 (c .low) 44 (c .high) 93 ++ w) ++ rest
-unfolding pair
+    → 91 ∷ decimal (c .low) ++ 44 ∷ decimal (c .high) ++ 93 ∷ w ++ rest ≡ (number-pair 91 (c .low) 44 (c .high) 93 ++ w) ++ rest
+unfolding number-pair
 ranged-is c w rest = sym (ap (λ (l : List ℕ). l ++ rest) (append-assoc (91 ∷ decimal (c .low) ++ 44 ∷ decimal (c .high)) (93 ∷ []) w))
 
 -- a gap range and its letters
-pub length-ranged : (c : Component) (j m : ℕ) → c .length ≤ j → length (ranged-word c j m) ≡ length (pair 91 (c .low) 44 (c .high) 93) + c .length
+pub length-ranged : (c : Component) (j m : ℕ) → c .length ≤ j → length (ranged-word c j m) ≡ length (number-pair 91 (c .low) 44 (c .high) 93) + c .length
 unfolding ranged-word
 length-ranged c j m h = rw (length-append, length-letters (c .length) j m h)
 
 -- the first component takes its letters off the front
 shape-first : (c : Component) {cs rest : List Component} (j m : ℕ) → cs ≡ c ∷ rest
-    → shape cs (map letter (spell 4 (c .length + j) m)) ≡ letters (c .length) (c .length + j) m ++ shape-rest rest (map letter (spell 4 j m))
-unfolding shape letters
+    → shape cs (map letter (spell 4 (c .length + j) m)) ≡ motif-letters (c .length) (c .length + j) m ++ shape-rest rest (map letter (spell 4 j m))
+unfolding shape motif-letters
 shape-first c j m e = rw (e, map-take, map-drop, spell-drop 4 (c .length) j m)
 
 module _ (t : Template) (S : SoundTemplate t) where
@@ -56,7 +56,7 @@ module _ (t : Template) (S : SoundTemplate t) where
 
   shape-from-more : (i m : ℕ) {c : Component} → i < t .count → c ≡ getD (slots t) i none
       → shape-from t i m ≡ ranged-word c (size-from t i) m ++ shape-from t (i + 1) m
-  unfolding shape-from shape-rest ranged-word letters
+  unfolding shape-from shape-rest ranged-word motif-letters
   shape-from-more i m {c} h e = rw (from-more i h e, size-from-more i h e, map-take, map-drop, spell-drop 4 (c .length) (size-from t (i + 1)) m) (ranged-is c _ _)
 
   -- past the last component nothing is printed
@@ -69,7 +69,7 @@ module _ (t : Template) (S : SoundTemplate t) where
   size-is = sym size-from-none ∙ size-from-more 0 (S .some) refl
 
   -- a motif's shape is the first component's letters and the shape of the others
-  pub shape-is : (m : ℕ) → print-motif t m ≡ letters (t .c1 .length) (size t) m ++ shape-from t 1 m
+  pub shape-is : (m : ℕ) → print-motif t m ≡ motif-letters (t .c1 .length) (size t) m ++ shape-from t 1 m
   unfolding print-motif shape-from
   shape-is m = rw size-is (shape-first (t .c1) (size-from t 1) m (from-more 0 (S .some) refl))
 

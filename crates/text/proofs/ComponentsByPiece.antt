@@ -12,7 +12,7 @@ use Rattle.rules.specs.Text.{Parsed, parsed, malformed, well-formed?, or-else, 
 use Rattle.rules.specs.declared.Component.{Component}
 use Rattle.rules.specs.declared.Profile.the-variants.{Exact}
 use Rattle.rules.specs.declared.Template.{Template}
-use Rattle.text.specs.Pieces.{find, others, after}
+use Rattle.text.specs.Pieces.{find, others, after-pieces}
 use Rattle.text.proofs.Scan.{pieces-cut, pieces-after, scan-cut}
 
 -- what a well-formed list of components comes to
@@ -62,7 +62,7 @@ pieces-first : {ps : List (List ℕ)} (p : List ℕ) (rest : List (List ℕ)) �
 pieces-first p rest e w = rw e (consed (parse-first p) (parse-rest rest) (rw e at w) .first)
 
 -- the piece at an index, as a scan finds it
-piece-at : (b i start : ℕ) {end : ℕ} (l : List ℕ) → i < length (pieces b l) → start ≤ length l → drop start l ≡ after b i l → end ≡ start + find b (drop start l)
+piece-at : (b i start : ℕ) {end : ℕ} (l : List ℕ) → i < length (pieces b l) → start ≤ length l → drop start l ≡ after-pieces b i l → end ≡ start + find b (drop start l)
     → getD (pieces b l) i [] ≡ take (end - start) (drop start l)
 piece-at b i start {end} l h s a e =
     ap (λ (k : ℕ). getD (pieces b l) k []) (sym (add-zero i))
@@ -81,7 +81,7 @@ module _ (l : List ℕ) (w : well-formed? (parse-components l) ≡ true) where
   slot-first = pieces-first (take (find 91 l) l) (others 91 l) (pieces-cut 91 l) w
 
   -- one after the first
-  pub slot-at : (i start : ℕ) {end : ℕ} → 1 ≤ i → i < length (pieces 91 l) → start ≤ length l → drop start l ≡ after 91 i l → end ≡ start + find 91 (drop start l)
+  pub slot-at : (i start : ℕ) {end : ℕ} → 1 ≤ i → i < length (pieces 91 l) → start ≤ length l → drop start l ≡ after-pieces 91 i l → end ≡ start + find 91 (drop start l)
       → getD (or-else (parse-components l) []) i none ≡ or-else (parse-component (take (end - start) (drop start l))) none
   unfolding parse-components
   slot-at i start k h s a e = pieces-at (pieces 91 l) i w k h ∙ rw (piece-at 91 i start l h s a e)

@@ -7,7 +7,7 @@ use native.Mathlib.Omega.{arith}
 use lib.ListN.{length, take, drop, set, length-take, length-drop}
 use Rattle.rules.specs.Lists.{joined, put}
 use Rattle.rules.specs.Text.{pieces, but-last, lines, parse-letters, parse-lengths}
-use Rattle.text.specs.Pieces.{find, after}
+use Rattle.text.specs.Pieces.{find, after-pieces}
 use Rattle.text.specs.Printed.{Wrote}
 use Rattle.text.proofs.Printed.{wrote-none, wrote-one, wrote-as, wrote-put, _then_}
 use Rattle.text.proofs.Scan.{lines-after, lines-more, lines-none}
@@ -25,7 +25,7 @@ pub record Taken (l letters lengths letters' lengths' : List ℕ) (n k start : �
 
 module _ (l letters lengths : List ℕ) where
   -- nothing is read yet
-  pub taken-none : (start : ℕ) → drop start l ≡ after 10 2 l → Taken l letters lengths letters lengths 0 0 start
+  pub taken-none : (start : ℕ) → drop start l ≡ after-pieces 10 2 l → Taken l letters lengths letters lengths 0 0 start
   unfolding parse-letters parse-lengths lines
   taken-none start e = record {
     bytes = [];

@@ -14,7 +14,7 @@ use Rattle.rules.proofs.All.{member-at}
 use Rattle.rules.proofs.TextNumbers.{digits-all, number-says, digits-cons}
 use Rattle.rules.specs.Lists.{all?, some?}
 use Rattle.rules.specs.Motif.{number}
-use Rattle.rules.specs.Text.{between, number?, digits, run?}
+use Rattle.rules.specs.Text.{in-range?, number?, digits, run?}
 
 -- ---- every byte
 
@@ -40,7 +40,7 @@ module _ (f : ℕ → Bool) where
   all-same g h (x ∷ xs) = rw (h x, all-same g h xs)
 
 -- from 78 to 78 there is N alone
-only : (n b : ℕ) → between n n b ≡ eqb b n
+only : (n b : ℕ) → in-range? n n b ≡ eqb b n
 only n b = go (leb n b) refl (leb b n) refl
   where
     go : (s : Bool) → leb n b ≡ s → (t : Bool) → leb b n ≡ t → s && t ≡ eqb b n
@@ -49,10 +49,10 @@ only n b = go (leb n b) refl (leb b n) refl
     go false p t q = sym (ne-eqb b n (λ e. omega (arith, e, leb-false n b p)))
 
 -- a run of N is a text that is not empty and has nothing else
-pub run-is : (l : List ℕ) → ltb 0 (length l) && all? (between 78 78) l ≡ run? l
+pub run-is : (l : List ℕ) → ltb 0 (length l) && all? (in-range? 78 78) l ≡ run? l
 unfolding run? some?
 run-is [] = refl
-run-is (x ∷ xs) = rw (lt-ltb 0 (suc (length xs)) (omega arith)) (all-same (between 78 78) (λ b. eqb b 78) (only 78) (x ∷ xs))
+run-is (x ∷ xs) = rw (lt-ltb 0 (suc (length xs)) (omega arith)) (all-same (in-range? 78 78) (λ b. eqb b 78) (only 78) (x ∷ xs))
 
 -- ---- a number
 
@@ -73,11 +73,11 @@ module _ (i v : ℕ) (l : List ℕ) (h : i < length l) where
       e ∙ rw (j, pow-succ', digits-at) (omega arith)
 
   -- a digit is from 0 to 9
-  pub digit-low : all? (between 48 57) l ≡ true → 48 ≤ getD l i 0
+  pub digit-low : all? (in-range? 48 57) l ≡ true → 48 ≤ getD l i 0
   digit-low e = digits-all l .0 e (getD l i 0) (member-at l i 0 h) .0
 
   -- and at most 9
-  pub digit-high : all? (between 48 57) l ≡ true → getD l i 0 ≤ 57
+  pub digit-high : all? (in-range? 48 57) l ≡ true → getD l i 0 ≤ 57
   digit-high e = digits-all l .0 e (getD l i 0) (member-at l i 0 h) .1
 
   -- five digits are below a hundred thousand
@@ -88,7 +88,7 @@ module _ (i v : ℕ) (l : List ℕ) (h : i < length l) where
 
 module _ (most : ℕ) (l : List ℕ) (e : number? most l ≡ true) where
   -- its bytes are digits
-  pub number-digits : all? (between 48 57) l ≡ true
+  pub number-digits : all? (in-range? 48 57) l ≡ true
   number-digits = digits-all l .1 (number-says most l .0 e .all-digits)
 
   -- it has no more digits than it may

@@ -17,9 +17,9 @@ use Rattle.rules.specs.declared.Component.{Component}
 use Rattle.rules.specs.declared.Template.{Template}
 use Rattle.rows.specs.Flags.{Count-MOST, reached, added}
 use Rattle.matching.specs.Path.{Path, path-slot, prefix-starts, before-next}
-use Rattle.rows.specs.Prefix.{At, letters-before}
+use Rattle.rows.specs.NextLetter.{At, letters-before}
 use Rattle.rows.specs.Set.{bits-at, marked?, Row, Source}
-use Rattle.matching.specs.Weights.{Counts, begun-counts, prefix-of, Leads-to, Leads}
+use Rattle.matching.specs.Weights.{HoldsCounts, begun-counts, prefix-of, Leads-to, Leads}
 use Rattle.matching.proofs.Led.{number-less, prefix-path, letters-next, letters-size, led-none, led-small, led-dark, led-more}
 
 -- before the first turn there are no letters
@@ -152,7 +152,7 @@ module _ {t : Template} {depth : ℕ} {cs : List Component} {c n : ℕ} (turn : 
         led-dark t (turn .sound) l ns set (c - 1) prefix (omega arith) row row-here counts first begins-here goes-here room (omega arith) d w near wide (path-slot evens odds next) source
 
     -- and with the gap opened they are those before the next component
-    pub next-led : (opened out : List ℕ) → Counts (marked? row) (λ k. added d (d + w - 1) (begun-counts first ns row counts k)) ns opened out (length ns) → Leads-to t ns l c (m / base-of t ^ (depth - next)) out
+    pub next-led : (opened out : List ℕ) → HoldsCounts (marked? row) (λ k. added d (d + w - 1) (begun-counts first ns row counts k)) ns opened out (length ns) → Leads-to t ns l c (m / base-of t ^ (depth - next)) out
     next-led opened out all =
         let z : suc (c - 1) ≡ c = omega arith in
         rw (z, is) at (led-more t (turn .sound) l ns set (c - 1) prefix (omega arith) row row-here counts first begins-here goes-here room (omega arith) d w near wide opened out all)

@@ -9,8 +9,8 @@ use native.Mathlib.Omega.{arith}
 use lib.Dec.{ltb}
 use lib.ListN.{length, drop, getD, length-drop}
 use borrow.Author.Tests.{ltb-true, ltb-false}
-use Rattle.descent.specs.Buffer.{Buffer, emits, after}
-use Rattle.descent.specs.Paths.{flag, paths, listed, Flagged}
+use Rattle.descent.specs.Buffer.{Buffer, emits, with-front}
+use Rattle.descent.specs.Paths.{flag, paths, listed-rows, Flagged}
 use Rattle.rules.specs.Profile.{profile-of, base-of}
 use Rattle.rules.proofs.Components.{components-length, components-some}
 use Rattle.descent.proofs.Paths.{flag-zero, flag-past}
@@ -131,6 +131,6 @@ module _ {t : Template} (sound : SoundTemplate t) (m : ℕ) where
     paths-are = paths-starts s flags 0 (components t) (parts t (size t) m) 0 parts-shaped (parts-worded t sound (size t) m) (λ i h p l k. rw (zero-add i) (flagged i (omega arith) h p l k))
 
     -- so all that is listed are the occurrences
-    pub listed-are : (i n : ℕ) → length s ≡ n → (b : Buffer) {r : Buffer} → r ≡ listed t n flags i b → r ≡ emits (suc (t .count)) (after (i ∷ []) (occurrences (parts t (size t) m) s)) b
+    pub listed-are : (i n : ℕ) → length s ≡ n → (b : Buffer) {r : Buffer} → r ≡ listed-rows t n flags i b → r ≡ emits (suc (t .count)) (with-front (i ∷ []) (occurrences (parts t (size t) m) s)) b
     unfolding occurrences
     listed-are i n e b q = q ∙ rw (← e, each-same (paths (length s) flags (components t) 0) (starts (parts t (size t) m) s) (run 1 (length s)) paths-are)

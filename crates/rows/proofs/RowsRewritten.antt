@@ -17,7 +17,7 @@ use Rattle.rows.proofs.Bits.{held-at}
 use Rattle.rows.proofs.Digits.{digit}
 use Rattle.rows.proofs.Marks.{same-word}
 use Rattle.rows.proofs.Sets.{first-past, first-least, first-most, between-kept, take-less, kept-from, bits-are-at}
-use Rattle.rows.proofs.Walk.{Walked, clash, walked-none, walked-turn}
+use Rattle.rows.proofs.MarksWalk.{Walked, clash, walked-none, walked-turn}
 
 -- the sequences from a up to k rewritten as far as they are on, and the words before and behind them as they were
 pub record Rewritten (on : ℕ → Bool) (g : ℕ → List ℕ) (ns : List ℕ) (a k : ℕ) (x y : List ℕ) : Type 0 where

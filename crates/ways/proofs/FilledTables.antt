@@ -9,11 +9,11 @@ use native.Mathlib.Omega.{arith}
 use lib.ListN.{length, getD, List·getD-eq-default}
 use Rattle.rules.specs.Lists.{run, sum, over}
 use Rattle.rules.proofs.Over.{length-map-run, getD-map-run, map-shift, over-keeps, over-all}
-use Rattle.ways.specs.Counts.{entry}
+use Rattle.ways.specs.Counts.{at-position}
 
 -- a table made so is bounded as f is
-pub over-most : (f : ℕ → ℕ) (b : ℕ) → ((p : ℕ) → f p ≤ b) → (n : ℕ) {y : List ℕ} → y ≡ map f (run 1 n) → (p : ℕ) → entry y p ≤ b
-unfolding entry
+pub over-most : (f : ℕ → ℕ) (b : ℕ) → ((p : ℕ) → f p ≤ b) → (n : ℕ) {y : List ℕ} → y ≡ map f (run 1 n) → (p : ℕ) → at-position y p ≤ b
+unfolding at-position
 over-most f b h n e zero = omega arith
 over-most f b h n e (suc o) = rw e (go 1 n o)
   where
@@ -61,8 +61,8 @@ by-offset f o = f (suc o)
 
 module _ (f : ℕ → ℕ) (o : ℕ) (l : List ℕ) {x : List ℕ} (e : x ≡ over (by-offset f) o l) where
   -- what stands past the front is as it was
-  pub entry-keeps : (i : ℕ) → o ≤ i → entry x (suc i) ≡ entry l (suc i)
-  unfolding entry
+  pub entry-keeps : (i : ℕ) → o ≤ i → at-position x (suc i) ≡ at-position l (suc i)
+  unfolding at-position
   entry-keeps i h = over-keeps (by-offset f) o l e i h
 
   -- past the last turn the table is f of all positions

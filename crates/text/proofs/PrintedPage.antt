@@ -9,11 +9,11 @@ use lib.Seq.{sets-eq, drop-drop, take-all}
 use borrow.Rule.Slice.PartMut.{midOf, putMid, post-is}
 use Rattle.rules.specs.Lists.{put}
 use Rattle.rules.specs.declared.Template.{Template}
-use Rattle.text.specs.Printed.{Line-ROOM, write, Wrote, Line, row, page, Page}
+use Rattle.text.specs.Printed.{Line-ROOM, write, Wrote, WroteLine, row, printed-page, Page}
 use Rattle.text.proofs.Printed.{wrote-none, wrote-put}
 
 -- a line at the front of a part of a buffer is written to the buffer from where the part starts
-pub line-at : (at : ℕ) (text xs : List ℕ) {ys : List ℕ} {r : ℕ} → at + Line-ROOM ≤ length xs → Line text (midOf at (length xs - at) xs) ys r → Wrote at text xs (putMid at (length xs - at) xs ys) (at + r)
+pub line-at : (at : ℕ) (text xs : List ℕ) {ys : List ℕ} {r : ℕ} → at + Line-ROOM ≤ length xs → WroteLine text (midOf at (length xs - at) xs) ys r → Wrote at text xs (putMid at (length xs - at) xs ys) (at + r)
 unfolding write put
 line-at at text xs {ys} {r} h l =
     let k : at + length text ≤ length xs = omega (arith, l .end, l .short) in
@@ -28,8 +28,8 @@ line-at at text xs {ys} {r} h l =
 module _ (t : Template) where
   -- one row more
   pub page-more : (i : ℕ) (ms ss ws : List ℕ) → i < length ms → i < length ss → i < length ws
-      → page t (take i ms) (take i ss) (take i ws) ++ row t (getD ms i 0) (getD ss i 0) (getD ws i 0) ≡ page t (take (i + 1) ms) (take (i + 1) ss) (take (i + 1) ws)
-  unfolding page
+      → printed-page t (take i ms) (take i ss) (take i ws) ++ row t (getD ms i 0) (getD ss i 0) (getD ws i 0) ≡ printed-page t (take (i + 1) ms) (take (i + 1) ss) (take (i + 1) ws)
+  unfolding printed-page
   page-more i [] ss ws h k l = absurd (omega arith)
   page-more i (m ∷ ms) [] ws h k l = absurd (omega arith)
   page-more i (m ∷ ms) (s ∷ ss) [] h k l = absurd (omega arith)
@@ -39,8 +39,8 @@ module _ (t : Template) where
       rw (e, append-assoc) (ap (λ (p : List ℕ). row t m s w ++ p) (page-more i ms ss ws (omega arith) (omega arith) (omega arith)))
 
   -- no row yet
-  pub page-none : (ms ss ws out : List ℕ) → Wrote 0 (page t (take 0 ms) (take 0 ss) (take 0 ws)) out out 0
-  unfolding page
+  pub page-none : (ms ss ws out : List ℕ) → Wrote 0 (printed-page t (take 0 ms) (take 0 ss) (take 0 ws)) out out 0
+  unfolding printed-page
   page-none ms ss ws out = wrote-none 0 out
 
 -- what was written from the front on is the page

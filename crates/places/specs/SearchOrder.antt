@@ -1,7 +1,7 @@
 -- The checks of a search before 13, in their order.
 use mathlib.Core.List.{List}
 use Prim.Native.Nat.{ℕ}
-use Rattle.checks.specs.Orders.{value-checks-before-13}
+use Rattle.checks.specs.CheckOrders.{value-checks-before-13}
 use Rattle.rules.specs.Refusals.{_else_, first, set-checks}
 use Rattle.rules.specs.Told.{Verdict}
 use Rattle.rules.specs.declared.Search.{Search}

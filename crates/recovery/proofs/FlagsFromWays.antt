@@ -9,8 +9,8 @@ use lib.Dec.{ltb, eqb}
 use lib.ListN.{length, take, drop, getD, length-append, length-map, List·getD-append, List·getD-map}
 use lib.Seq.{getD-append-add, getD-drop, getD-take, length-take-le, take-at}
 use borrow.Author.Tests.{lt-ltb, ltb-true, ltb-false}
-use Rattle.descent.specs.Paths.{flag, paths, Flagged, Counted}
-use Rattle.descent.proofs.Flags.{parts-count, paths-are}
+use Rattle.descent.specs.Paths.{flag, paths, Flagged, WaysCounted}
+use Rattle.descent.proofs.RightFlags.{parts-count, paths-are}
 use Rattle.descent.proofs.Paths.{flag-in}
 use Rattle.rules.specs.Limits.{SequenceSet-LETTERS, Template-COMPONENTS}
 use Rattle.rules.specs.Lists.{sign, some?, sum}
@@ -121,7 +121,7 @@ module _ {t : Template} (sound : SoundTemplate t) (m : ℕ) (s : List ℕ) where
 
   -- the ways of the first component and those after it, at the front of a table, count what is read off under each position
   pub counted : (flags : List ℕ) → Flagged (parts t (size t) m) s flags 0 → (n : ℕ) → length s ≡ n → (table : List ℕ)
-      → take n table ≡ counts (parts t (size t) m) s → Counted n flags (components t) table
+      → take n table ≡ counts (parts t (size t) m) s → WaysCounted n flags (components t) table
   counted flags flagged n e table h p some inside =
       let l : p ≤ length s = rw e inside in
       sym (getD-take n table (p - 1) 0 (omega arith)) ∙ ap (λ x. getD x (p - 1) 0) h ∙ counts-at (parts t (size t) m) s p some l

@@ -16,7 +16,7 @@ use Rattle.rows.specs.Flags.{left?}
 use Rattle.rows.specs.Bits.{held}
 use Rattle.rows.proofs.Gaps.{ago-in, ago-out}
 use Rattle.rows.specs.Rows.{behind, extended}
-use Rattle.rows.specs.Words.{down, up, extended-word, behind-word, either-word}
+use Rattle.rows.specs.Words.{shifted-down, shifted-up, extended-word, behind-word, either-word}
 use Rattle.rows.proofs.Digits.{down-none}
 use Rattle.rows.proofs.Bits.{extended-row, behind-row}
 pub use Rattle.rows.proofs.Bits.{bit-small}
@@ -28,7 +28,7 @@ nothing (x ∷ l) e = absurd (omega arith)
 
 -- ONE LETTER MORE
 module _ (i : ℕ) (ls ws : List ℕ) where
-  pub extended-is : (q : ℕ) {r : ℕ} → r ≡ down i (getD ls q 0) (getD ls (q + 1) 0) → bitAnd (getD ws q 0) r ≡ extended-word i ls ws q
+  pub extended-is : (q : ℕ) {r : ℕ} → r ≡ shifted-down i (getD ls q 0) (getD ls (q + 1) 0) → bitAnd (getD ws q 0) r ≡ extended-word i ls ws q
   unfolding extended-word
   extended-is q e = rw e
 
@@ -37,14 +37,14 @@ module _ (i : ℕ) (ls ws : List ℕ) where
   extended-plain z q = extended-is q (rw z (sym (down-none (getD ls q 0) (getD ls (q + 1) 0))))
 
   -- no word comes after the last
-  pub extended-last : (q : ℕ) {r : ℕ} → length ls ≤ q + 1 → r ≡ down i (getD ls q 0) 0 → bitAnd (getD ws q 0) r ≡ extended-word i ls ws q
-  extended-last q h e = extended-is q (e ∙ ap (down i (getD ls q 0)) (sym (List·getD-eq-default ls 0 h)))
+  pub extended-last : (q : ℕ) {r : ℕ} → length ls ≤ q + 1 → r ≡ shifted-down i (getD ls q 0) 0 → bitAnd (getD ws q 0) r ≡ extended-word i ls ws q
+  extended-last q h e = extended-is q (e ∙ ap (shifted-down i (getD ls q 0)) (sym (List·getD-eq-default ls 0 h)))
 
   extended-fits : ((q : ℕ) → getD ws q 0 < 2 ^ 64) → (q : ℕ) → getD (map (extended-word i ls ws) (run 0 (length ws))) q 0 < 2 ^ 64
   unfolding extended-word
   extended-fits fits q =
       elim (decLt q (length ws)) [
-        | yes l ↦ rw (getD-map-run (extended-word i ls ws) 0 0 (length ws) q l, zero-add q) (small (getD ws q 0) (down i (getD ls q 0) (getD ls (q + 1) 0)) (fits q))
+        | yes l ↦ rw (getD-map-run (extended-word i ls ws) 0 0 (length ws) q l, zero-add q) (small (getD ws q 0) (shifted-down i (getD ls q 0) (getD ls (q + 1) 0)) (fits q))
         | no n ↦ (let k : length (map (extended-word i ls ws) (run 0 (length ws))) ≤ q = rw length-map-run (omega arith) in
             rw (List·getD-eq-default (map (extended-word i ls ws) (run 0 (length ws))) 0 k) (omega arith))
       ]
@@ -64,7 +64,7 @@ module _ (i : ℕ) (ls ws : List ℕ) where
     pub kept-whole : (n a : ℕ) {x : List ℕ} {r : ℕ} {found : Bool} → n + 1 ≡ length ws
         → eqb a 0 ≡ not (left? (map (extended-word i ls ws) (run 0 n)))
         → x ≡ over (extended-word i ls ws) n l
-        → r ≡ down i (getD ls n 0) 0
+        → r ≡ shifted-down i (getD ls n 0) 0
         → found ≡ not (eqb (bitOr a (bitAnd (getD ws n 0) r)) 0)
         → (held (set x n (bitAnd (getD ws n 0) r)) ≡ extended i (held ls) (held ws)) × (found ≡ left? (held (set x n (bitAnd (getD ws n 0) r))))
     kept-whole n a {x} {r} {found} h e o z f =
@@ -105,21 +105,21 @@ unfolding either-word
 either-is ws vs x q e = rw e
 
 -- A SHIFT UP
-up-none : (i : ℕ) → up i 0 0 ≡ 0
-unfolding up
+up-none : (i : ℕ) → shifted-up i 0 0 ≡ 0
+unfolding shifted-up
 up-none i =
     let a : (0 * 2 ^ i) % 2 ^ 64 ≡ 0 = ap (λ (x : ℕ). x % 2 ^ 64) (zero-mul (2 ^ i)) in
     let b : 0 / 2 / 2 ^ (63 - i) ≡ 0 = zero-div (2 ^ (63 - i)) in
     rw (a, b)
 
 module _ (e i : ℕ) (ws : List ℕ) where
-  pub behind-is : (q : ℕ) {r : ℕ} → e < q → r ≡ up i (getD ws (q - e - 1) 0) (getD ws (q - e) 0) → r ≡ behind-word e i ws q
+  pub behind-is : (q : ℕ) {r : ℕ} → e < q → r ≡ shifted-up i (getD ws (q - e - 1) 0) (getD ws (q - e) 0) → r ≡ behind-word e i ws q
   unfolding behind-word
   behind-is q h z =
       let k : q - e - 1 ≡ q - (e + 1) = omega arith in
       z ∙ rw (k, ago-in ws q (e + 1) (omega arith), ago-in ws q e (omega arith))
 
-  pub behind-first : {r : ℕ} → r ≡ up i 0 (getD ws 0 0) → r ≡ behind-word e i ws e
+  pub behind-first : {r : ℕ} → r ≡ shifted-up i 0 (getD ws 0 0) → r ≡ behind-word e i ws e
   unfolding behind-word
   behind-first z = let k : e - e ≡ 0 = omega arith in z ∙ rw (ago-out ws e (e + 1) (omega arith), ago-in ws e e (omega arith), k)
 
@@ -146,7 +146,7 @@ behind-bits d ws fits z =
 
 -- the whole: none of the first words, then the first that has bits, then the others
 module _ (d : ℕ) (ws l : List ℕ) (long : length l ≡ length ws) where
-  pub shift-begun : {x : List ℕ} {r : ℕ} → d / 64 < length ws → x ≡ replicate (length (take (d / 64) l)) 0 → r ≡ up (d % 64) 0 (getD ws 0 0)
+  pub shift-begun : {x : List ℕ} {r : ℕ} → d / 64 < length ws → x ≡ replicate (length (take (d / 64) l)) 0 → r ≡ shifted-up (d % 64) 0 (getD ws 0 0)
       → set (x ++ drop (d / 64) l) (d / 64) r ≡ over (behind-word (d / 64) (d % 64) ws) (d / 64 + 1) l
   shift-begun h z e = over-put _ (d / 64) l (behind-early (d / 64) (d % 64) ws l (omega arith) z) (behind-first (d / 64) (d % 64) ws e) (omega arith)
 
@@ -154,7 +154,7 @@ module _ (d : ℕ) (ws l : List ℕ) (long : length l ≡ length ws) where
   shift-length r h z = rw z (simp (length-set, length-append, length-replicate, length-take, length-drop) (omega arith))
 
   pub shift-whole : {x : List ℕ} {r : ℕ} {y : List ℕ} → ((q : ℕ) → getD ws q 0 < 2 ^ 64) → d / 64 < length ws → x ≡ replicate (length (take (d / 64) l)) 0
-      → r ≡ up (d % 64) 0 (getD ws 0 0) → y ≡ over (behind-word (d / 64) (d % 64) ws) (length ws) (set (x ++ drop (d / 64) l) (d / 64) r)
+      → r ≡ shifted-up (d % 64) 0 (getD ws 0 0) → y ≡ over (behind-word (d / 64) (d % 64) ws) (length ws) (set (x ++ drop (d / 64) l) (d / 64) r)
       → held y ≡ behind d (held ws)
   shift-whole fits h z e f = behind-bits d ws fits (over-all _ _ l (over-join _ _ l (shift-begun h z e) (omega arith) f) refl (omega arith))
 

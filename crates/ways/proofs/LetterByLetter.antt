@@ -13,7 +13,7 @@ use Rattle.rules.specs.Lists.{if}
 use Rattle.rules.specs.Occurrence.{spare, stands-by, front-by}
 use Rattle.rules.specs.Profile.{has-base}
 use Rattle.rules.proofs.BaseSets.{value-most}
-use Rattle.ways.specs.Counts.{fits-byte, stands, cell}
+use Rattle.ways.specs.Counts.{fits-byte, stands-in-bytes, cell}
 
 front-short : (f : ℕ → ℕ → Bool) (k : ℕ) (w s : List ℕ) → length s < length w → front-by f k w s ≡ false
 unfolding front-by
@@ -31,7 +31,7 @@ pub stands-by-short : (f : ℕ → ℕ → Bool) (k : ℕ) (w s : List ℕ) (o :
 unfolding stands-by
 stands-by-short f k w s o h = sym (front-short f k w (drop o s) (simp length-drop h))
 
-pub stands-short : (w s : List ℕ) (o : ℕ) → length s - o < length w → false ≡ stands w s (suc o)
+pub stands-short : (w s : List ℕ) (o : ℕ) → length s - o < length w → false ≡ stands-in-bytes w s (suc o)
 stands-short w s o h = stands-by-short fits-byte 0 w s o h
 
 -- a value is one that can be looked up in a base set
@@ -44,7 +44,7 @@ unfolding front-by
 rest w s o j = front-by fits-byte 0 (drop j w) (drop (o + j) s)
 
 -- all letters stand if those from the first on do
-pub rest-all : (w s : List ℕ) (o : ℕ) → stands w s (suc o) ≡ rest w s o 0
+pub rest-all : (w s : List ℕ) (o : ℕ) → stands-in-bytes w s (suc o) ≡ rest w s o 0
 unfolding stands-by rest
 rest-all w s o = rw (add-zero o)
 
@@ -71,19 +71,19 @@ module _ (w s : List ℕ) (o j : ℕ) (hs : o + length w ≤ length s) where
   rest-done h = rw (drop-of-length-le w {i = j} h)
 
 -- a cell has v where the letters stand
-pub cell-true : (w s : List ℕ) (p v : ℕ) → true ≡ stands w s p → v ≡ cell w s p v
+pub cell-true : (w s : List ℕ) (p v : ℕ) → true ≡ stands-in-bytes w s p → v ≡ cell w s p v
 unfolding cell
 cell-true w s p v e = simp (← e)
 
 -- and where they do not
-pub cell-false : (w s : List ℕ) (p v : ℕ) → false ≡ stands w s p → 0 ≡ cell w s p v
+pub cell-false : (w s : List ℕ) (p v : ℕ) → false ≡ stands-in-bytes w s p → 0 ≡ cell w s p v
 unfolding cell
 cell-false w s p v e = simp (← e)
 
 -- and where there is nothing to have
 pub cell-none : (w s : List ℕ) (p v : ℕ) → v ≡ 0 → 0 ≡ cell w s p v
 unfolding cell
-cell-none w s p v e = rw e (go (stands w s p))
+cell-none w s p v e = rw e (go (stands-in-bytes w s p))
   where
     go : (b : Bool) → _≡_ {A = ℕ} 0 (if b 0 0)
     go true = refl

@@ -13,7 +13,7 @@ use Rattle.rules.specs.Template.{none, slots, size, components}
 use Rattle.rules.specs.declared.Component.{Component}
 use Rattle.rules.specs.declared.Template.{Template}
 use Rattle.matching.specs.Path.{inside-code, Inside}
-use Rattle.rows.specs.Prefix.{letters-before, At}
+use Rattle.rows.specs.NextLetter.{letters-before, At}
 
 -- ONE COMPONENT: its first n letters are written, from `from` on
 pub record Coded (k from n : ℕ) (l : List ℕ) : Type 0 where

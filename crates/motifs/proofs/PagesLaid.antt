@@ -23,11 +23,12 @@ use Rattle.rules.proofs.Searches.{walk-pos}
 use Rattle.rules.proofs.Sound.{search-sound, search-fine}
 use Rattle.rules.proofs.Step.{at-end}
 use Rattle.rules.proofs.Whole.{listed-append}
+use Rattle.search.specs.AcceptedLeg.{room-of}
 use Rattle.motifs.specs.declared.pages.Left.{Left}
 use Rattle.motifs.specs.declared.pages.Left.the-variants as left
 use Rattle.motifs.specs.declared.pages.Way.{Way}
-use Rattle.motifs.specs.Left.{rows, more?, further, onward}
-use Rattle.motifs.specs.Pages.{Page-ROWS, Page-STEPS, room-of, ended-told?, print-rows, leg-page, covered, page-of, left-after, to-try, to-list, text-left, Goes, Ready}
+use Rattle.motifs.specs.Left.{rows, more?, further, rows-or-end}
+use Rattle.motifs.specs.Pages.{Page-ROWS, Page-STEPS, ended-told?, print-rows, leg-page, covered, page-of, left-after, to-try, to-list, text-left, Goes, Printable}
 use Rattle.motifs.proofs.Leg.{accepted, rows-few, moves}
 
 -- how much is left: a line, or the candidates and a line
@@ -100,17 +101,17 @@ module _ (letters lengths : List ℕ) where
     rows-last e = rw (none-left e) (none-more (v .steps) (v .rows))
 
     page-rows : (b : Bool) → ended? (l .stop) ≡ b
-        → text-left letters lengths (rows w) ≡ print-rows letters lengths (w .search) (l .motifs) ++ text-left letters lengths (onward w b (l .steps) (length (l .motifs)) (moved (w .search) (l .at)))
+        → text-left letters lengths (rows w) ≡ print-rows letters lengths (w .search) (l .motifs) ++ text-left letters lengths (rows-or-end w b (l .steps) (length (l .motifs)) (moved (w .search) (l .at)))
     unfolding text-left v
     page-rows true e = rows-more ∙ ap (λ (t : List ℕ). print-rows letters lengths (w .search) (l .motifs) ++ t) (rows-last e)
     page-rows false e = rows-more
 
-    ready-rows : (b : Bool) → Ready letters lengths (onward w b (l .steps) (length (l .motifs)) (moved (w .search) (l .at)))
+    ready-rows : (b : Bool) → Printable letters lengths (rows-or-end w b (l .steps) (length (l .motifs)) (moved (w .search) (l .at)))
     unfolding v
     ready-rows true = tt
     ready-rows false = further-goes
 
-    less-rows : (b : Bool) → ended? (l .stop) ≡ b → amount letters lengths (onward w b (l .steps) (length (l .motifs)) (moved (w .search) (l .at))) < 2 + length (to-try letters lengths w)
+    less-rows : (b : Bool) → ended? (l .stop) ≡ b → amount letters lengths (rows-or-end w b (l .steps) (length (l .motifs)) (moved (w .search) (l .at))) < 2 + length (to-try letters lengths w)
     unfolding W l
     less-rows true e = omega arith
     less-rows false e = omega (arith, tried, moves letters lengths (w .search) (g .passes) Page-STEPS Page-ROWS (omega arith) (omega arith) e)
@@ -135,12 +136,12 @@ module _ (letters lengths : List ℕ) where
 
       -- and what it leaves is what is left
       pub leg-leaves : {t : LegTold} → t ≡ (leg-rule letters lengths (w .search) Page-STEPS motifs supports weights) .told
-          → onward w (ended-told? (t .answer)) (t .steps) (t .rows) (t .search) ≡ left-after letters lengths (rows w)
+          → rows-or-end w (ended-told? (t .answer)) (t .steps) (t .rows) (t .search) ≡ left-after letters lengths (rows w)
       unfolding left-after l
       leg-leaves e = rw (e ∙ told-is)
 
   -- A PAGE and what is left after it are what was left
-  pub page-then : (s : Left) → Ready letters lengths s → text-left letters lengths s ≡ page-of letters lengths s ++ text-left letters lengths (left-after letters lengths s)
+  pub page-then : (s : Left) → Printable letters lengths s → text-left letters lengths s ≡ page-of letters lengths s ++ text-left letters lengths (left-after letters lengths s)
   unfolding text-left page-of left-after l
   page-then (left.Refusal n p) g = sym (append-nil (print-refused n p))
   page-then (left.Rows w) g = page-rows w g (ended? ((covered letters lengths w) .stop)) refl
@@ -148,7 +149,7 @@ module _ (letters lengths : List ℕ) where
   page-then left.Nothing g = refl
 
   -- what is left after it can be gone on with
-  pub ready-after : (s : Left) → Ready letters lengths s → Ready letters lengths (left-after letters lengths s)
+  pub ready-after : (s : Left) → Printable letters lengths s → Printable letters lengths (left-after letters lengths s)
   unfolding left-after l
   ready-after (left.Refusal n p) g = tt
   ready-after (left.Rows w) g = ready-rows w g (ended? ((covered letters lengths w) .stop))
@@ -156,7 +157,7 @@ module _ (letters lengths : List ℕ) where
   ready-after left.Nothing g = tt
 
   -- and is less
-  pub less-after : (s : Left) → Ready letters lengths s → more? s ≡ true → amount letters lengths (left-after letters lengths s) < amount letters lengths s
+  pub less-after : (s : Left) → Printable letters lengths s → more? s ≡ true → amount letters lengths (left-after letters lengths s) < amount letters lengths s
   unfolding left-after l
   less-after (left.Refusal n p) g m = omega arith
   less-after (left.Rows w) g m = less-rows w g (ended? ((covered letters lengths w) .stop)) refl

@@ -17,7 +17,7 @@ use Rattle.rules.specs.declared.Template.{Template}
 use Rattle.rows.specs.Bits.{held}
 use Rattle.rows.specs.Flags.{reached}
 use Rattle.matching.specs.Path.{row-slot, before-next, Slot}
-use Rattle.rows.specs.Prefix.{letters-before, before-letter}
+use Rattle.rows.specs.NextLetter.{letters-before, before-letter}
 use Rattle.rows.specs.Set.{Row-MARKS, Row-WORDS, words-of, first-word, between, bits-at, marked?, Marked, sequence, Source}
 use Rattle.rows.proofs.Bits.{held-at}
 use Rattle.rows.proofs.ByFlags.{long, left-past}

@@ -16,7 +16,7 @@ use Rattle.rules.proofs.Sound.{search-fine}
 use Rattle.rules.proofs.Trimmed.{trimmed-same}
 use Rattle.rules.proofs.Verdicts.{first-append}
 use Rattle.exports.specs.Exported.{checked-written, save-begun, leg-of, leg-from, leg-outcome}
-use Rattle.exports.specs.Numbers.{stopped, leg-told}
+use Rattle.exports.specs.Numbers.{stopped-answer, leg-told}
 use Rattle.exports.proofs.Resaved.{after-sound, after-template, after-long}
 
 module _ (letters lengths : List ℕ) where
@@ -46,7 +46,7 @@ module _ (letters lengths : List ℕ) where
 
   module _ (bs : List ℕ) (budget : ℕ) (motifs supports weights : List ℕ) where
     -- a leg is refused as the restore is, and leaves all as it was
-    pub leg-refused : (n p : ℕ) → restore-rule letters lengths bs ≡ refuses n p → leg-outcome letters lengths bs budget motifs supports weights ≡ leg-of (stopped n p 0 0 0) bs motifs supports weights
+    pub leg-refused : (n p : ℕ) → restore-rule letters lengths bs ≡ refuses n p → leg-outcome letters lengths bs budget motifs supports weights ≡ leg-of (stopped-answer n p 0 0 0) bs motifs supports weights
     unfolding leg-outcome leg-from
     leg-refused n p e = rw e
 
