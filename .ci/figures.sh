@@ -1,6 +1,6 @@
 #!/bin/sh
-# What the gate cost, crate by crate, the dearest first: the seconds that its proof took and those of its edits, from what `rt ci` said,
-# which is read from standard input; and how many notes the prover has on it, from the logs of that run: terms that it had to write out
+# What `rt ci` cost, crate by crate, the dearest first: the seconds that its proof took and those of the edits that rt itself tries, from
+# what it said, which is read from standard input (.ci/edits.sh says the seconds of the others); and how many notes the prover has on it, from the logs of that run: terms that it had to write out
 # at length (`large solution`), which cost time and can be mended by naming them, and others.
 set -eu
 cd "$(dirname "$0")/.."
@@ -20,7 +20,7 @@ awk '
         if (/ note: large solution/) large[name]++; else other[name]++
     }
     END {
-        printf "%-10s %6s %6s %8s %6s %6s\n", "crate", "proof", "edits", "seconds", "large", "other"
+        printf "%-10s %6s %6s %8s %6s %6s\n", "crate", "proof", "by rt", "seconds", "large", "other"
         for (i = 1; i <= crates; i++) {
             at = i
             for (j = i + 1; j <= crates; j++) if (proof[order[j]] > proof[order[at]]) at = j

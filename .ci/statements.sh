@@ -1,12 +1,15 @@
 #!/bin/sh
-# Prints docs/STATEMENTS.md from the sources: the demands, the promises of the public calls, and the definitions that the demands are made
-# of. The gate compares the two, and fails where they differ:
+# Prints docs/STATEMENTS.md from the sources: the demands, the promises of the public calls, the definitions that the demands are made of,
+# and a sum of each file of definitions, quoted or not. The gate compares the two, and fails where they differ:
 #     .ci/statements.sh | diff docs/STATEMENTS.md -
 # After a change that is meant: .ci/statements.sh >docs/STATEMENTS.md, which drops the signature, since another text was signed.
 # A thing that is named below and is not there, or is there twice, a statement that nothing proves, or a public call that promises nothing
 # or asks something of its caller is told, and the status is 1.
 set -eu
 cd "$(dirname "$0")/.."
+# files in one order, wherever it is run
+LC_ALL=C
+export LC_ALL
 
 page=docs/STATEMENTS.md
 unsigned='Signed: (nobody yet)'
@@ -50,7 +53,8 @@ statements() {
     done
 }
 
-# Quotes every public function of these crates down to its body, with the comment above it.
+# Quotes every public function of these crates down to its body, with the comment above it; and first, from which files their promises have
+# their words. A body begins with a brace on a line of its own.
 calls() {
     for crate; do
         file=crates/$crate/src/lib.rt
@@ -59,21 +63,34 @@ calls() {
         awk -v file="$file" '
             function fail(what) { print "statements.sh: " file ": " what > "/dev/stderr"; failed = 1; exit 1 }
             /^ *pub (mod|use) / { fail("what it makes public elsewhere is not quoted: " $0) }
+            /^ghost use / { print; words++; next }
             inside { text = text $0 "\n" }
             inside && /^ *requires / { fail("a public call has a requires: " name) }
             inside && /^ *ensures / { promises++ }
-            inside && /\{$/ {
+            inside && /[^ ] *\{$/ { fail("a promise over several lines is not quoted: " name) }
+            inside && /^ *\{$/ {
                 if (!promises) fail("a public call promises nothing: " name)
                 sub(/ *\{\n$/, "", text)
-                printf "%s%s", shown++ ? "\n" : "", text
+                printf "\n%s", text
+                shown++
                 inside = 0; text = ""
             }
             inside { next }
             /^ *(\/\/|#\[)/ { text = text $0 "\n"; next }
             /^ *pub (extern "C" )?fn / { inside = 1; promises = 0; name = $0; text = text $0 "\n"; next }
             { text = "" }
-            END { if (!failed && !shown) fail("it has no public call") }' "$file"
+            END { if (!failed && !(shown && words)) fail("it has no public call, or their promises no words") }' "$file"
         printf '```\n\n'
+    done
+}
+
+# Prints for each file of these crates' definitions its sum: the first eight bytes of its SHA-256.
+sums() {
+    for crate; do
+        for file in crates/"$crate"/specs/*.antt; do
+            [ -f "$file" ] || continue
+            printf '| `%s` | %s |\n' "$file" "$(sha256sum <"$file" | cut -c 1-16)"
+        done
     done
 }
 
@@ -82,8 +99,9 @@ calls() {
 # The statements
 
 What the proofs prove, word for word: the three demands, what each public call promises, and the definitions that the demands are made of.
-\`.ci/statements.sh\` quotes them from the sources, and the gate fails where this page differs from them: so no statement gets weaker without
-a line of this page's diff that says so. After a change that is meant the page is renewed: \`.ci/statements.sh >$page\`.
+\`.ci/statements.sh\` quotes them from the sources, and the gate fails where this page differs from them. At its end stands a sum of every
+file of definitions that the demands and the promises rest on, quoted here or not. So no statement gets weaker without a line of this
+page's diff that says so. After a change that is meant the page is renewed: \`.ci/statements.sh >$page\`.
 
 A reader signs here, with a name and a date. A signature is for the text as it stands: renewing the page drops it.
 
@@ -124,6 +142,18 @@ EOF
 
 EOF
     statements WalkDemands EveryKind
+
+    cat <<EOF
+## All definitions, by their sums
+
+The files of definitions of \`rules\` and of the crates with public calls, which are what a reader must believe: those that are quoted above
+(without the lines that say where their words come from) and those that are not.
+
+| file | sum |
+|---|---|
+EOF
+    sums rules search saved recovery joins fasta exports motifs
+    echo
 } >"$work/all"
 sed '$d' "$work/all" >"$work/page"
 

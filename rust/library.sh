@@ -5,6 +5,7 @@
 # the crate proved once more for that, since the prover takes nothing over from the check of a library as other crates use it. So the
 # prover is given a folder with all that was checked just now: the program logic as it came with the kit, and the modules of each
 # library as its own check wrote them. It takes from there what is up to date, checks what is not, and builds only what is proved.
+# Its verdict of the archive says so: `cache=trusted`. The verdict of the crate is the check's, and stays in its log.
 # Where the kit lies otherwise, or its prover does not take that, the crate is proved once more.
 #
 # On x86-64 that archive is the one. On another processor it cannot be linked, and x86-64 programs run under an emulator, whose times
@@ -94,12 +95,15 @@ exec "$kit/$own/bin/rattle" "\$@"
 END_OF_PROVER
     staticlib >/dev/null 2>&1 </dev/null
 }
+mkdir "$work/log"
+cp -p target/log/exports.* "$work/log"
 how='from what was proved'
 over_checked || {
     how='proved once more'
     [ ! -e "$work/kit/$own/bin/rattle" ] || ln -s -f "$kit/$own/bin/rattle" "$work/kit/$own/bin/rattle"
     quietly staticlib
 }
+cp -p "$work/log"/* target/log
 
 if [ "$machine" = x86_64 ]; then
     cp target/staticlib/libexports.a "$host/libtulfasheq.a"
