@@ -3,11 +3,10 @@
 use mathlib.Core.Bool.{true}
 use mathlib.Core.List.{List}
 use mathlib.Core.Path.{_≡_, refl, sym, _∙_}
-use Prim.Native.Nat.{ℕ, _-_, _^_, _≤_, _<_}
+use Prim.Native.Nat.{ℕ, _+_, _-_, _^_, _≤_, _<_}
 use native.Mathlib.Omega.{arith}
 use lib.Dec.{eqb}
 use lib.ListN.{length}
-use borrow.Author.Needs.{needs}
 use borrow.Author.Tests.{eqb-true}
 use Rattle.rules.specs.Legs.{ended, spent, full}
 use Rattle.rules.specs.Profile.{base-of}
@@ -39,6 +38,10 @@ Inv-loop letters lengths s budget motifs₀ supports₀ weights₀ inside firsts
 abbrev μ-loop : tie.MeasureT-loop
 μ-loop letters lengths s budget motifs₀ supports₀ weights₀ inside firsts offsets standing evens₀ odds₀ work₀ spare₀ ways₀ template quorum reach depth room profile last j₀ m₀ steps₀ rows₀ counted₀ motifs supports weights evens odds work spare ways j m steps rows counted =
     budget - steps
+
+-- a table that keeps its length goes on having the length that it came with
+kept : (xs ys : List ℕ) {n : ℕ} → length xs ≡ length ys → length ys ≡ n → length xs ≡ n
+kept xs ys e f = e ∙ f
 
 -- at the loop's test
 module _ (l : tie.At-loop Inv-loop μ-loop) where
@@ -90,6 +93,34 @@ module _ (d : tie.After-listed Inv-loop μ-loop) where
   hits : d .listed .result ≡ true → s .quorum ≤ supported .examine .result
   hits = hit-reaches (eqb (top .loop .j) (top .before .before .before .before .before .letters .result)) (s .quorum) _ (d .listed .ensures) (d .before .reaches .ensures)
 
+  -- the slots and the working tables as the examination leaves them: they keep their lengths, and the slots still hold the path
+  abbrev evens : List ℕ
+  evens = supported .examine .last .1 .1 .1 .1 .1 .1 .1 .1 .1 .1 .0
+
+  abbrev odds : List ℕ
+  odds = supported .examine .last .1 .1 .1 .1 .1 .1 .1 .1 .1 .1 .1 .0
+
+  abbrev work : List ℕ
+  work = supported .examine .last .1 .1 .1 .1 .1 .1 .1 .1 .1 .1 .1 .1 .0
+
+  abbrev spare : List ℕ
+  spare = supported .examine .last .1 .1 .1 .1 .1 .1 .1 .1 .1 .1 .1 .1 .1 .0
+
+  evens-kept : length evens ≡ length (start top .args .evens .now)
+  evens-kept = kept evens (top .loop .evens) (supported .examine .ensures .1 .1 .1 .1 .1 .0) (top .loop .inv .9)
+
+  odds-kept : length odds ≡ length (start top .args .odds .now)
+  odds-kept = kept odds (top .loop .odds) (supported .examine .ensures .1 .1 .1 .1 .1 .1) (top .loop .inv .10)
+
+  work-kept : length work ≡ length (start top .args .work .now)
+  work-kept = kept work (top .loop .work) (supported .examine .ensures .1 .1 .1 .1 .1 .2) (top .loop .inv .11)
+
+  spare-kept : length spare ≡ length (start top .args .spare .now)
+  spare-kept = kept spare (top .loop .spare) (supported .examine .ensures .1 .1 .1 .1 .1 .3) (top .loop .inv .12)
+
+  made : Made (s .template) lengths letters (start top .args .inside .now) (start top .args .firsts .now) (start top .args .offsets .now) (start top .args .standing .now) evens odds (top .loop .j) (top .loop .m)
+  made = made-still (top .loop .inv .2 some) (supported .examine .ensures .1 .1 .1 .1 .0)
+
 -- once it is known that there is room for it
 module _ (e : tie.Else2 Inv-loop μ-loop) where
   left : e .before .listed .result ≡ true → let l = top (e .before) .loop in (l .rows < length (l .motifs)) × (l .rows < length (l .supports)) × (l .rows < length (l .weights))
@@ -108,6 +139,23 @@ judged w = w .before .before .before .before .before .before .before .before .be
 abbrev written : tie.After-counted-for Inv-loop μ-loop → tie.After-list Inv-loop μ-loop
 written k = k .before .before .before .before .before .before .before .before .before .before .before
 
+-- the tables as the writing of its row leaves them
+module _ (w : tie.After-list Inv-loop μ-loop) where
+  abbrev motifs : List ℕ
+  motifs = w .list .last .1 .1 .1 .1 .1 .1 .1 .1 .1 .1 .0
+
+  abbrev supports : List ℕ
+  supports = w .list .last .1 .1 .1 .1 .1 .1 .1 .1 .1 .1 .1 .0
+
+  abbrev weights : List ℕ
+  weights = w .list .last .1 .1 .1 .1 .1 .1 .1 .1 .1 .1 .1 .1 .0
+
+  abbrev spare′ : List ℕ
+  spare′ = w .list .last .1 .1 .1 .1 .1 .1 .1 .1 .1 .1 .1 .1 .1 .1 .1 .1 .1 .1 .1 .1 .0
+
+  abbrev ways : List ℕ
+  ways = w .list .last .1 .1 .1 .1 .1 .1 .1 .1 .1 .1 .1 .1 .1 .1 .1 .1 .1 .1 .1 .1 .1 .0
+
 cast-reach : tie.Need-cast-reach Inv-loop μ-loop
 cast-reach c =
     let a = c .before .before .before .before .before .before .before .before .before .before .before .before .before .before .before in
@@ -115,7 +163,7 @@ cast-reach c =
     omega (arith, o .most, o .set .few)
 
 letters-requires : tie.Need-letters-requires Inv-loop μ-loop
-letters-requires c κs = search needs
+letters-requires c κs = tt
 
 cast-depth : tie.Need-cast-depth Inv-loop μ-loop
 cast-depth c =
@@ -123,10 +171,10 @@ cast-depth c =
     omega (arith, c .letters .ensures, search-sound (a .args .letters .now) (a .args .lengths .now) (a .args .s) (a .pre .0) .template .deep)
 
 least-requires : tie.Need-least-requires Inv-loop μ-loop
-least-requires c κs = search needs
+least-requires c κs = tt
 
 least-requires-2 : tie.Need-least-requires-2 Inv-loop μ-loop
-least-requires-2 c κs = search needs
+least-requires-2 c κs = tt
 
 last-letters-requires : tie.Need-last-letters-requires Inv-loop μ-loop
 last-letters-requires c κs =
@@ -141,7 +189,7 @@ loop-holds c =
     (o, run-start _ _ _ o _ _ _ _ _, a .pre .1 .1 .1, none-counted _ _ _ _, c .before .before .before .before .letters .ensures, e, refl, refl, refl, refl, refl, refl, refl, refl)
 
 stopped-requires : tie.Need-stopped-requires Inv-loop μ-loop
-stopped-requires c κs = search needs
+stopped-requires c κs = tt
 
 returns : tie.Need-returns Inv-loop μ-loop
 returns c =
@@ -158,13 +206,13 @@ examine-requires c κs =
     (i .0 .template, (i .0 .set, ((h, omega (arith, deep l, i .4), i .4), (m .ready, (m .path, (i .9 ∙ t .evens-long, i .10 ∙ t .odds-long, i .11 ∙ t .work-long, i .12 ∙ t .spare-long))))))
 
 reaches-requires : tie.Need-reaches-requires Inv-loop μ-loop
-reaches-requires c κs = search needs
+reaches-requires c κs = tt
 
 listed-requires : tie.Need-listed-requires Inv-loop μ-loop
-listed-requires c κs = search needs
+listed-requires c κs = tt
 
 stopped-requires-2 : tie.Need-stopped-requires-2 Inv-loop μ-loop
-stopped-requires-2 c κs = search needs
+stopped-requires-2 c κs = tt
 
 returns-2 : tie.Need-returns-2 Inv-loop μ-loop
 returns-2 c =
@@ -174,7 +222,7 @@ returns-2 c =
     run-done _ _ _ (i .0) _ _ _ _ _ (i .1) full (follow-full _ _ _ _ _ _ _ _ _ (i .1 .follow) (some d) (less d) (listed d ∙ t .0) (eqb-true _ _ (t .1))) refl (c .stopped2 .ensures) (i .5)
 
 prefix-requires : tie.Need-prefix-requires Inv-loop μ-loop
-prefix-requires c κs = search needs
+prefix-requires c κs = tt
 
 list-requires : tie.Need-list-requires Inv-loop μ-loop
 list-requires c κs =
@@ -183,20 +231,19 @@ list-requires c κs =
     let l = top d in
     let i = l .loop .inv in
     let p = start l .pre in
-    let r = supported d .examine .ensures .1 .1 in
-    let n = r .1 .1 .1 in (
+    let r = supported d .examine .ensures .1 .1 in (
       i .0 .set,
       (
         i .0 .template,
         (
-          tables-still (p .1 .0) (n .0 ∙ i .9) (n .1 ∙ i .10) (n .2 ∙ i .11) (n .3 ∙ i .12),
+          tables-still {evens′ = evens d} {odds′ = odds d} {work′ = work d} {spare′ = spare d} (p .1 .0) (evens-kept d) (odds-kept d) (work-kept d) (spare-kept d),
           (
             omega (arith, i .13, i .0 .set .short, p .1 .1 .0),
             (
               left e,
               (
                 λ h. (i .4, below-whole (base-of (s d .template)) (l .loop .j) (l .loop .m) (whole d h) (below l), c .before .before .before .before .before .before .before .before .prefix .ensures ∙ l .before .before .last-letters .ensures .0 (l .loop .m)),
-                (λ h. made-whole (l .loop .j) (l .loop .m) (whole d h) (made-still (i .2 (some d)) (r .1 .1 .0)), (λ h. row-whole (s d .template) (l .loop .j) (l .loop .m) (whole d h) (r .1 .0 (hits d h) (whole d h)), i .3)),
+                (λ h. made-whole {t = s d .template} {ns = lengths d} {l = letters d} {evens = evens d} {odds = odds d} (l .loop .j) (l .loop .m) (whole d h) (made d), (λ h. row-whole (s d .template) {ns = lengths d} {l = letters d} {work = work d} (l .loop .j) (l .loop .m) (whole d h) (r .1 .0 (hits d h) (whole d h)), i .3)),
               ),
             ),
           ),
@@ -230,46 +277,45 @@ loop-again c =
     let l = top d in
     let i = l .loop .inv in
     let v = supported d .examine .ensures in
-    let x = v .1 .1 in
-    let z = x .1 .1 .1 in
     let r = w .list .ensures in
     let e = c .next-place .ensures _ (sym (good d)) in
-    let n = run-step _ _ _ (i .0) _ _ _ _ _ (i .1) (some d) (less d) (next-is (letters d) (lengths d) (s d) _ (place (l .loop .j) (l .loop .m)) (i .4) e) _ (listed d) (w .before .before .before .before .before .before .before .before .before .before .if2 .left)
+    let n = run-step (letters d) (lengths d) (s d) (i .0) _ _ _ _ _ (i .1) (some d) (less d) (next-is (letters d) (lengths d) (s d) _ (place (l .loop .j) (l .loop .m)) (i .4) e)
+    {motifs′ = motifs w} {supports′ = supports w} {weights′ = weights w} {rows′ = w .list .result} {found = supported d .examine .result} (d .listed .result) (listed d) (w .before .before .before .before .before .before .before .before .before .before .if2 .left)
     (omega (arith, i .5)) (omega (arith, i .5)) (omega (arith, i .5)) (λ h. v .1 .0 (hits d h)) (r .1 .0) (r .1 .1 .0) (r .1 .1 .1 .0) (r .0) in
-    let t = run-lengths _ _ _ (i .0) _ _ _ _ _ n (i .5) in (
+    let t = run-lengths (letters d) (lengths d) (s d) (i .0) _ _ _ _ _ {motifs = motifs w} {supports = supports w} {weights = weights w} n (i .5) in (
       i .0,
       n,
-      λ h. made-next (s d .template) (lengths d) (letters d) (l .loop .j) (l .loop .m) _ _ (i .4) (allowed l) (made-still (i .2 (some d)) (x .1 .1 .0)) (λ g h. path-first (l .loop .m) (x .0 (good-reaches (s d .quorum) _ (d .before .reaches .ensures) (good d ∙ g)) h)) e,
-      counted-as (c .before .counted-for .ensures) (r .1 .1 .1 .1 .0),
+      λ h. made-next (s d .template) (lengths d) (letters d) (l .loop .j) (l .loop .m) {evens = evens d} {odds = odds d} _ _ (i .4) (allowed l) (made d) (λ g h. path-first {t = s d .template} {ns = lengths d} {l = letters d} {evens = evens d} {odds = odds d} {j = l .loop .j + 1} (l .loop .m) (v .1 .1 .0 (good-reaches (s d .quorum) _ (d .before .reaches .ensures) (good d ∙ g)) h)) e,
+      counted-as {t = s d .template} {ns = lengths d} {l = letters d} {ways = ways w} (c .before .counted-for .ensures) (r .1 .1 .1 .1 .0),
       i .4,
       i .5,
       t .0,
       t .1,
       t .2,
-      z .0 ∙ i .9,
-      z .1 ∙ i .10,
-      z .2 ∙ i .11,
-      r .1 .1 .1 .1 .1 .0 ∙ z .3 ∙ i .12,
-      r .1 .1 .1 .1 .1 .1 ∙ i .13,
+      evens-kept d,
+      odds-kept d,
+      work-kept d,
+      kept (spare′ w) (spare d) (r .1 .1 .1 .1 .1 .0) (spare-kept d),
+      kept (ways w) (l .loop .ways) (r .1 .1 .1 .1 .1 .1) (i .13),
     )
 
 stopped-requires-3 : tie.Need-stopped-requires-3 Inv-loop μ-loop
-stopped-requires-3 c κs = search needs
+stopped-requires-3 c κs = tt
 
 returns-3 : tie.Need-returns-3 Inv-loop μ-loop
 returns-3 c =
     let i = c .before .before .loop .inv in
     run-done _ _ _ (i .0) _ _ _ _ _ (i .1) ended (follow-ended _ _ _ _ _ _ _ _ _ (i .1 .follow) (omega arith)) refl (c .stopped3 .ensures) (i .5)
 
--- at each return the eight tables have the lengths that they came with: the invariant says so, and where it is all the search finds it
+-- at each return the eight tables have the lengths that they came with: the invariant says so, and an examination keeps those of its four
 pub run-spec : {M : Type 1} → statement M
 run-spec =
     tie.close
     (tie.spec
     Inv-loop μ-loop cast-reach letters-requires cast-depth least-requires least-requires-2 last-letters-requires loop-holds
-    stopped-requires (λ c. search needs) (λ c. search needs) (λ c. search needs) (λ c. search needs) (λ c. search needs) (λ c. search needs) (λ c. search needs) (λ c. search needs) returns
+    stopped-requires (λ c. c .before .before .before .loop .inv .6) (λ c. c .before .before .before .loop .inv .7) (λ c. c .before .before .before .loop .inv .8) (λ c. c .before .before .before .loop .inv .9) (λ c. c .before .before .before .loop .inv .10) (λ c. c .before .before .before .loop .inv .11) (λ c. c .before .before .before .loop .inv .12) (λ c. c .before .before .before .loop .inv .13) returns
     examine-requires reaches-requires listed-requires
     stopped-requires-2 (λ c. top (c .before .before) .loop .inv .6) (λ c. top (c .before .before) .loop .inv .7) (λ c. top (c .before .before) .loop .inv .8)
-    (λ c. supported (c .before .before) .examine .ensures .1 .1 .1 .1 .1 .0 ∙ top (c .before .before) .loop .inv .9) (λ c. supported (c .before .before) .examine .ensures .1 .1 .1 .1 .1 .1 ∙ top (c .before .before) .loop .inv .10) (λ c. supported (c .before .before) .examine .ensures .1 .1 .1 .1 .1 .2 ∙ top (c .before .before) .loop .inv .11) (λ c. supported (c .before .before) .examine .ensures .1 .1 .1 .1 .1 .3 ∙ top (c .before .before) .loop .inv .12) (λ c. top (c .before .before) .loop .inv .13) returns-2
+    (λ c. evens-kept (c .before .before)) (λ c. odds-kept (c .before .before)) (λ c. work-kept (c .before .before)) (λ c. spare-kept (c .before .before)) (λ c. top (c .before .before) .loop .inv .13) returns-2
     prefix-requires list-requires counted-for-requires next-place-requires add-steps loop-less loop-again
-    stopped-requires-3 (λ c. search needs) (λ c. search needs) (λ c. search needs) (λ c. search needs) (λ c. search needs) (λ c. search needs) (λ c. search needs) (λ c. search needs) returns-3)
+    stopped-requires-3 (λ c. c .before .before .loop .inv .6) (λ c. c .before .before .loop .inv .7) (λ c. c .before .before .loop .inv .8) (λ c. c .before .before .loop .inv .9) (λ c. c .before .before .loop .inv .10) (λ c. c .before .before .loop .inv .11) (λ c. c .before .before .loop .inv .12) (λ c. c .before .before .loop .inv .13) returns-3)
