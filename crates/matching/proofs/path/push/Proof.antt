@@ -1,6 +1,6 @@
 -- The slot before is read in one table and the slot filled in the other, where those below it are left.
 use mathlib.Core.Path.{refl}
-use Prim.Native.Nat.{_-_, _/_}
+use Prim.Native.Nat.{_-_, _/_, _≤_}
 use native.Mathlib.Omega.{arith}
 use borrow.Author.Needs.{needs}
 use Rattle.matching.specs.Path.{row-slot}
@@ -92,19 +92,20 @@ same-length : tie.Need-same-length
 same-length c = search needs
 
 same-length-2 : tie.Need-same-length-2
-same-length-2 c = search needs
+same-length-2 c = refl
 
 same-length-3 : tie.Need-same-length-3
-same-length-3 c = search needs
+same-length-3 c = c .before .before .before .before .fill-slot .ensures .1 .1 .1 .0
 
 returns : tie.Need-returns
 returns c =
     let b = c .before .before .before .before .before .before .before .before .before .before .before .before .before .before .before .before .before .before .before .before in
     let a = b .args in
     let p = b .pre in
-    let o = c .before .before .before .before .fill-slot .ensures in
+    let f = c .before .before .before .before .fill-slot in
+    let o = f .ensures in
     let z = p .1 .1 .1 .1 .1 in
-    let r = pushed-even (a .template) (a .lengths .now) (a .letters .now) (a .evens .now) (a .odds .now) (a .size) (a .number) (p .1 .1 .1 .1 .0) _ _ (o .1 .1 .0) (c .before .before .before .before .before .before .before .before .before .before .if1 .taken) (omega (arith, z .0, p .1 .1 .0, p .0 .deep)) (o .1 .1 .1 .1) in
+    let r = pushed-even (a .template) (a .lengths .now) (a .letters .now) (a .evens .now) (a .odds .now) (a .size) (a .number) (p .1 .1 .1 .1 .0) (a .quorum ≤ f .result) (f .last .1 .1 .1 .1 .1 .1 .1 .1 .1 .1 .1 .1 .0) (o .1 .1 .0) (c .before .before .before .before .before .before .before .before .before .before .if1 .taken) (omega (arith, z .0, p .1 .1 .0, p .0 .deep)) (o .1 .1 .1 .1) in
     (o .0, (o .1 .0, (r .0 .0, (r .0 .1, (r .1, refl, o .1 .1 .1 .0)))))
 
 mul-fill-slot-4 : tie.Need-mul-fill-slot-4
@@ -160,22 +161,23 @@ fill-slot-requires-2 c κs =
     (p .0, (p .1 .0, ((deep .0, deep .1, test .ensures .0 .1), (ready .placed, (ready .laid, (test .ensures .1 (a .lengths .now) (a .letters .now) (ready .letters), (slot, (letter, long, z .2, row-long (a .size / 2) (a .odds .now) (omega (arith, z .1, deep, p .0 .deep))))))))))
 
 same-length-4 : tie.Need-same-length-4
-same-length-4 c = search needs
+same-length-4 c = refl
 
 same-length-5 : tie.Need-same-length-5
 same-length-5 c = search needs
 
 same-length-6 : tie.Need-same-length-6
-same-length-6 c = search needs
+same-length-6 c = c .before .before .before .before .fill-slot2 .ensures .1 .1 .1 .0
 
 returns-2 : tie.Need-returns-2
 returns-2 c =
     let b = c .before .before .before .before .before .before .before .before .before .before .before .before .before .before .before .before .before .before .before .before in
     let a = b .args in
     let p = b .pre in
-    let o = c .before .before .before .before .fill-slot2 .ensures in
+    let f = c .before .before .before .before .fill-slot2 in
+    let o = f .ensures in
     let z = p .1 .1 .1 .1 .1 in
-    let r = pushed-odd (a .template) (a .lengths .now) (a .letters .now) (a .evens .now) (a .odds .now) (a .size) (a .number) (p .1 .1 .1 .1 .0) _ _ (o .1 .1 .0) (omega (arith, c .before .before .before .before .before .before .before .before .before .before .if1 .left)) (omega (arith, z .1, p .1 .1 .0, p .0 .deep)) (o .1 .1 .1 .1) in
+    let r = pushed-odd (a .template) (a .lengths .now) (a .letters .now) (a .evens .now) (a .odds .now) (a .size) (a .number) (p .1 .1 .1 .1 .0) (a .quorum ≤ f .result) (f .last .1 .1 .1 .1 .1 .1 .1 .1 .1 .1 .1 .1 .0) (o .1 .1 .0) (omega (arith, c .before .before .before .before .before .before .before .before .before .before .if1 .left)) (omega (arith, z .1, p .1 .1 .0, p .0 .deep)) (o .1 .1 .1 .1) in
     (o .0, (o .1 .0, (r .0 .0, (r .0 .1, (refl, r .1, o .1 .1 .1 .0)))))
 
 pub push-spec : {M : Type 1} → statement M
