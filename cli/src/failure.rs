@@ -29,6 +29,9 @@ impl Failure {
     pub const BUSY: u8 = 6;
     /// A folder that is no job, or a job with a damaged file.
     pub const DAMAGED: u8 = 7;
+    /// What was written is whole, but what it was made from is not: a job that
+    /// has not ended, or a table without its last line.
+    pub const UNFINISHED: u8 = 8;
 
     fn new(status: u8, words: impl Into<String>) -> Failure {
         let words = words.into();
@@ -57,6 +60,10 @@ impl Failure {
 
     pub fn damaged(words: impl Into<String>) -> Failure {
         Failure::new(Failure::DAMAGED, format!("tulfasheq: {}", words.into()))
+    }
+
+    pub fn unfinished(words: impl Into<String>) -> Failure {
+        Failure::new(Failure::UNFINISHED, format!("tulfasheq: {}", words.into()))
     }
 
     /// A file that could not be read or written.

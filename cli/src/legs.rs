@@ -35,8 +35,6 @@ pub struct Rows<'a> {
     pub weights: &'a [u64],
     /// Whether the search has ended.
     pub ended: bool,
-    /// Candidates a second.
-    pub speed: f64,
 }
 
 impl Search {
@@ -74,7 +72,6 @@ impl Search {
             supports: &self.supports[..leg.rows],
             weights: &self.weights[..leg.rows],
             ended: leg.stop == Stop::Ended,
-            speed: leg.steps as f64 / took.as_secs_f64().max(1e-9),
         })
     }
 }

@@ -1,6 +1,5 @@
-//! How far a search is, on standard error where that is a terminal.
+//! How far it is, on standard error where that is a terminal.
 
-use crate::counted::grouped;
 use std::io::{self, IsTerminal, Write};
 use std::time::{Duration, Instant};
 
@@ -11,6 +10,7 @@ const EVERY: Duration = Duration::from_millis(200);
 pub struct Progress {
     shown: bool,
     width: usize,
+    begun: Instant,
     last: Option<Instant>,
 }
 
@@ -19,6 +19,7 @@ impl Progress {
         Progress {
             shown: !quiet && io::stderr().is_terminal(),
             width: 0,
+            begun: Instant::now(),
             last: None,
         }
     }
@@ -28,11 +29,11 @@ impl Progress {
         self.shown && self.last.is_none_or(|last| last.elapsed() >= EVERY)
     }
 
-    /// The share of letter order that is done, the rows so far, and the
-    /// candidates a second.
-    pub fn show(&mut self, share: f64, rows: u64, speed: f64) {
+    /// How far it is, and the time spent. A terminal of 40 columns has room
+    /// for 29 characters of the first.
+    pub fn show(&mut self, how_far: &str) {
         self.last = Some(Instant::now());
-        self.write(&line(share, rows, speed));
+        self.write(&format!("{how_far}, {}", clock(self.begun.elapsed())));
     }
 
     /// Writes over what stands there.
@@ -54,13 +55,11 @@ impl Drop for Progress {
     }
 }
 
-fn line(share: f64, rows: u64, speed: f64) -> String {
-    format!(
-        "{} of letter order, {} rows, {} candidates a second",
-        percent(share),
-        grouped(rows),
-        grouped(speed as u64)
-    )
+/// A time in hours, minutes and seconds.
+pub fn clock(time: Duration) -> String {
+    let seconds = time.as_secs();
+    let (hours, minutes) = (seconds / 3_600, seconds / 60 % 60);
+    format!("{hours}:{minutes:02}:{:02}", seconds % 60)
 }
 
 /// A share, rounded down, so that it is 100 only when all is done.
@@ -70,7 +69,15 @@ pub fn percent(share: f64) -> String {
 
 #[cfg(test)]
 mod tests {
-    use super::percent;
+    use super::{clock, percent};
+    use std::time::Duration;
+
+    #[test]
+    fn a_time_is_rounded_down_to_seconds() {
+        assert_eq!(clock(Duration::from_millis(999)), "0:00:00");
+        assert_eq!(clock(Duration::from_secs(3_599)), "0:59:59");
+        assert_eq!(clock(Duration::from_secs(360_061)), "100:01:01");
+    }
 
     #[test]
     fn a_share_is_rounded_down() {

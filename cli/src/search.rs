@@ -1,6 +1,7 @@
 //! `search` and `resume`: a new search, with a job or without, and one that
 //! goes on.
 
+use crate::counted;
 use crate::failure::{Answer, Failure};
 use crate::job::{self, About, Job};
 use crate::legs::{self, Search};
@@ -11,7 +12,7 @@ use crate::refusals;
 use crate::say;
 use crate::sequences::{self, Sequences};
 use crate::signals::Asking;
-use crate::table;
+use crate::table::{self, End, Searched};
 use crate::template::Template;
 use library::limits;
 use std::path::{Path, PathBuf};
@@ -24,16 +25,18 @@ pub struct Asked {
     pub out: Out,
     pub job: Option<PathBuf>,
     pub quiet: bool,
+    /// Whether lower-case letters are taken as upper-case ones.
+    pub upper: bool,
 }
 
 /// Runs a new search.
 pub fn search(asked: Asked) -> Answer<()> {
     asked.out.spare(std::slice::from_ref(&asked.file))?;
-    let sequences = sequences::read(&asked.file)?;
+    let sequences = sequences::read(&asked.file, asked.upper)?;
     let quorum = asked.quorum.of(sequences.count());
     let saved = begin(&sequences, &asked.template, quorum)?;
     let Some(folder) = &asked.job else {
-        return straight(&sequences, &asked, saved);
+        return straight(&sequences, &asked, quorum, saved);
     };
     asked.out.spare(&job::paths(folder))?;
     asked.out.check()?;
@@ -70,18 +73,20 @@ fn begin(sequences: &Sequences, template: &Template, quorum: u64) -> Answer<Vec<
 }
 
 /// A search without a job: the rows go out as they come.
-fn straight(sequences: &Sequences, asked: &Asked, saved: Vec<u8>) -> Answer<()> {
+fn straight(sequences: &Sequences, asked: &Asked, quorum: u64, saved: Vec<u8>) -> Answer<()> {
     let mut out = asked.out.open()?;
     out.write(table::HEADER.as_bytes())?;
     let mut search = Search::new(saved, 0, 0);
     // Where rows come to the same terminal, they are what shows how far it is.
     let mut progress = Progress::new(asked.quiet || asked.out.is_terminal());
+    let searched = Searched::of(sequences, &asked.template, quorum);
     let mut lines = Vec::new();
     loop {
         let ended = leg(
             &mut search,
             sequences,
             &asked.template,
+            &searched,
             &mut progress,
             &mut lines,
         )?;
@@ -98,25 +103,37 @@ fn leg(
     search: &mut Search,
     sequences: &Sequences,
     template: &Template,
+    searched: &Searched,
     progress: &mut Progress,
     lines: &mut Vec<u8>,
 ) -> Answer<bool> {
     // What is saved was accepted before, so no leg refuses it.
     let refused = |refusal| refusals::of_save(refusal, "the search");
     let rows = search.leg(sequences).map_err(refused)?;
-    let (ended, speed) = (rows.ended, rows.speed);
+    let ended = rows.ended;
     lines.clear();
     table::rows(template, rows.motifs, rows.supports, rows.weights, lines);
     if ended {
-        lines.extend_from_slice(table::end(search.steps, search.rows).as_bytes());
+        let end = End {
+            steps: search.steps,
+            rows: search.rows,
+            searched: Some(searched.clone()),
+        };
+        lines.extend_from_slice(format!("{end}\n").as_bytes());
     }
     if progress.due() {
         let (letters, number) = legs::restored(sequences, &search.saved)
             .map_err(refused)?
             .next;
-        progress.show(template.share(letters, number), search.rows, speed);
+        progress.show(&how_far(template.share(letters, number), search.rows));
     }
     Ok(ended)
+}
+
+/// The share of letter order that is done, and the rows so far.
+fn how_far(share: f64, rows: u64) -> String {
+    let share = (share * 10_000.0).floor() / 100.0;
+    format!("{share:.2} %, {}", counted::of(rows, "row"))
 }
 
 /// Goes on with a job until it has ended, and writes out its table; or until a
@@ -156,12 +173,14 @@ fn run(job: &mut Job, asking: &Asking, quiet: bool) -> Answer<()> {
         job.about.rows(),
     );
     let mut progress = Progress::new(quiet);
+    let searched = Searched::of(&job.about.sequences, &job.about.template, job.about.quorum);
     let mut lines = Vec::new();
     loop {
         let ended = leg(
             &mut search,
             &job.about.sequences,
             &job.about.template,
+            &searched,
             &mut progress,
             &mut lines,
         )?;

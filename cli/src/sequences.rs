@@ -3,6 +3,7 @@
 
 use crate::counted::grouped;
 use crate::failure::{Answer, Failure};
+use crate::sum::Sum;
 use library::{limits, Reader};
 use std::fs::File;
 use std::io::{self, Read};
@@ -28,8 +29,9 @@ pub struct Sequences {
     names: Vec<Range<usize>>,
 }
 
-/// Reads a file whole, or standard input for `-`.
-pub fn read(path: &Path) -> Answer<Sequences> {
+/// Reads a file whole, or standard input for `-`. `_upper` has lower-case
+/// letters taken as upper-case ones.
+pub fn read(path: &Path, _upper: bool) -> Answer<Sequences> {
     if path == Path::new("-") {
         return Sequences::new(
             "standard input".to_string(),
@@ -93,6 +95,19 @@ impl Sequences {
     /// How many sequences there are.
     pub fn count(&self) -> u64 {
         self.lengths.len() as u64
+    }
+
+    /// The sum of the sequences: of the letters of each, and a line end behind
+    /// them. Names and the lines of the file do not count.
+    pub fn sum(&self) -> Sum {
+        let mut rest = &self.letters[..];
+        let mut sum = Sum::NONE;
+        for length in &self.lengths {
+            let (letters, after) = rest.split_at(*length as usize);
+            sum = sum.and(letters).and(b"\n");
+            rest = after;
+        }
+        sum
     }
 
     /// The name of a record, by its sequence's number, from 1.

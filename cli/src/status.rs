@@ -15,11 +15,6 @@ pub fn status(folder: &Path) -> Answer<()> {
         0 => "none: the search has ended".to_string(),
         _ => template.prefix(letters, number),
     };
-    let mixed = if template.mixed {
-        template.allowances()
-    } else {
-        "no".to_string()
-    };
     let state = match (about.running()?, about.ended()) {
         (true, _) => "running",
         (false, true) => "ended",
@@ -28,7 +23,7 @@ pub fn status(folder: &Path) -> Answer<()> {
     let lines = [
         ("state", state.to_string()),
         ("template", template.text.clone()),
-        ("mixed", mixed),
+        ("mixed", template.mixed_or_no()),
         ("quorum", about.quorum.to_string()),
         ("sequences", about.sequences.count().to_string()),
         ("letters", about.sequences.letters.len().to_string()),

@@ -1,6 +1,8 @@
 //! A sum of bytes by which damage shows (FNV-1a, 64 bits). It guards against
 //! accidents, not against someone who wants to deceive.
 
+use std::fmt;
+
 /// A sum that grows with the bytes.
 #[derive(Clone, Copy, Debug, PartialEq, Eq)]
 pub struct Sum(pub u64);
@@ -20,6 +22,18 @@ impl Sum {
     pub fn of(bytes: &[u8]) -> Sum {
         Sum::NONE.and(bytes)
     }
+
+    /// Reads a sum as it is written: sixteen digits.
+    pub fn read(text: &str) -> Option<Sum> {
+        let sum = u64::from_str_radix(text, 16).ok().map(Sum)?;
+        (sum.to_string() == text).then_some(sum)
+    }
+}
+
+impl fmt::Display for Sum {
+    fn fmt(&self, to: &mut fmt::Formatter) -> fmt::Result {
+        write!(to, "{:016x}", self.0)
+    }
 }
 
 #[cfg(test)]
@@ -32,5 +46,8 @@ mod tests {
         assert_eq!(Sum::of(b"a").0, 0xaf63_dc4c_8601_ec8c);
         assert_eq!(Sum::of(b"foobar").0, 0x8594_4171_f739_67e8);
         assert_eq!(Sum::of(b"foo").and(b"bar"), Sum::of(b"foobar"));
+        assert_eq!(Sum::of(b"foobar").to_string(), "85944171f73967e8");
+        assert_eq!(Sum::read("85944171f73967e8"), Some(Sum::of(b"foobar")));
+        assert_eq!(Sum::read("85944171F73967e8"), None);
     }
 }

@@ -1,7 +1,10 @@
 //! The table of a search: tab-separated lines under a header, and last, only
-//! when the search has ended, a comment.
+//! when the search has ended, a comment that tells what was searched.
 
+use crate::sequences::Sequences;
+use crate::sum::Sum;
 use crate::template::Template;
+use std::fmt;
 use std::io::Write;
 
 /// The first line.
@@ -22,33 +25,144 @@ pub fn rows(
     }
 }
 
-/// The last line of a search that has ended, which a script can read too.
-pub fn end(steps: u64, rows: u64) -> String {
-    format!("# end: steps {steps}, rows {rows}\n")
+/// The last line of a search that has ended: `# end: ` and then names and
+/// values with a space between them, one from the next by a comma and a space.
+#[derive(Clone, Debug, PartialEq, Eq)]
+pub struct End {
+    /// The candidates examined.
+    pub steps: u64,
+    /// The rows of the table.
+    pub rows: u64,
+    /// What was searched, which tables of earlier versions do not tell.
+    pub searched: Option<Searched>,
 }
 
-/// Whether a line is the last one of a table of so many rows.
-pub fn ends(line: &str, rows: u64) -> bool {
-    let counts = line.strip_prefix("# end: steps ");
-    counts.is_some_and(|counts| {
-        let steps = counts.strip_suffix(&format!(", rows {rows}"));
-        steps.is_some_and(|steps| steps.bytes().all(|b| b.is_ascii_digit()))
-    })
+/// What a search was of.
+#[derive(Clone, Debug, PartialEq, Eq)]
+pub struct Searched {
+    /// The template's text.
+    pub template: String,
+    /// The allowances, or `no` of an exact search.
+    pub mixed: String,
+    pub quorum: u64,
+    pub sequences: u64,
+    pub letters: u64,
+    /// The sum of the sequences.
+    pub sum: Sum,
+}
+
+impl Searched {
+    pub fn of(sequences: &Sequences, template: &Template, quorum: u64) -> Searched {
+        Searched {
+            template: template.text.clone(),
+            mixed: template.mixed_or_no(),
+            quorum,
+            sequences: sequences.count(),
+            letters: sequences.letters.len() as u64,
+            sum: sequences.sum(),
+        }
+    }
+}
+
+impl fmt::Display for End {
+    fn fmt(&self, to: &mut fmt::Formatter) -> fmt::Result {
+        write!(to, "# end: steps {}, rows {}", self.steps, self.rows)?;
+        if let Some(of) = &self.searched {
+            write!(
+                to,
+                ", template {}, mixed {}, quorum {}, sequences {}, letters {}, sum {}",
+                of.template, of.mixed, of.quorum, of.sequences, of.letters, of.sum
+            )?;
+        }
+        Ok(())
+    }
+}
+
+impl End {
+    /// Reads a last line, without its line end: only what is written as one.
+    pub fn read(line: &str) -> Option<End> {
+        let mut parts = line.strip_prefix("# end: ")?.split(", ");
+        let mut value = |name: &str| parts.next()?.strip_prefix(name)?.strip_prefix(' ');
+        let mut end = End {
+            steps: value("steps")?.parse().ok()?,
+            rows: value("rows")?.parse().ok()?,
+            searched: None,
+        };
+        if let Some(template) = value("template") {
+            end.searched = Some(Searched {
+                template: template.to_string(),
+                mixed: value("mixed")?.to_string(),
+                quorum: value("quorum")?.parse().ok()?,
+                sequences: value("sequences")?.parse().ok()?,
+                letters: value("letters")?.parse().ok()?,
+                sum: Sum::read(value("sum")?)?,
+            });
+        }
+        (end.to_string() == line).then_some(end)
+    }
 }
 
 #[cfg(test)]
 mod tests {
-    use super::{end, ends};
+    use super::{End, Searched};
+    use crate::sum::Sum;
+
+    fn end(steps: u64, rows: u64) -> End {
+        let searched = Some(Searched {
+            template: "NNN[0,3]NN".to_string(),
+            mixed: "1,0".to_string(),
+            quorum: 13,
+            sequences: 26,
+            letters: 2_626,
+            sum: Sum::of(b"ACGT\n"),
+        });
+        End {
+            steps,
+            rows,
+            searched,
+        }
+    }
 
     #[test]
-    fn the_last_line_counts_the_rows() {
-        for rows in [0, 1, 3, 1_003] {
-            let last = end(1_003, rows);
-            for other in [0, 1, 3, 13, 1_003] {
-                assert_eq!(ends(last.trim_end(), other), rows == other, "{last}");
+    fn the_last_line_tells_what_was_searched() {
+        assert_eq!(
+            end(700, 88).to_string(),
+            "# end: steps 700, rows 88, template NNN[0,3]NN, mixed 1,0, quorum 13, sequences 26, letters 2626, sum a1b24650290ce18c"
+        );
+        for (steps, rows) in [(0, 0), (1, 1), (1_003, 13), (u64::MAX, u64::MAX)] {
+            let end = end(steps, rows);
+            assert_eq!(End::read(&end.to_string()), Some(end));
+        }
+    }
+
+    #[test]
+    fn one_of_an_earlier_version_counts_the_rows() {
+        let end = End::read("# end: steps 700, rows 88").expect("a last line");
+        assert_eq!((end.steps, end.rows, end.searched), (700, 88, None));
+    }
+
+    #[test]
+    fn what_is_cut_short_or_made_longer_is_no_last_line() {
+        let whole = end(1_003, 13).to_string();
+        // Up to the rows it is one of an earlier version, or of fewer rows.
+        let short = "# end: steps 1003, rows 1".len();
+        for size in 0..whole.len() {
+            let cut = End::read(&whole[..size]);
+            if size == short || size == short + 1 {
+                assert_eq!(cut.map(|end| end.searched), Some(None));
+            } else {
+                assert_eq!(cut, None, "{}", &whole[..size]);
             }
         }
-        assert!(!ends("# end: steps 1, row 3", 3));
-        assert!(!ends("# steps 1, rows 3", 3));
+        for more in [" ", "0", ",", ", row 1"] {
+            assert_eq!(End::read(&format!("{whole}{more}")), None);
+        }
+        for other in [
+            "# end: steps 1, row 3",
+            "# steps 1, rows 3",
+            "# end: steps +1, rows 3",
+        ] {
+            assert_eq!(End::read(other), None);
+        }
     }
 }

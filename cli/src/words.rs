@@ -41,7 +41,7 @@ pub fn read(words: Vec<OsString>) -> Answer<Command> {
     let rest: Vec<OsString> = words.collect();
     match first.to_str() {
         Some("help" | "--help" | "-h") => Ok(Command::Help(helped(&rest)?)),
-        Some("--version") => Ok(Command::Version),
+        Some("--version" | "-V") => Ok(Command::Version),
         Some("search") => sorted("search", Of::Search, rest, read_search),
         Some("resume") => sorted("resume", Of::Resume, rest, read_resume),
         Some("status") => sorted("status", Of::Status, rest, read_status),
@@ -79,7 +79,7 @@ fn read_search(mut words: Sorted) -> Answer<Command> {
     let out = words.out()?;
     let mixed = words.text("--mixed")?;
     let job = words.path("--job")?;
-    let quiet = words.has("--quiet");
+    let (quiet, upper) = (words.has("--quiet"), words.has("--upper"));
     let [shape, quorum, file] = words.plain(["TEMPLATE", "QUORUM", "FILE.fa"])?;
     Ok(Command::Search(search::Asked {
         template: template(&shape, mixed.as_deref())?,
@@ -88,6 +88,7 @@ fn read_search(mut words: Sorted) -> Answer<Command> {
         out,
         job,
         quiet,
+        upper,
     }))
 }
 
@@ -112,6 +113,7 @@ fn read_places(mut words: Sorted) -> Answer<Command> {
     let list = words.path("--list")?;
     let from = words.number("--from")?.unwrap_or(0);
     let rows = words.number("--rows")?;
+    let (quiet, upper) = (words.has("--quiet"), words.has("--upper"));
     let formats: Vec<Format> = [
         ("--bed", Format::Bed),
         ("--gff", Format::Gff),
@@ -130,6 +132,9 @@ fn read_places(mut words: Sorted) -> Answer<Command> {
         (Some(folder), None) => {
             if mixed.is_some() {
                 return Err(Failure::usage("a job knows its own --mixed"));
+            }
+            if upper {
+                return Err(Failure::usage("a job has its own sequences: no --upper"));
             }
             let [] = words.plain([])?;
             What::Job(folder)
@@ -156,6 +161,8 @@ fn read_places(mut words: Sorted) -> Answer<Command> {
         from,
         rows,
         out,
+        quiet,
+        upper,
     };
     Ok(Command::Places(places::Asked { what, how }))
 }

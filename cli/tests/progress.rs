@@ -81,7 +81,7 @@ fn a_terminal_shows_how_far_it_is() {
     let Some(text) = seen(&search.words(), |_| {}) else {
         return;
     };
-    for words in [" % of letter order, ", " rows, ", " candidates a second"] {
+    for words in [" %, ", " rows, ", "0:00:0"] {
         assert!(text.contains(words), "{text:?}");
     }
     // The line is gone at the end.

@@ -4,7 +4,7 @@ use super::occurrences::Occurrences;
 use crate::counted::{grouped, of};
 use crate::failure::{Answer, Failure};
 use crate::refusals;
-use crate::table;
+use crate::table::End;
 use std::fs::File;
 use std::io::{self, BufRead, BufReader, Read};
 use std::path::Path;
@@ -51,7 +51,7 @@ pub fn read(lines: &mut dyn BufRead, called: &str, all: &mut Occurrences) -> Ans
         let line = from_utf8(&bytes).map_err(|_| wrong("the line is no text"))?;
         let line = line.strip_suffix('\n').unwrap_or(line);
         let line = line.strip_suffix('\r').unwrap_or(line);
-        whole = table::ends(line, all.motifs());
+        whole = End::read(line).is_some_and(|end| end.rows == all.motifs());
         if line.starts_with('#') {
             continue;
         }

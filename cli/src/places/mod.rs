@@ -41,6 +41,10 @@ pub struct How {
     pub from: u64,
     pub rows: Option<u64>,
     pub out: Out,
+    /// Whether no progress is shown.
+    pub quiet: bool,
+    /// Whether lower-case letters of the sequences are taken as upper-case.
+    pub upper: bool,
 }
 
 /// The occurrences that are asked for.
@@ -71,7 +75,7 @@ pub fn places(asked: Asked) -> Answer<()> {
 fn of_motif(template: &Template, motif: &str, file: &Path, how: &How) -> Answer<()> {
     how.check(&[file.to_path_buf()])?;
     let number = template.number(motif).map_err(Failure::usage)?;
-    let sequences = sequences::read(file)?;
+    let sequences = sequences::read(file, how.upper)?;
     let mut all = Occurrences::new(&sequences, template)?;
     all.add(number)
         .map_err(|refusal| refusals::of_motif(refusal, template, motif, "tulfasheq"))?;
@@ -87,7 +91,7 @@ fn of_list(template: &Template, list: &Path, file: &Path, how: &How) -> Answer<(
         ));
     }
     how.check(&[list.to_path_buf(), file.to_path_buf()])?;
-    let sequences = sequences::read(file)?;
+    let sequences = sequences::read(file, how.upper)?;
     let mut all = Occurrences::new(&sequences, template)?;
     let whole = list::read_file(list, &mut all)?;
     let said = if whole {

@@ -120,6 +120,15 @@ impl Template {
         self.components.iter().map(|c| c.length).sum()
     }
 
+    /// The allowances, or `no` of an exact search.
+    pub fn mixed_or_no(&self) -> String {
+        if self.mixed {
+            self.allowances()
+        } else {
+            "no".to_string()
+        }
+    }
+
     /// The allowances, as `--mixed` takes them.
     pub fn allowances(&self) -> String {
         let each: Vec<String> = self

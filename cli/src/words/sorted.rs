@@ -11,7 +11,7 @@ use std::path::{Path, PathBuf};
 
 /// The options that are followed by a value, and those that are not.
 const VALUED: [&str; 6] = ["--out", "--mixed", "--job", "--list", "--from", "--rows"];
-const BARE: [&str; 4] = ["--quiet", "--bed", "--gff", "--tsv"];
+const BARE: [&str; 5] = ["--quiet", "--upper", "--bed", "--gff", "--tsv"];
 
 /// The words after a command, sorted: those that stand for themselves, and
 /// options, each at most once.
@@ -57,6 +57,7 @@ pub fn sorted(
             ),
             None => (bytes, None),
         };
+        let name = if name == b"-o" { b"--out" } else { name };
         let known = |option: &&&str| option.as_bytes() == name;
         if let Some(name) = VALUED.iter().find(known) {
             // What looks like an option is one: the value was forgotten.

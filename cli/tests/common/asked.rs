@@ -106,13 +106,35 @@ impl Asked {
         }
     }
 
+    /// What a table's last line tells of what was searched.
+    fn searched(&self, letters: &[u8], lengths: &[u32], quorum: u64) -> String {
+        let mixed = match self.mixed {
+            None => "no".to_string(),
+            Some(_) => {
+                let each = self.template().components.into_iter();
+                let each: Vec<String> = each.map(|c| c.allowance.to_string()).collect();
+                each.join(",")
+            }
+        };
+        format!(
+            "template {}, mixed {mixed}, quorum {quorum}, sequences {}, letters {}, sum {:016x}",
+            self.text(),
+            lengths.len(),
+            letters.len(),
+            sum(letters, lengths)
+        )
+    }
+
     /// What the second program answers: the whole table, or a refusal.
     pub fn expected(&self) -> Result<Table, Refusal> {
         let (letters, lengths) = read(&self.file)?;
         let template = self.template();
         let quorum = self.quorum.of(lengths.len() as u64);
         let mut search = begin(&letters, &lengths, &template, quorum)?;
-        let mut table = Table::default();
+        let mut table = Table {
+            searched: self.searched(&letters, &lengths, quorum),
+            ..Table::default()
+        };
         loop {
             let (mut motifs, mut supports, mut weights) = ([0; ROOM], [0; ROOM], [0; ROOM]);
             let leg = leg(
@@ -145,6 +167,8 @@ impl Asked {
 #[derive(Debug, Default)]
 pub struct Table {
     lines: String,
+    /// What the last line tells of what was searched.
+    searched: String,
     pub steps: u64,
     pub rows: u64,
 }
@@ -153,10 +177,24 @@ impl Table {
     /// The whole of it: the header, the rows, and the comment.
     pub fn text(&self) -> String {
         format!(
-            "motif\tsupport\toccurrences\n{}# end: steps {}, rows {}\n",
-            self.lines, self.steps, self.rows
+            "motif\tsupport\toccurrences\n{}# end: steps {}, rows {}, {}\n",
+            self.lines, self.steps, self.rows, self.searched
         )
     }
+}
+
+/// The sum of sequences, as docs/OPERATORS.md tells how it is worked out: FNV-1a
+/// of 64 bits, over the letters of each and a line end behind them.
+fn sum(letters: &[u8], lengths: &[u32]) -> u64 {
+    let mut letters = letters.iter();
+    let mut sum: u128 = 14_695_981_039_346_656_037;
+    for length in lengths {
+        let sequence = letters.by_ref().take(*length as usize);
+        for byte in sequence.chain(b"\n") {
+            sum = (sum ^ u128::from(*byte)) * 1_099_511_628_211 % (1 << 64);
+        }
+    }
+    sum as u64
 }
 
 /// A motif in the template's shape.
