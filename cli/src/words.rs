@@ -3,12 +3,13 @@
 mod sorted;
 
 use crate::failure::{Answer, Failure};
-use crate::help::{self, Of};
+use crate::help::{self, usage, Of};
 use crate::out::Out;
 use crate::places::{self, Format, How, What};
 use crate::quorum::Quorum;
 use crate::search;
 use crate::template::Template;
+pub use sorted::takes_value;
 use sorted::{path, sorted, text, Sorted};
 use std::ffi::{OsStr, OsString};
 use std::path::PathBuf;
@@ -46,10 +47,11 @@ pub fn read(words: Vec<OsString>) -> Answer<Command> {
         Some("resume") => sorted("resume", Of::Resume, rest, read_resume),
         Some("status") => sorted("status", Of::Status, rest, read_status),
         Some("places") => sorted("places", Of::Places, rest, read_places),
-        _ => Err(Failure::usage(format!(
-            "there is no command {}: there are search, resume, status, places and help",
-            first.display()
-        ))),
+        _ => {
+            let known = ["help", "--help", "--version", "-h", "-V"];
+            let there_are = "search, resume, status, places and help";
+            Err(no_command(&first, &known, there_are))
+        }
     }
 }
 
@@ -57,18 +59,27 @@ pub fn read(words: Vec<OsString>) -> Answer<Command> {
 fn helped(rest: &[OsString]) -> Answer<Of> {
     match rest {
         [] => Ok(Of::All),
-        [word] => match word.to_str() {
-            Some("search") => Ok(Of::Search),
-            Some("resume") => Ok(Of::Resume),
-            Some("status") => Ok(Of::Status),
-            Some("places") => Ok(Of::Places),
-            _ => Err(Failure::usage(format!(
-                "there is no command {}: there are search, resume, status and places",
-                word.display()
-            ))),
-        },
+        [word] => {
+            let named = |(name, _): &&(&str, Of)| word == name;
+            let found = help::COMMANDS.iter().chain(&help::MADE).find(named);
+            let there_are = "search, resume, status and places, and man and bash";
+            found
+                .map(|(_, of)| *of)
+                .ok_or_else(|| no_command(word, &["man", "bash"], there_are))
+        }
         _ => Err(Failure::usage("help takes one command")),
     }
+}
+
+/// A word that is no command, nor one of those that are known besides.
+fn no_command(word: &OsStr, besides: &[&'static str], there_are: &str) -> Failure {
+    let commands = help::COMMANDS.map(|(name, _)| name);
+    let known = commands.iter().chain(besides).copied();
+    let told = match word.to_str().and_then(|word| usage::meant(word, known)) {
+        Some(meant) => format!("did you mean {meant}?"),
+        None => format!("there are {there_are}"),
+    };
+    Failure::usage(format!("there is no command {}: {told}", word.display()))
 }
 
 fn template(word: &OsStr, mixed: Option<&str>) -> Answer<Template> {

@@ -22,12 +22,12 @@ fn words_that_cannot_be_read_are_told() {
     let with = |more: &[&'static str]| [&search[..], more].concat();
     for (words, expected) in [
         (
-            vec!["serach", "NN"],
-            "there is no command serach: there are search, resume, status, places and help",
+            vec!["find", "NN"],
+            "there is no command find: there are search, resume, status, places and help",
         ),
         (
             vec!["help", "me"],
-            "there is no command me: there are search, resume, status and places",
+            "there is no command me: there are search, resume, status and places, and man and bash",
         ),
         (vec!["help", "search", "NN"], "help takes one command"),
         (
@@ -98,6 +98,103 @@ fn words_that_cannot_be_read_are_told() {
 }
 
 #[test]
+fn words_that_are_close_to_others_are_told() {
+    for (words, expected) in [
+        (
+            &["serach", "NN"][..],
+            "there is no command serach: did you mean search?",
+        ),
+        (
+            &["--verison"],
+            "there is no command --verison: did you mean --version?",
+        ),
+        (&["-v"], "there is no command -v: did you mean -V?"),
+        (
+            &["help", "stat"],
+            "there is no command stat: did you mean status?",
+        ),
+        (
+            &["help", "mann"],
+            "there is no command mann: did you mean man?",
+        ),
+        (
+            &["places", "--gff3"],
+            "there is no option --gff3: did you mean --gff? (tulfasheq places --help)",
+        ),
+        (
+            &["search", "--jobs=x"],
+            "there is no option --jobs=x: did you mean --job? (tulfasheq search --help)",
+        ),
+        // One that is close, but not taken by this command, is not meant.
+        (
+            &["resume", "--jobs=x"],
+            "there is no option --jobs=x (tulfasheq resume --help)",
+        ),
+        (
+            &["search", "-H"],
+            "there is no option -H: did you mean -h? (tulfasheq search --help)",
+        ),
+        (
+            &["search", "-out", "x"],
+            "there is no option -out: did you mean --out? (tulfasheq search --help)",
+        ),
+        (
+            &["search", "-oTABLE"],
+            "there is no option -oTABLE: did you mean -o TABLE? (tulfasheq search --help)",
+        ),
+        (
+            &["search", "-o=TABLE"],
+            "there is no option -o=TABLE: did you mean -o TABLE? (tulfasheq search --help)",
+        ),
+        (
+            &["status", "-oTABLE"],
+            "there is no option -oTABLE (tulfasheq status --help)",
+        ),
+        (
+            &["search", "-x"],
+            "there is no option -x (tulfasheq search --help)",
+        ),
+    ] {
+        assert_eq!(
+            usage(words),
+            format!("tulfasheq: {expected}\n"),
+            "{words:?}"
+        );
+    }
+}
+
+#[test]
+fn short_options_are_the_long_ones() {
+    let scratch = Scratch::new();
+    scratch.file("a.fa", ">a\nACGT\n");
+    let search = ["search", "NN", "1", "a.fa"];
+    let table = |more: &[&str]| {
+        let words = [&search[..], more].concat();
+        within::ran(&mut within::within(&scratch, &words))
+    };
+    let printed = table(&["--out", "-"]);
+    assert_eq!(printed.status, Some(0), "{}", printed.err);
+    assert_eq!(table(&["-o", "-"]).out, printed.out);
+    for words in [["-o", "short.tsv"], ["--out", "long.tsv"]] {
+        assert_eq!(table(&words).out, b"");
+        let written = std::fs::read(scratch.path(words[1])).expect("a table");
+        assert_eq!(written, printed.out);
+    }
+    for words in [&["-o"][..], &["-o", "--quiet"]] {
+        let words = [&search[..], words].concat();
+        assert_eq!(usage(&words), "tulfasheq: --out wants a value after it\n");
+    }
+    let twice = [&search[..], &["-o", "x", "--out", "y"]].concat();
+    assert_eq!(usage(&twice), "tulfasheq: --out stands there twice\n");
+    assert_eq!(run(&["-V"]).printed(), run(&["--version"]).printed());
+    for command in ["search", "resume"] {
+        assert!(help(command).contains(" -o FILE"), "{command}");
+    }
+    let all = String::from_utf8(run(&["help"]).printed()).expect("help is text");
+    assert!(all.contains(" -h\n") && all.contains(" -V\n"), "{all}");
+}
+
+#[test]
 fn without_a_command_all_of_them_are_told() {
     for words in [&[][..], &[""]] {
         let all = String::from_utf8(run(&["help"]).printed()).expect("help is text");
@@ -164,7 +261,7 @@ fn every_command_has_help() {
     for command in COMMANDS {
         assert!(all.contains(&format!("tulfasheq {command} ")), "{command}");
     }
-    for status in 0..=7 {
+    for status in 0..=8 {
         let line = format!("\n  {status}  ");
         assert!(all.contains(&line), "status {status}");
     }

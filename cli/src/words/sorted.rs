@@ -3,7 +3,7 @@
 use super::Command;
 use crate::counted;
 use crate::failure::{Answer, Failure};
-use crate::help::Of;
+use crate::help::{usage, Of};
 use crate::out::Out;
 use std::ffi::{OsStr, OsString};
 use std::os::unix::ffi::OsStrExt;
@@ -12,6 +12,11 @@ use std::path::{Path, PathBuf};
 /// The options that are followed by a value, and those that are not.
 const VALUED: [&str; 6] = ["--out", "--mixed", "--job", "--list", "--from", "--rows"];
 const BARE: [&str; 5] = ["--quiet", "--upper", "--bed", "--gff", "--tsv"];
+
+/// Whether an option is followed by a value.
+pub fn takes_value(option: &str) -> bool {
+    VALUED.contains(&option)
+}
 
 /// The words after a command, sorted: those that stand for themselves, and
 /// options, each at most once.
@@ -45,17 +50,17 @@ pub fn sorted(
         }
         // Its bytes, since a path behind = need not be text.
         let bytes = word.as_bytes();
-        let short = bytes.len() == 2 && bytes[0] == b'-' && bytes[1].is_ascii_alphabetic();
+        let short = bytes.len() > 1 && bytes[0] == b'-' && bytes[1].is_ascii_alphabetic();
         if !bytes.starts_with(b"--") && !short {
             sorted.plain.push(word);
             continue;
         }
         let (name, value) = match bytes.iter().position(|b| *b == b'=') {
-            Some(at) => (
+            Some(at) if !short => (
                 &bytes[..at],
                 Some(OsStr::from_bytes(&bytes[at + 1..]).to_os_string()),
             ),
-            None => (bytes, None),
+            _ => (bytes, None),
         };
         let name = if name == b"-o" { b"--out" } else { name };
         let known = |option: &&&str| option.as_bytes() == name;
@@ -69,13 +74,33 @@ pub fn sorted(
         } else if let (Some(name), None) = (BARE.iter().find(known), value) {
             sorted.add(name, OsString::new())?;
         } else {
-            return Err(Failure::usage(format!(
-                "there is no option {} (tulfasheq {command} --help)",
-                word.display()
-            )));
+            return Err(no_option(&word, command, of));
         }
     }
     read(sorted)
+}
+
+/// A word that looks like an option and is none, and which it was meant to be
+/// if it is close to one that the command takes.
+fn no_option(word: &OsStr, command: &str, of: Of) -> Failure {
+    let told = word.display().to_string();
+    let (name, value) = told.split_once('=').unwrap_or((&told, ""));
+    let known = || usage::options(of).into_iter().map(|(name, _)| name);
+    let meant = match usage::meant(name, known().chain(["--help", "-h"])) {
+        // A name that is known stands there with a value that it does not take.
+        Some(meant) if meant != name => format!(": did you mean {meant}?"),
+        // The value of a short one is a word of its own.
+        None if known().any(|name| name == "--out") && name.starts_with("-o") => {
+            format!(
+                ": did you mean -o {}?",
+                if value.is_empty() { &name[2..] } else { value }
+            )
+        }
+        _ => String::new(),
+    };
+    Failure::usage(format!(
+        "there is no option {told}{meant} (tulfasheq {command} --help)"
+    ))
 }
 
 impl Sorted {
