@@ -21,11 +21,71 @@ set -eu
 cd "$(dirname "$0")/.."
 
 # rt expects to be alone in target/: this is the lock that `run` takes too.
+mkdir -p target/run
 if command -v flock >/dev/null 2>&1; then
-    mkdir -p target/run
     exec 9>target/run/lock
     flock 9
 fi
+
+say() {
+    printf 'rust/library.sh: %s\n' "$1" >&2 || :
+}
+
+# The crates that a crate is made of and itself, each behind those that it builds on.
+crates_of() { # NAME
+    awk -v name="$1" '
+        function tell(crate, i, n, below) {
+            if (!(crate in on) || told[crate]++) return
+            n = split(on[crate], below, " ")
+            for (i = 1; i <= n; i++) tell(below[i])
+            print crate
+        }
+        { sub(/#.*/, "") }
+        split($0, side, ":") == 2 { gsub(/[ \t]/, "", side[1]); on[side[1]] = side[2] }
+        END { tell(name) }' crates.txt
+}
+
+# Whether a crate was never proved, or has a file that is newer than its proof.
+to_be_proved() {
+    for crate in $crates; do
+        proved=target/stamp/$crate
+        [ -f "$proved" ] && [ -z "$(find "crates/$crate" -name must-fail -prune -o -type f -newer "$proved" -print)" ] || return 0
+    done
+    return 1
+}
+
+# Reads what rt says, and tells of each crate that it proves when that is done, and which are left then.
+tell_proofs() {
+    left=$crates
+    while IFS= read -r line; do
+        printf '%s\n' "$line" >>"$log"
+        case $line in "rt: "*" proved ("*) ;; *) continue ;; esac
+        line=${line#rt: }
+        done=${line%% *}
+        # shellcheck disable=SC2086
+        set -- $left
+        left=''
+        for crate; do [ "$crate" = "$done" ] || left="$left $crate"; done
+        # shellcheck disable=SC2086
+        set -- $left
+        # The seconds that a proof took; one that is still good took none.
+        case $line in *"("[0-9]*" s)") say "$line, $# left${1:+: $*}" ;; esac
+    done
+}
+
+# Has the crate proved, with all that it is made of. What was said is shown whole if that fails.
+prove() { # NAME
+    crates=$(crates_of "$1")
+    log=target/run/library.log
+    # shellcheck disable=SC2086
+    ! to_be_proved || say "checking that all of the library is proved (some minutes, the first time):$(printf ' %s' $crates)"
+    : >"$log"
+    { rt check "$1" 2>&1 && echo "library: all is proved"; } </dev/null | tell_proofs
+    if [ "$(tail -n 1 "$log")" != "library: all is proved" ]; then
+        cat "$log" >&2
+        exit 1
+    fi
+}
 
 # Runs a command, and shows what it said only if it fails.
 quietly() {
@@ -35,8 +95,7 @@ quietly() {
     }
 }
 
-[ -f target/stamp/exports ] || echo "rust/library.sh: the library is proved first, which takes some minutes" >&2
-quietly rt check exports
+prove exports
 host=target/host
 mkdir -p "$host"
 if [ -f "$host/libtulfasheq.a" ] && [ -f target/staticlib/libexports.a ] && cmp -s target/stamp/exports "$host/stamp"; then
