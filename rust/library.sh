@@ -20,16 +20,19 @@
 set -eu
 cd "$(dirname "$0")/.."
 
+say() {
+    printf 'rust/library.sh: %s\n' "$1" >&2 || :
+}
+
 # rt expects to be alone in target/: this is the lock that `run` takes too.
 mkdir -p target/run
 if command -v flock >/dev/null 2>&1; then
     exec 9>target/run/lock
-    flock 9
+    flock -n 9 || {
+        say "another one is proving, and this one waits for it"
+        flock 9
+    }
 fi
-
-say() {
-    printf 'rust/library.sh: %s\n' "$1" >&2 || :
-}
 
 # The crates that a crate is made of and itself, each behind those that it builds on.
 crates_of() { # NAME
