@@ -75,6 +75,22 @@ ended 1
 printed_nothing
 said_one_line
 
+begin "without the kit, help where it is to be built"
+mv "$mark" "$work/mark"
+for command in search resume status places; do
+    for words in "help $command" "$command --help" "$command -h"; do
+        # shellcheck disable=SC2086
+        try env PATH="$work/bin" sh tulfasheq $words
+        ended 0
+        printed "cli/src/help/$command.txt"
+        [ ! -s "$work/err" ] || fail "it says something"
+    done
+done
+try env PATH="$work/bin" sh tulfasheq --help
+mv "$work/mark" "$mark"
+ended 0
+printed cli/src/help/all.txt
+
 begin "where it was changed since"
 cp cli/target/release/tulfasheq "$work/built"
 echo changed >>cli/target/release/tulfasheq
