@@ -50,7 +50,8 @@ pub fn version() -> Answer<()> {
 /// The program's name and version.
 const VERSION: &str = concat!("tulfasheq ", env!("CARGO_PKG_VERSION"));
 
-/// The text as it was written, of a command or of all.
+/// The text as it was written, of a command or of all. What is made from all
+/// texts has none of its own, and begins with this one.
 pub fn text(of: Of) -> &'static str {
     match of {
         Of::All | Of::Man | Of::Bash => include_str!("help/all.txt"),
