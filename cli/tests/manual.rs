@@ -134,16 +134,23 @@ fn shown(page: &str, width: u32) -> Option<String> {
 #[test]
 fn the_page_is_shown_whole_at_any_width() {
     let page = printed(&["help", "man"]);
+    let mut texts = printed(&["--help"]);
+    for command in COMMANDS {
+        texts += &printed(&[command, "--help"]);
+    }
     for width in [60, 80, 132] {
         let Some(text) = shown(&page, width) else {
-            eprintln!("there is no groff here: how the page is shown was not tried");
+            // Past the harness, which keeps what a test says that passes.
+            let untried = "there is no groff here: how the page is shown was not tried";
+            let _ = writeln!(std::io::stderr(), "{untried}");
             return;
         };
         let mut sections: Vec<(String, String)> = Vec::new();
         for line in text.lines() {
             // Examples alone stand as they are.
             let fits = line.chars().count() <= width as usize;
-            assert!(fits || line.contains("./tulfasheq "), "{line}");
+            let example = format!("\n    {}\n", line.trim());
+            assert!(fits || texts.contains(&example), "{line}");
             if line.starts_with("TULFASHEQ(1)") || line.starts_with("tulfasheq ") {
                 // The lines at the head and the foot of the page.
             } else if let Some((_, text)) = sections.last_mut().filter(|_| !starts(line)) {
