@@ -148,7 +148,7 @@ fn option(random: &mut Random) -> Vec<OsString> {
         3 => ("--job", random.pick(&["a.fa", "done", ".", "none/job"])),
         4 => ("--job", "job"),
         5 | 6 => ("--out", random.pick(&OUTS)),
-        _ => return vec!["--quiet".into()],
+        _ => return vec![random.pick(&["--quiet", "--upper"]).into()],
     };
     match random.once_in(3) {
         true => vec![format!("{name}={value}").into()],
@@ -211,7 +211,7 @@ fn check(words: &[OsString], ran: &Ran, written: bool) {
         "{}",
         told()
     );
-    assert_eq!(ran.err.is_empty(), status == 0, "{}", told());
+    assert!(status == 0 || !ran.err.is_empty(), "{}", told());
     assert!(ran.err.len() < 300_000, "{} bytes are said", ran.err.len());
     let help = ran.out.starts_with(b"usage: ");
     if words[0] == "search" && !help {

@@ -21,7 +21,7 @@ pub const USUAL: &[&[u8]] = &[
 ];
 
 /// Beginnings of names that only a plain table takes.
-pub const ODD: &[&[u8]] = &[b"", b"#", b"a\rb", b"\x00\x7f"];
+pub const ODD: &[&[u8]] = &[b"", b"#", b"a\x0bb", b"\x00\x7f"];
 
 impl Case {
     /// A template of 1 to 4 components, and sequences of few letters, so that
