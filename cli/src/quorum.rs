@@ -2,6 +2,7 @@
 
 use crate::caret;
 use crate::failure::{Answer, Failure};
+use std::path::Path;
 
 /// A quorum that was read.
 #[derive(Clone, Copy, Debug, PartialEq, Eq)]
@@ -14,8 +15,16 @@ pub enum Quorum {
 }
 
 impl Quorum {
-    /// Reads `12`, `12%` or `12.5%`.
+    /// Reads `12`, `12%` or `12.5%`. What is none is told with how it would be
+    /// written.
     pub fn read(text: &str) -> Answer<Quorum> {
+        Quorum::strict(text).map_err(|failure| match hint(text) {
+            Some(hint) => failure.and(hint),
+            None => failure,
+        })
+    }
+
+    fn strict(text: &str) -> Answer<Quorum> {
         let wrong = |why: &str| {
             Err(Failure::usage(format!(
                 "the quorum cannot be read: {why}\n{}",
@@ -57,9 +66,124 @@ impl Quorum {
     }
 }
 
+/// How a text would be written, or what it is in the place of a quorum.
+fn hint(text: &str) -> Option<String> {
+    if let Some(written) = written(text) {
+        return Some(format!("Write it {written}."));
+    }
+    Path::new(text).is_file().then(|| {
+        "This is a file: the template comes first, then the quorum, and the file last.".to_string()
+    })
+}
+
+/// The text as a quorum that can be read, where there is a plain one: `0.5`,
+/// `1/2`, `12,5 %`, `50 percent`, `1e2` and `1,024` as people write them.
+fn written(text: &str) -> Option<String> {
+    let text = text.trim().to_lowercase();
+    let percent = ["%", "percent", "per cent", "pct"]
+        .iter()
+        .find_map(|unit| text.strip_suffix(unit));
+    let written = if let Some(share) = percent {
+        let (whole, part) = decimal(share.trim())?;
+        Some(percentage(&format!("{whole}.{part}")))
+    } else if let Some((part, whole)) = text.split_once('/') {
+        share_of(part.trim().parse().ok()?, whole.trim().parse().ok()?)
+    } else if let Some((number, zeros)) = text.split_once('e') {
+        let zeros = zeros.parse().ok().filter(|zeros| *zeros < 10u32)?;
+        let number: u64 = number.parse().ok()?;
+        number.checked_mul(10u64.pow(zeros)).map(|n| n.to_string())
+    } else if let Some(("0", part)) = decimal(&text) {
+        share_of(part.parse().ok()?, 10u64.checked_pow(part.len() as u32)?)
+    } else {
+        thousands(&text)
+    };
+    written.filter(|written| Quorum::strict(written).is_ok())
+}
+
+/// The digits before and behind a point, which some write as a comma.
+fn decimal(text: &str) -> Option<(&str, &str)> {
+    let (whole, part) = text.split_once(['.', ',']).unwrap_or((text, ""));
+    let digits = |part: &str| part.bytes().all(|b| b.is_ascii_digit());
+    let any = !whole.is_empty() || !part.is_empty();
+    let whole = if whole.is_empty() { "0" } else { whole };
+    (any && digits(whole) && digits(part)).then_some((whole, part))
+}
+
+/// A share as it is written. What is left of a long one is left out: so it asks
+/// for no sequence more.
+fn share_of(part: u64, whole: u64) -> Option<String> {
+    if part == 0 || part > whole {
+        return None;
+    }
+    // Nine digits behind the point, of a hundred.
+    let digits = u128::from(part) * 100_000_000_000 / u128::from(whole);
+    let (whole, part) = (digits / 1_000_000_000, digits % 1_000_000_000);
+    Some(percentage(&format!("{whole}.{part:09}")))
+}
+
+/// A number with a point as a percentage, without the zeros at its end.
+fn percentage(number: &str) -> String {
+    format!("{}%", number.trim_end_matches('0').trim_end_matches('.'))
+}
+
+/// A number whose thousands stand apart.
+fn thousands(text: &str) -> Option<String> {
+    let groups: Vec<&str> = text.split([',', '\'', '_', ' ']).collect();
+    let digits = |group: &&str| group.bytes().all(|b| b.is_ascii_digit());
+    let plain = groups.iter().all(digits)
+        && (1..=3).contains(&groups[0].len())
+        && groups[1..].iter().all(|group| group.len() == 3);
+    plain.then(|| groups.concat())
+}
+
 #[cfg(test)]
 mod tests {
-    use super::Quorum;
+    use super::{written, Quorum};
+
+    #[test]
+    fn a_quorum_as_people_write_it_is_written_as_here() {
+        for (text, plain) in [
+            ("0.5", "50%"),
+            (".5", "50%"),
+            ("0,5", "50%"),
+            ("0.125", "12.5%"),
+            ("0.50", "50%"),
+            ("1/2", "50%"),
+            ("1 / 3", "33.333333333%"),
+            ("2/3", "66.666666666%"),
+            ("26/26", "100%"),
+            ("12,5%", "12.5%"),
+            ("12 %", "12%"),
+            ("12.50 %", "12.5%"),
+            (".5%", "0.5%"),
+            ("5.%", "5%"),
+            ("50 percent", "50%"),
+            ("50Percent", "50%"),
+            ("1e2", "100"),
+            ("1,024", "1024"),
+            ("1'024", "1024"),
+            ("1 024", "1024"),
+            (" 12", "12"),
+        ] {
+            assert_eq!(written(text).as_deref(), Some(plain), "{text}");
+        }
+        for text in [
+            "", "1.5", "12,5", "1,0", "half", "-1", "3/2", "0/2", "1/0", "0.0", "1000%", "1e99",
+            "e", "/", "%", ".", "1,0240", "1.0",
+        ] {
+            assert_eq!(written(text), None, "{text}");
+        }
+    }
+
+    #[test]
+    fn a_share_in_parts_asks_for_what_the_parts_do() {
+        for whole in 1..=60 {
+            for part in 1..=whole {
+                let text = written(&format!("{part}/{whole}")).expect("a share");
+                assert_eq!(of(&text, 17 * whole), 17 * part, "{part}/{whole}");
+            }
+        }
+    }
 
     fn of(text: &str, sequences: u64) -> u64 {
         Quorum::read(text).expect("a quorum").of(sequences)

@@ -1,6 +1,7 @@
 //! A template as an operator writes it: runs of N with the gap ranges between
 //! them. What numbers it may have is for the library to say.
 
+mod habits;
 mod motif;
 mod read;
 
@@ -45,7 +46,8 @@ impl Template {
     /// Reads a template, and the allowances of a mixed search where there are
     /// any: one for each component, or one for all of them.
     pub fn read(text: &str, mixed: Option<&str>) -> Answer<Template> {
-        let mut components = read::components(text)?;
+        let mut components =
+            read::components(text).map_err(|failure| habits::told(text, failure))?;
         if let Some(mixed) = mixed {
             read::allow(&mut components, mixed)?;
         }

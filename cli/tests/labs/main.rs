@@ -8,6 +8,7 @@ mod common;
 mod within;
 
 mod formats;
+mod habits;
 mod letters;
 mod packed;
 mod records;
