@@ -159,10 +159,17 @@ fn read_places(mut words: Sorted) -> Answer<Command> {
             }
         }
         (None, None) => {
-            let [shape, motif, file] = words.plain(["TEMPLATE", "MOTIF", "FILE.fa"])?;
+            let (shape, motif, file) = if words.count() == 2 {
+                let [motif, file] = words.plain(["MOTIF", "FILE.fa"])?;
+                (None, motif, file)
+            } else {
+                let [shape, motif, file] = words.plain(["TEMPLATE", "MOTIF", "FILE.fa"])?;
+                (Some(text(&shape, "the template")?), motif, file)
+            };
+            let motif = text(&motif, "the motif")?;
             What::Motif {
-                template: template(&shape, mixed.as_deref())?,
-                motif: text(&motif, "the motif")?,
+                template: places::template_of(shape.as_deref(), mixed.as_deref(), &motif)?,
+                motif,
                 file: path(file, "FILE.fa")?,
             }
         }

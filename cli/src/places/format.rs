@@ -1,7 +1,10 @@
 //! The formats in which an occurrence can be written.
 
 use super::{bed, gff, tsv};
+use crate::sequences::Sequences;
+use crate::sum::Sum;
 use crate::template::{Component, Template};
+use std::io::Write;
 
 /// How an occurrence is written.
 #[derive(Clone, Copy, Debug, PartialEq, Eq)]
@@ -62,26 +65,37 @@ impl Format {
         match self {
             Format::Bed => bed::takes(name),
             Format::Gff => gff::takes(name),
-            // A name ends before a tab and before the line's end.
             Format::Tsv => Ok(()),
         }
     }
 
     /// What stands before the rows.
-    pub fn header(self, template: &Template, to: &mut Vec<u8>) {
+    pub fn header(self, template: &Template, sequences: &Sequences, to: &mut Vec<u8>) {
         match self {
             Format::Bed => {}
-            Format::Gff => to.extend_from_slice(gff::HEADER),
+            Format::Gff => gff::header(sequences, to),
             Format::Tsv => tsv::header(template.components.len(), to),
         }
     }
 
-    /// The lines of one occurrence.
-    pub fn row(self, occurrence: &Occurrence, to: &mut Vec<u8>) {
+    /// The lines of one occurrence of a list that has this sum.
+    pub fn row(self, occurrence: &Occurrence, list: Sum, to: &mut Vec<u8>) {
         match self {
             Format::Bed => bed::row(occurrence, to),
-            Format::Gff => gff::row(occurrence, to),
+            Format::Gff => gff::row(occurrence, list, to),
             Format::Tsv => tsv::row(occurrence, to),
+        }
+    }
+}
+
+/// Bytes with a percent sign and two digits for each that may not stand.
+pub fn escaped(bytes: &[u8], stands: impl Fn(u8) -> bool, to: &mut Vec<u8>) {
+    for byte in bytes {
+        if stands(*byte) {
+            to.push(*byte);
+        } else {
+            // To write to memory does not fail.
+            let _ = write!(to, "%{byte:02X}");
         }
     }
 }

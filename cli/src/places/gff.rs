@@ -1,11 +1,36 @@
 //! GFF3: a line for an occurrence and, where the template has several
 //! components, one for each of them; from 1, ends included.
 
-use super::format::Occurrence;
+use super::format::{escaped, Occurrence};
+use crate::sequences::Sequences;
+use crate::sum::Sum;
+use std::collections::HashMap;
 use std::io::Write;
 
-/// The first line.
-pub const HEADER: &[u8] = b"##gff-version 3\n";
+/// The first lines: the version, and the letters of each record, from 1 on.
+/// An empty record has none, and where several have one name the longest
+/// stands for all, since a reader takes one line for a name.
+pub fn header(sequences: &Sequences, to: &mut Vec<u8>) {
+    to.extend_from_slice(b"##gff-version 3\n");
+    let named = || {
+        (1u32..)
+            .zip(&sequences.lengths)
+            .map(|(number, length)| (sequences.name(number), *length))
+    };
+    let mut longest: HashMap<&[u8], u32> = HashMap::new();
+    for (name, length) in named() {
+        let most = longest.entry(name).or_default();
+        *most = length.max(*most);
+    }
+    for (name, _) in named() {
+        if let Some(length) = longest.remove(name).filter(|length| *length > 0) {
+            to.extend_from_slice(b"##sequence-region ");
+            escaped(name, in_name, to);
+            // To write to memory does not fail.
+            let _ = writeln!(to, " 1 {length}");
+        }
+    }
+}
 
 /// Whether a record's name can be a line's first column, or why not. Any byte
 /// can be escaped, but an empty column is none.
@@ -16,18 +41,18 @@ pub fn takes(name: &[u8]) -> Result<(), String> {
     Ok(())
 }
 
-/// The lines of an occurrence.
-pub fn row(occurrence: &Occurrence, to: &mut Vec<u8>) {
+/// The lines of an occurrence. The sum of its list is a part of its ID, so
+/// that files of several lists can be joined.
+pub fn row(occurrence: &Occurrence, list: Sum, to: &mut Vec<u8>) {
     let number = occurrence.row;
     line(occurrence, "nucleotide_motif", occurrence.whole(), to);
-    // To write to memory does not fail.
-    let _ = write!(to, "ID=o{number};Name=");
+    let _ = write!(to, "ID=o{list}.{number};Name=");
     escaped(occurrence.motif, in_value, to);
     to.push(b'\n');
     if occurrence.starts.len() > 1 {
         for part in occurrence.parts() {
             line(occurrence, "DNA_motif", part, to);
-            let _ = writeln!(to, "Parent=o{number}");
+            let _ = writeln!(to, "Parent=o{list}.{number}");
         }
     }
 }
@@ -36,17 +61,6 @@ pub fn row(occurrence: &Occurrence, to: &mut Vec<u8>) {
 fn line(occurrence: &Occurrence, kind: &str, (first, last): (u64, u64), to: &mut Vec<u8>) {
     escaped(occurrence.name, in_name, to);
     let _ = write!(to, "\ttulfasheq\t{kind}\t{first}\t{last}\t.\t+\t.\t");
-}
-
-/// Bytes with a percent sign and two digits for each that may not stand.
-fn escaped(bytes: &[u8], stands: impl Fn(u8) -> bool, to: &mut Vec<u8>) {
-    for byte in bytes {
-        if stands(*byte) {
-            to.push(*byte);
-        } else {
-            let _ = write!(to, "%{byte:02X}");
-        }
-    }
 }
 
 /// Whether a byte may stand in a line's first column.
@@ -61,19 +75,36 @@ fn in_value(byte: u8) -> bool {
 
 #[cfg(test)]
 mod tests {
-    use super::super::format::tried;
-    use super::{escaped, in_value, row, takes};
+    use super::super::format::{escaped, tried};
+    use super::{header, in_value, row, takes};
+    use crate::sequences::Sequences;
+    use crate::sum::Sum;
 
     #[test]
     fn a_component_has_its_occurrence_for_parent() {
         let mut lines = Vec::new();
-        tried(b">a,\xff.1", 9, |occurrence| row(occurrence, &mut lines));
+        tried(b">a,\xff.1", 9, |occurrence| {
+            row(occurrence, Sum(0xa1), &mut lines);
+        });
         let lines = String::from_utf8(lines).expect("text");
         assert_eq!(
             lines.replace("%3Ea%2C%FF.1\ttulfasheq\t", ""),
-            "nucleotide_motif\t5\t11\t.\t+\t.\tID=o17;Name=AC[0%2C3]GTA\n\
-             DNA_motif\t5\t6\t.\t+\t.\tParent=o17\n\
-             DNA_motif\t9\t11\t.\t+\t.\tParent=o17\n"
+            "nucleotide_motif\t5\t11\t.\t+\t.\tID=o00000000000000a1.17;Name=AC[0%2C3]GTA\n\
+             DNA_motif\t5\t6\t.\t+\t.\tParent=o00000000000000a1.17\n\
+             DNA_motif\t9\t11\t.\t+\t.\tParent=o00000000000000a1.17\n"
+        );
+    }
+
+    #[test]
+    fn a_name_has_one_region_and_an_empty_record_none() {
+        let file = b">b\nAC\n>a% x\nA\n>\xff\n>b\nACGT\n>c\n\n>b\nA\n>>\nAA\n";
+        let sequences = Sequences::new("file".to_string(), file.to_vec()).expect("sequences");
+        let mut lines = Vec::new();
+        header(&sequences, &mut lines);
+        assert_eq!(
+            String::from_utf8_lossy(&lines),
+            "##gff-version 3\n##sequence-region b 1 4\n\
+             ##sequence-region a%25 1 1\n##sequence-region %3E 1 2\n"
         );
     }
 

@@ -4,8 +4,11 @@ mod bed;
 mod format;
 mod gff;
 mod list;
+mod narrow;
 mod occurrences;
+mod shape;
 mod tsv;
+mod write;
 
 use crate::counted::of;
 use crate::failure::{Answer, Failure};
@@ -14,9 +17,12 @@ use crate::out::Out;
 use crate::refusals;
 use crate::say::say;
 use crate::sequences::{self, Sequences};
+use crate::table::Searched;
 use crate::template::Template;
 pub use format::Format;
+use library::limits;
 use occurrences::Occurrences;
+pub use shape::template as template_of;
 use std::io::BufReader;
 use std::path::{Path, PathBuf};
 
@@ -74,12 +80,16 @@ pub fn places(asked: Asked) -> Answer<()> {
 /// Of one motif.
 fn of_motif(template: &Template, motif: &str, file: &Path, how: &How) -> Answer<()> {
     how.check(&[file.to_path_buf()])?;
-    let number = template.number(motif).map_err(Failure::usage)?;
+    template.number(motif).map_err(Failure::usage)?;
     let sequences = sequences::read(file, how.upper)?;
-    let mut all = Occurrences::new(&sequences, template)?;
-    all.add(number)
-        .map_err(|refusal| refusals::of_motif(refusal, template, motif, "tulfasheq"))?;
-    how.write(&mut all, "")
+    takes(&sequences, template)?;
+    let all = Occurrences {
+        sequences: &sequences,
+        template,
+        motifs: vec![list::motif(template, motif, "tulfasheq")?],
+        counts: None,
+    };
+    how.write(&all, "")
 }
 
 /// Of every motif of a table that a search wrote.
@@ -92,93 +102,91 @@ fn of_list(template: &Template, list: &Path, file: &Path, how: &How) -> Answer<(
     }
     how.check(&[list.to_path_buf(), file.to_path_buf()])?;
     let sequences = sequences::read(file, how.upper)?;
-    let mut all = Occurrences::new(&sequences, template)?;
-    let whole = list::read_file(list, &mut all)?;
-    let said = if whole {
-        String::new()
+    takes(&sequences, template)?;
+    let (table, template) = if template.mixed || template.letters() > limits::MIXED_MOTIF {
+        let table = list::read_file(list, template, how.from > 0)?;
+        (table, template.clone())
     } else {
-        format!(
-            "tulfasheq: {}: it is not whole, for it does not end with the line that search writes last: {} of it are taken",
-            list.display(),
-            of(all.motifs(), "row")
-        )
+        let lengths: Vec<u64> = template.components.iter().map(|c| c.length).collect();
+        let all = shape::needed(template, &lengths)?;
+        let mut table = list::read_file(list, &all, how.from > 0)?;
+        let needed = table.narrowed(template)?;
+        (table, needed)
     };
-    how.write(&mut all, &said)
+    let searched = table.end.as_ref().and_then(|end| end.searched.as_ref());
+    let other = searched.map(|searched| other(searched, &sequences, &template));
+    let unfinished = if table.end.is_none() {
+        format!(
+            "{}: it is not whole, for it does not end with the line that search writes last: {} of it are taken",
+            list.display(),
+            of(table.motifs.len() as u64, "row")
+        )
+    } else {
+        String::new()
+    };
+    if let Some(Some(other)) = &other {
+        say(&format!("tulfasheq: {}: note: {other}", list.display()));
+    }
+    let all = Occurrences {
+        sequences: &sequences,
+        template: &template,
+        motifs: table.motifs,
+        // What another search counted is not what occurs here.
+        counts: table.counts.filter(|_| other == Some(None)),
+    };
+    how.write(&all, &unfinished)
+}
+
+/// What a table's last line tells of another search than one over these
+/// sequences by this template, or nothing.
+fn other(searched: &Searched, sequences: &Sequences, template: &Template) -> Option<String> {
+    if searched.template != template.text {
+        let its = &searched.template;
+        return Some(format!("its template is {its}, by its last line"));
+    }
+    (searched.sum != sequences.sum()).then(|| {
+        let called = &sequences.called;
+        format!("it is of a search over other sequences than those of {called}, by its last line")
+    })
 }
 
 /// Of every motif that a job has listed.
 fn of_job(folder: &Path, how: &How) -> Answer<()> {
     how.check(&job::paths(folder))?;
     let about = About::read(folder)?;
-    let mut all = Occurrences::new(&about.sequences, &about.template)?;
+    takes(&about.sequences, &about.template)?;
     let called = folder.join(job::ROWS).display().to_string();
-    list::read(&mut BufReader::new(about.table()?), &called, &mut all)?;
-    let said = if about.ended() {
+    let mut lines = BufReader::new(about.table()?);
+    let table = list::read(&mut lines, &called, &about.template, how.from > 0)?;
+    let unfinished = if about.ended() {
         String::new()
     } else {
         format!(
-            "tulfasheq: {}: the search has not ended: these are the places of the {} so far",
+            "{}: the search has not ended: these are the places of the {} so far",
             folder.display(),
-            of(all.motifs(), "row")
+            of(table.motifs.len() as u64, "row")
         )
     };
-    how.write(&mut all, &said)
+    let all = Occurrences {
+        sequences: &about.sequences,
+        template: &about.template,
+        motifs: table.motifs,
+        counts: table.counts,
+    };
+    how.write(&all, &unfinished)
 }
 
-impl How {
-    /// Checks, before anything long is done, that there is somewhere to write
-    /// to that is none of the files which are read.
-    fn check(&self, read: &[PathBuf]) -> Answer<()> {
-        self.out.spare(read)?;
-        self.out.check()
-    }
-
-    /// Writes the rows that are asked for, after what there is to say of them.
-    /// Nothing is opened before it is known that the list has the first.
-    fn write(&self, all: &mut Occurrences, said: &str) -> Answer<()> {
-        self.check_names(all.sequences)?;
-        if !said.is_empty() {
-            say(said);
-        }
-        let mut header = Vec::new();
-        self.format.header(all.template, &mut header);
-        let begin = || {
-            let mut out = self.out.open()?;
-            out.write(&header)?;
-            Ok(out)
-        };
-        let mut out = None;
-        let mut lines = Vec::new();
-        all.pages(self.from, self.rows.unwrap_or(u64::MAX), |page| {
-            lines.clear();
-            for occurrence in page {
-                self.format.row(&occurrence, &mut lines);
-            }
-            let open = match &mut out {
-                Some(open) => open,
-                None => out.insert(begin()?),
-            };
-            open.write(&lines)
-        })?;
-        match out {
-            Some(open) => open,
-            None => begin()?,
-        }
-        .close()
-    }
-
-    /// Every record's name must be one that the format can hold, also where no
-    /// motif occurs, so that this does not hang on the motif.
-    fn check_names(&self, sequences: &Sequences) -> Answer<()> {
-        for number in 1..=sequences.lengths.len() as u32 {
-            if let Err(why) = self.format.takes(sequences.name(number)) {
-                return Err(Failure::refused(format!(
-                    "{}: the name of record {number} cannot stand in {}: {why}\nThe names of all records are checked first, also where no motif occurs. --tsv takes any name.",
-                    sequences.called,
-                    self.format.called(),
-                )));
-            }
-        }
-        Ok(())
-    }
+/// Refuses sequences and a template that the library refuses.
+fn takes(sequences: &Sequences, template: &Template) -> Answer<()> {
+    // A search refuses the same, and to begin one takes no time.
+    let quorum = 1;
+    library::begin(
+        &sequences.letters,
+        &sequences.lengths,
+        template.lent(),
+        quorum,
+        &mut [0; limits::SAVED_MOST],
+    )
+    .map_err(|refusal| refusals::of_search(refusal, sequences, template, quorum))?;
+    Ok(())
 }

@@ -152,6 +152,11 @@ impl Sorted {
         Ok(Out { file })
     }
 
+    /// How many words stand for themselves.
+    pub fn count(&self) -> usize {
+        self.plain.len()
+    }
+
     /// The words that stand for themselves, of which there are exactly these,
     /// after all options that the command knows were taken.
     pub fn plain<const N: usize>(self, names: [&str; N]) -> Answer<[OsString; N]> {

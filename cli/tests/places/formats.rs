@@ -9,24 +9,27 @@ use std::collections::HashMap;
 /// first letter of each component.
 type Row = (String, Vec<u8>, Vec<u64>);
 
-/// What a test knows of a case: each component's letters and each record's.
+/// What a test knows of a case: each component's letters, each record's, and
+/// the names and letters of those that have any, in their order.
 struct Known {
     components: Vec<u64>,
     records: HashMap<Vec<u8>, u64>,
+    regions: Vec<(Vec<u8>, u64)>,
 }
 
 impl Known {
     fn of(case: &Case) -> Known {
-        let records = case.names.iter().cloned();
         let lengths = case.sequences.iter().map(|s| s.len() as u64);
+        let records = case.names.iter().cloned().zip(lengths);
         Known {
+            regions: records.clone().filter(|(_, length)| *length > 0).collect(),
             components: case
                 .template
                 .components
                 .iter()
                 .map(|c| c.length.into())
                 .collect(),
-            records: records.zip(lengths).collect(),
+            records: records.collect(),
         }
     }
 }
@@ -88,18 +91,37 @@ fn unescaped(bytes: &[u8], stands: impl Fn(u8) -> bool) -> Vec<u8> {
     plain
 }
 
+/// A line's first column, or the name of a region, without escapes.
+fn unescaped_name(bytes: &[u8]) -> Vec<u8> {
+    unescaped(bytes, |b| {
+        b.is_ascii_alphanumeric() || b".:^*$@!+_?-|".contains(&b)
+    })
+}
+
+/// Reads the first lines of GFF3: the version and the regions, which are those
+/// of all records that have letters.
+fn head<'a>(lines: &'a [Vec<u8>], known: &Known) -> &'a [Vec<u8>] {
+    assert_eq!(lines[0], b"##gff-version 3");
+    let (regions, rest) = lines[1..].split_at(known.regions.len());
+    for (line, (name, length)) in regions.iter().zip(&known.regions) {
+        let words: Vec<&[u8]> = line.split(|b| *b == b' ').collect();
+        assert_eq!((words.len(), words[0]), (4, &b"##sequence-region"[..]));
+        assert_eq!(unescaped_name(words[1]), *name);
+        assert_eq!((number(words[2]), number(words[3])), (1, *length));
+    }
+    rest
+}
+
 /// Reads GFF3 whose occurrences are numbered from one on.
 fn gff(printed: &[u8], from: usize, known: &Known) -> Vec<Row> {
     let lines = lines(printed);
-    assert_eq!(lines[0], b"##gff-version 3");
     let mut rows: Vec<Row> = Vec::new();
     let mut ends = Vec::new();
-    for line in &lines[1..] {
+    let mut list = None;
+    for line in head(&lines, known) {
         let columns = columns(line);
         assert_eq!(columns.len(), 9);
-        let name = unescaped(&columns[0], |b| {
-            b.is_ascii_alphanumeric() || b".:^*$@!+_?-|".contains(&b)
-        });
+        let name = unescaped_name(&columns[0]);
         assert_eq!(columns[1], b"tulfasheq");
         let (start, end) = (number(&columns[3]), number(&columns[4]));
         assert!(1 <= start && start <= end && end <= known.records[&name]);
@@ -119,7 +141,11 @@ fn gff(printed: &[u8], from: usize, known: &Known) -> Vec<Row> {
             .collect();
         match &text(&columns[2])[..] {
             "nucleotide_motif" => {
-                assert_eq!(attributes["ID"], format!("o{}", from + rows.len()));
+                let (sum, row) = attributes["ID"].split_once('.').expect("a row");
+                assert_eq!(row, (from + rows.len()).to_string());
+                // The sum of the list, which is one for all of its rows.
+                assert_eq!(list.get_or_insert(sum.to_string()), sum);
+                assert!(sum.starts_with('o') && sum.len() == 17, "{sum}");
                 let starts = match known.components.len() {
                     1 => vec![start],
                     _ => Vec::new(),
@@ -130,7 +156,8 @@ fn gff(printed: &[u8], from: usize, known: &Known) -> Vec<Row> {
             "DNA_motif" => {
                 assert_eq!(attributes.len(), 1);
                 let row = rows.len() - 1;
-                assert_eq!(attributes["Parent"], format!("o{}", from + row));
+                let sum = list.clone().expect("a line before");
+                assert_eq!(attributes["Parent"], format!("{sum}.{}", from + row));
                 let (_, parent, starts) = &mut rows[row];
                 assert_eq!(*parent, name);
                 assert_eq!(end + 1 - start, known.components[starts.len()]);
@@ -174,7 +201,8 @@ fn bed_and_gff_keep_their_rules_and_have_the_rows_of_the_table() {
             .map(|line| {
                 let columns = columns(line);
                 let starts = columns[3..].iter().map(|c| number(c)).collect();
-                (text(&columns[0]), columns[1].clone(), starts)
+                let name = unescaped(&columns[1], |b| !b.is_ascii_control() && b != b'%');
+                (text(&columns[0]), name, starts)
             })
             .collect();
         let read = |line: &Vec<u8>| bed(line, &known);
@@ -188,7 +216,8 @@ fn bed_and_gff_keep_their_rules_and_have_the_rows_of_the_table() {
         assert_eq!(from_bed, rows[from..]);
         assert_eq!(gff(&ask(&["--gff", &page]), from, &known), rows[from..]);
         assert_eq!(ask(&["--bed", "--rows=0"]), b"");
-        assert_eq!(ask(&["--gff", "--rows=0"]), b"##gff-version 3\n");
+        let none = lines(&ask(&["--gff", "--rows=0"]));
+        assert!(head(&none, &known).is_empty());
 
         many += usize::from(rows.len() > 1 && known.components.len() > 1);
         touching += usize::from(rows.iter().any(|(_, _, starts)| {

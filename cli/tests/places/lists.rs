@@ -83,18 +83,35 @@ impl Searched {
 
 /// The lines below the header of a format.
 fn body(format: &str, printed: &[u8]) -> Vec<Vec<u8>> {
-    let header = usize::from(format != "--bed");
-    lines(printed).split_off(header)
+    let mut lines = lines(printed);
+    match format {
+        "--bed" => lines,
+        "--gff" => lines.split_off(lines.iter().take_while(|l| l.starts_with(b"##")).count()),
+        _ => lines.split_off(1),
+    }
 }
 
-/// A line without the number of its occurrence.
+/// A line without the sum and the number of its occurrence.
 fn unnumbered(line: &[u8]) -> String {
     let line = String::from_utf8_lossy(line).into_owned();
     let Some(at) = line.find("=o") else {
         return line;
     };
-    let after = line[at + 2..].trim_start_matches(|c: char| c.is_ascii_digit());
+    let after = line[at + 2..].trim_start_matches(|c: char| c.is_ascii_hexdigit() || c == '.');
     format!("{}{after}", &line[..at])
+}
+
+/// The IDs of GFF3: the sum of the list and the row of each.
+fn ids(printed: &[u8]) -> Vec<(String, u64)> {
+    body("--gff", printed)
+        .iter()
+        .filter_map(|line| Some(text(line).split_once("ID=o")?.1.to_string()))
+        .map(|rest| {
+            let id = rest.split(';').next().unwrap_or("");
+            let (sum, row) = id.split_once('.').expect("a sum and a row");
+            (sum.to_string(), number(row.as_bytes()))
+        })
+        .collect()
 }
 
 #[test]
@@ -148,12 +165,10 @@ fn pages_count_over_all_motifs() {
             }
             // The occurrences of GFF keep their numbers in the whole list.
             let gff = searched.of_job(&[page[0], page[1], "--gff"]).printed();
-            let numbers: Vec<String> = body("--gff", &gff)
-                .iter()
-                .filter_map(|line| Some(text(line).split_once("ID=o")?.1.to_string()))
-                .map(|rest| rest.split(';').next().unwrap_or("").to_string())
-                .collect();
-            let wanted: Vec<String> = (from..end).map(|row| row.to_string()).collect();
+            let whole = ids(&searched.of_list(&searched.list, &["--gff"]).printed());
+            assert_eq!(ids(&gff), whole[from..end]);
+            let wanted: Vec<u64> = (from as u64..end as u64).collect();
+            let numbers: Vec<u64> = ids(&gff).iter().map(|(_, row)| *row).collect();
             assert_eq!(numbers, wanted);
         }
         let above = format!("--from={}", all.len() + 1);
@@ -178,14 +193,24 @@ fn a_table_that_is_not_whole_is_taken_and_said_to_be_so() {
     let lines: Vec<&str> = table.split_inclusive('\n').collect();
     let last = lines.len() - 1;
 
-    // Without its last line, or with a row less than that counts.
+    // Without its last line, or with a row less than that counts: what is
+    // written is whole, and the status tells that the table is not.
     let ran = of(&lines[..last]);
-    assert_eq!((ran.status, &ran.out), (Some(0), &printed));
+    assert_eq!(ran.status, Some(8), "{}", ran.err);
+    assert!(ran.out == printed);
     assert!(ran.err.contains("cut.tsv: it is not whole"), "{}", ran.err);
     let ran = of(&[&lines[..1], &lines[2..]].concat());
-    assert_eq!(ran.status, Some(0));
+    assert_eq!(ran.status, Some(8));
     assert!(ran.out.len() < printed.len());
     assert!(ran.err.contains("cut.tsv: it is not whole"), "{}", ran.err);
+    let cut = word(&searched.scratch.path("cut.tsv")).to_string();
+    let out = searched.scratch.path("out.tsv");
+    let ran = searched.of_list(&cut, &["--out", word(&out)]);
+    assert_eq!(ran.status, Some(8), "{}", ran.err);
+    assert_eq!(
+        fs::read(&out).expect("it is written"),
+        of(&[&lines[..1], &lines[2..]].concat()).out
+    );
     // With other comments, and line ends as elsewhere.
     let more: String = lines.iter().map(|l| format!("# more\n{l}")).collect();
     assert_eq!(of(&[&more]).printed(), printed);
@@ -240,11 +265,12 @@ fn a_job_that_was_stopped_has_the_places_of_its_rows_so_far() {
 
     let page = ["--rows", "1000"];
     let of_job = run(&[&["places", "--job", word(&job)], &page[..]].concat());
-    assert_eq!(of_job.status, Some(0), "{}", of_job.err);
+    assert_eq!(of_job.status, Some(8), "{}", of_job.err);
     assert!(of_job.err.contains("has not ended"), "{}", of_job.err);
     let list = counted(&job);
     let words = ["places", template, word(&file), "--list", word(&list)];
     let of_list = run(&[&words[..], &page].concat());
-    assert_eq!(of_job.out, of_list.out);
+    assert_eq!(of_list.status, Some(8), "{}", of_list.err);
+    assert!(of_job.out == of_list.out);
     assert!(of_job.out.len() > 1_000);
 }

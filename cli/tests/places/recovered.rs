@@ -5,15 +5,29 @@ use crate::case::{lines, Case, ODD, USUAL};
 use crate::common::{run, word, Random, Scratch};
 use second::{Component, Profile, Template};
 
+/// A name as a plain table has it: control characters and percent signs as
+/// GFF3 escapes them.
+fn escaped(name: &[u8]) -> Vec<u8> {
+    let mut text = Vec::new();
+    for byte in name {
+        match byte {
+            0..32 | 127 | b'%' => text.extend_from_slice(format!("%{byte:02X}").as_bytes()),
+            _ => text.push(*byte),
+        }
+    }
+    text
+}
+
 /// The lines of a plain table.
-fn table(case: &Case, motif: &str, rows: &[Vec<u32>]) -> Vec<Vec<u8>> {
+pub fn table(case: &Case, motif: &str, rows: &[Vec<u32>]) -> Vec<Vec<u8>> {
     let mut header = b"motif\tname\tsequence".to_vec();
     for i in 1..=case.template.components.len() {
         header.extend_from_slice(format!("\tstart{i}").as_bytes());
     }
     let mut lines = vec![header];
     for row in rows {
-        let mut line = [motif.as_bytes(), b"\t", &case.names[row[0] as usize - 1]].concat();
+        let name = escaped(&case.names[row[0] as usize - 1]);
+        let mut line = [motif.as_bytes(), b"\t", &name].concat();
         for number in row {
             line.extend_from_slice(format!("\t{number}").as_bytes());
         }

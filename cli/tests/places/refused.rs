@@ -27,7 +27,7 @@ fn a_motif_that_cannot_be_read_has_a_caret() {
         (["NNN[0,3]NN", "ACG[0,2]TA"], "  ACG[0,2]TA\n     ^\n"),
         (["NNN[0,3]NN", "ACGT"], "  ACGT\n      ^\n"),
         (["NNN[0,3]NN", "ACGTAA"], "  ACGTAA\n       ^\n"),
-        (["NNN[0,3]NN", "ACRTA"], "  ACRTA\n    ^\n"),
+        (["NNN[0,3]NN", "ACNTA"], "  ACNTA\n    ^\n"),
         (["NNN[0,3]NN", "äCGTA"], "  äCGTA\n  ^\n"),
         (["NN[0,x]NN", "ACTA"], "  NN[0,x]NN\n       ^\n"),
     ] {
