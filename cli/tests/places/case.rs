@@ -82,7 +82,7 @@ impl Case {
     }
 
     /// Components with the ranges between them.
-    fn shaped(&self, parts: Vec<String>) -> String {
+    pub fn shaped(&self, parts: Vec<String>) -> String {
         let mut text = String::new();
         for (i, (part, component)) in parts.iter().zip(&self.template.components).enumerate() {
             if i > 0 {

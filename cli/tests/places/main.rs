@@ -3,8 +3,12 @@
 #[path = "../common/mod.rs"]
 mod common;
 
+mod alone;
 mod case;
+mod counted;
 mod formats;
 mod lists;
+mod narrowed;
 mod recovered;
 mod refused;
+mod seen;
