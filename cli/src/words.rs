@@ -163,7 +163,7 @@ fn read_places(mut words: Sorted) -> Answer<Command> {
                 let [motif, file] = words.plain(["MOTIF", "FILE.fa"])?;
                 (None, motif, file)
             } else {
-                let [shape, motif, file] = words.plain(["TEMPLATE", "MOTIF", "FILE.fa"])?;
+                let [shape, motif, file] = words.plain(["[TEMPLATE]", "MOTIF", "FILE.fa"])?;
                 (Some(text(&shape, "the template")?), motif, file)
             };
             let motif = text(&motif, "the motif")?;

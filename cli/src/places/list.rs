@@ -109,9 +109,11 @@ pub fn read(
                 )))
             }
             Some(header) => {
-                let motif = motif(template, first, &format!("{called}:{number}"))?;
+                let several = shape::several(template, first);
+                let here = || format!("{called}:{number}");
+                let motif = motif(template, first, &several, here)?;
                 let count = header.counts.and_then(|at| line.split('\t').nth(at));
-                table.add(template, first, motif, count);
+                table.add(motif, &several, count);
             }
         }
     }
@@ -121,30 +123,35 @@ pub fn read(
     }
 }
 
-/// The number of a motif that is one of the template's. One that has letters
-/// for several bases beyond an allowance is refused by the library, which is
-/// asked over one empty sequence: only then, for to ask of each takes longer
-/// than all else here.
-pub fn motif(template: &Template, text: &str, called: &str) -> Answer<u64> {
+/// The number of a motif that is one of the template's, and has so many
+/// letters for several bases in each component. Where these are beyond an
+/// allowance the library refuses it, which is asked over one empty sequence:
+/// only then, for to ask of each motif takes longer than all else here.
+pub fn motif(
+    template: &Template,
+    text: &str,
+    several: &[u64],
+    here: impl Fn() -> String,
+) -> Answer<u64> {
     let motif = template
         .number(text)
-        .map_err(|why| Failure::refused(format!("{called}: {why}")))?;
-    let several = shape::several(template, text);
+        .map_err(|why| Failure::refused(format!("{}: {why}", here())))?;
     let beyond = |(count, component): (&u64, &Component)| *count > component.allowance;
     if several.iter().zip(&template.components).any(beyond) {
         library::recover(&[], &[0], template.lent(), motif, 0, &mut [])
-            .map_err(|refusal| refusals::of_motif(refusal, template, text, called))?;
+            .map_err(|refusal| refusals::of_motif(refusal, template, text, &here()))?;
     }
     Ok(motif)
 }
 
 impl Table {
-    /// Adds a row: its motif, and how often it says that this occurs. A count
-    /// that is none leaves the table without.
-    fn add(&mut self, template: &Template, text: &str, motif: u64, count: Option<&str>) {
+    /// Adds a row: its motif, how many of its letters stand for several bases,
+    /// and how often it says that it occurs. A count that is none leaves the
+    /// table without.
+    fn add(&mut self, motif: u64, several: &[u64], count: Option<&str>) {
         self.motifs.push(motif);
-        for (most, here) in self.several.iter_mut().zip(shape::several(template, text)) {
-            *most = here.max(*most);
+        for (most, here) in self.several.iter_mut().zip(several) {
+            *most = (*most).max(*here);
         }
         if let Some(counts) = &mut self.counts {
             match count.and_then(|count| count.parse().ok()) {

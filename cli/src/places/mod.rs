@@ -83,10 +83,13 @@ fn of_motif(template: &Template, motif: &str, file: &Path, how: &How) -> Answer<
     template.number(motif).map_err(Failure::usage)?;
     let sequences = sequences::read(file, how.upper)?;
     takes(&sequences, template)?;
+    let several = shape::several(template, motif);
     let all = Occurrences {
         sequences: &sequences,
         template,
-        motifs: vec![list::motif(template, motif, "tulfasheq")?],
+        motifs: vec![list::motif(template, motif, &several, || {
+            "tulfasheq".to_string()
+        })?],
         counts: None,
     };
     how.write(&all, "")
