@@ -91,13 +91,17 @@ impl<'a> Narrowed<'a> {
         }
     }
 
-    /// Narrows the sequences to a motif. `room` is written over.
+    /// Narrows the sequences to a motif. `room` is written over. Where there is
+    /// but one part, to list that would be to look for the whole motif.
     pub fn to(&mut self, motif: u64, room: &mut [u32]) -> Answer<()> {
-        let starts = self
-            .starts(motif, room)
-            .map_err(|refusal| refusals::of_search(refusal, self.sequences, self.template, 0))?;
         self.motif = motif;
-        self.cut(&starts);
+        if self.parts.len() > 1 {
+            let refused = |refusal| refusals::of_search(refusal, self.sequences, self.template, 0);
+            let starts = self.starts(motif, room).map_err(refused)?;
+            self.cut(&starts);
+        } else {
+            self.leave_whole();
+        }
         self.letters.clear();
         self.lengths.clear();
         for piece in &self.pieces {
@@ -207,13 +211,18 @@ impl<'a> Narrowed<'a> {
             }
         }
         if self.pieces.len() > limits::SEQUENCES {
-            let whole = |record| Piece {
-                record,
-                start: self.start_of(record),
-                end: self.ends[record],
-            };
-            self.pieces = (0..self.ends.len()).map(whole).collect();
+            self.leave_whole();
         }
+    }
+
+    /// Leaves the records as they are.
+    fn leave_whole(&mut self) {
+        let whole = |record| Piece {
+            record,
+            start: self.start_of(record),
+            end: self.ends[record],
+        };
+        self.pieces = (0..self.ends.len()).map(whole).collect();
     }
 }
 

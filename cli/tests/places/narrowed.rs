@@ -150,21 +150,23 @@ fn rows_of_lists_are_those_of_the_second_program() {
 fn a_motif_that_stands_in_very_many_places_is_looked_for_everywhere() {
     let far = [b'T'; 65];
     let sequence = [b"AC", &far[..], b"AC", &far, b"AC"].concat();
+    let component = Component {
+        length: 1,
+        low: 0,
+        high: 0,
+        allowance: 0,
+    };
     let case = Case {
         template: Template {
             profile: Profile::Exact,
-            components: vec![Component {
-                length: 2,
-                low: 0,
-                high: 0,
-                allowance: 0,
-            }],
+            components: vec![component.clone(), component],
         },
         names: (0..481).map(|i| format!("s{i}").into_bytes()).collect(),
         sequences: vec![sequence; 481],
     };
     let motifs = [(1, "AC"), (15, "TT"), (0, "AA"), (1, "AC")];
-    let motifs = motifs.map(|(number, motif)| (number, motif.to_string()));
+    let shaped = |motif: &str| format!("{}[0,0]{}", &motif[..1], &motif[1..]);
+    let motifs = motifs.map(|(number, motif)| (number, shaped(motif)));
     let held = compare(&case, &motifs, &mut Random::new(12));
     assert_eq!(held, [481, 481, 0, 481]);
 }
