@@ -1,8 +1,7 @@
 //! BED with twelve columns: starts count from 0 and ends are not included;
 //! the components are the blocks.
 
-use super::format::Occurrence;
-use std::io::Write;
+use super::format::{number, Occurrence};
 
 /// The most bytes of a name.
 const NAME: usize = 255;
@@ -45,11 +44,15 @@ pub fn row(occurrence: &Occurrence, to: &mut Vec<u8>) {
     let (first, end) = occurrence.whole();
     let start = first - 1;
     to.extend_from_slice(occurrence.name);
-    // To write to memory does not fail.
-    let _ = write!(to, "\t{start}\t{end}\t");
+    number(b'\t', start, to);
+    number(b'\t', end, to);
+    to.push(b'\t');
     to.extend_from_slice(occurrence.motif);
-    let blocks = occurrence.starts.len();
-    let _ = write!(to, "\t0\t+\t{start}\t{end}\t0\t{blocks}");
+    to.extend_from_slice(b"\t0\t+");
+    number(b'\t', start, to);
+    number(b'\t', end, to);
+    to.extend_from_slice(b"\t0");
+    number(b'\t', occurrence.starts.len() as u64, to);
     let sizes = occurrence.parts().map(|(first, last)| last + 1 - first);
     listed(sizes, to);
     let starts = occurrence.parts().map(|(first, _)| first - 1 - start);
@@ -59,9 +62,9 @@ pub fn row(occurrence: &Occurrence, to: &mut Vec<u8>) {
 
 /// A column of numbers with commas between them.
 fn listed(numbers: impl Iterator<Item = u64>, to: &mut Vec<u8>) {
-    for (i, number) in numbers.enumerate() {
-        let mark = if i == 0 { '\t' } else { ',' };
-        let _ = write!(to, "{mark}{number}");
+    for (i, value) in numbers.enumerate() {
+        let mark = if i == 0 { b'\t' } else { b',' };
+        number(mark, value, to);
     }
 }
 

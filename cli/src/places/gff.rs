@@ -1,7 +1,7 @@
 //! GFF3: a line for an occurrence and, where the template has several
 //! components, one for each of them; from 1, ends included.
 
-use super::format::{escaped, Occurrence};
+use super::format::{escaped, number, Occurrence};
 use crate::sequences::Sequences;
 use crate::sum::Sum;
 use std::collections::HashMap;
@@ -44,15 +44,15 @@ pub fn takes(name: &[u8]) -> Result<(), String> {
 /// The lines of an occurrence. The sum of its list is a part of its ID, so
 /// that files of several lists can be joined.
 pub fn row(occurrence: &Occurrence, list: Sum, to: &mut Vec<u8>) {
-    let number = occurrence.row;
+    let row = occurrence.row;
     line(occurrence, "nucleotide_motif", occurrence.whole(), to);
-    let _ = write!(to, "ID=o{list}.{number};Name=");
+    let _ = write!(to, "ID=o{list}.{row};Name=");
     escaped(occurrence.motif, in_value, to);
     to.push(b'\n');
     if occurrence.starts.len() > 1 {
         for part in occurrence.parts() {
             line(occurrence, "DNA_motif", part, to);
-            let _ = writeln!(to, "Parent=o{list}.{number}");
+            let _ = writeln!(to, "Parent=o{list}.{row}");
         }
     }
 }
@@ -60,7 +60,11 @@ pub fn row(occurrence: &Occurrence, list: Sum, to: &mut Vec<u8>) {
 /// A line up to its attributes.
 fn line(occurrence: &Occurrence, kind: &str, (first, last): (u64, u64), to: &mut Vec<u8>) {
     escaped(occurrence.name, in_name, to);
-    let _ = write!(to, "\ttulfasheq\t{kind}\t{first}\t{last}\t.\t+\t.\t");
+    to.extend_from_slice(b"\ttulfasheq\t");
+    to.extend_from_slice(kind.as_bytes());
+    number(b'\t', first, to);
+    number(b'\t', last, to);
+    to.extend_from_slice(b"\t.\t+\t.\t");
 }
 
 /// Whether a byte may stand in a line's first column.

@@ -1,7 +1,7 @@
 //! Tab-separated lines under a header: the motif, the record's name, the
 //! sequence's number, and the start of each component, all from 1.
 
-use super::format::{escaped, Occurrence};
+use super::format::{escaped, number, Occurrence};
 use std::io::Write;
 
 /// The first line.
@@ -21,9 +21,9 @@ pub fn row(occurrence: &Occurrence, to: &mut Vec<u8>) {
     to.extend_from_slice(occurrence.motif);
     to.push(b'\t');
     escaped(occurrence.name, |b| !b.is_ascii_control() && b != b'%', to);
-    let _ = write!(to, "\t{}", occurrence.sequence);
+    number(b'\t', occurrence.sequence.into(), to);
     for start in occurrence.starts {
-        let _ = write!(to, "\t{start}");
+        number(b'\t', (*start).into(), to);
     }
     to.push(b'\n');
 }
