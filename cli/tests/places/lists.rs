@@ -35,6 +35,7 @@ impl Searched {
             words.insert(0, "search".to_string());
             words.insert(2, quorum.to_string());
             words.insert(3, file.clone());
+            words.push("--quiet".to_string());
             let table = run(&words).printed();
             let rows: Vec<(String, u64)> = lines(&table)[1..]
                 .iter()

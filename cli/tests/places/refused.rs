@@ -119,7 +119,7 @@ fn what_is_read_is_not_written_over() {
     let file = scratch.file("file.fa", FILE);
     let job = scratch.path("job");
     let (file, job) = (word(&file), word(&job));
-    let table = run(&["search", "NN", "1", file, "--job", job]).printed();
+    let table = run(&["search", "NN", "1", file, "--job", job, "--quiet"]).printed();
     let list = scratch.file("list", &table);
     let list = word(&list);
     let in_job = |name: &str| format!("{job}/{name}");
