@@ -30,9 +30,8 @@ class Set:
         self.records = records(random, plain, self.gff)
         self.names = [name for name, _ in self.records]
         self.bed = all(map(in_bed, self.names))
-        headers = any(name.startswith((b"track", b"browser")) for name in self.names)
         # Whether bedtools can tell the records by their names.
-        self.told_apart = self.bed and not headers and len(set(self.names)) == len(self.names)
+        self.told_apart = self.bed and len(set(self.names)) == len(self.names)
         self.sequences = [letters for _, letters in self.records]
         self.template, self.allowances = drawn(random, self.sequences)
         self.quorum, self.asked = quorum(random, len(self.records))
@@ -57,7 +56,7 @@ class Set:
 def in_bed(name):
     """Whether a name can stand in BED."""
     return (0 < len(name) <= 255 and not name.startswith(b"#")
-            and name not in (b"track", b"browser")
+            and not name.startswith((b"track", b"browser"))
             and not any(b <= 32 or b == 127 for b in name))
 
 

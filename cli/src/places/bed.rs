@@ -6,7 +6,8 @@ use super::format::{number, Occurrence};
 /// The most bytes of a name.
 const NAME: usize = 255;
 
-/// The words that begin a line which is no row.
+/// What begins a line that is no row. bedtools takes every line that begins so
+/// for one, `tracks` and `browser1` too, and leaves it out without a word.
 const HEADERS: [&[u8]; 2] = [b"browser", b"track"];
 
 /// Whether a record's name can be a row's first column, or why not. BED 1.0
@@ -30,9 +31,9 @@ pub fn takes(name: &[u8]) -> Result<(), String> {
     if name.starts_with(b"#") {
         return Err("it begins with #, as comments do".to_string());
     }
-    if let Some(word) = HEADERS.iter().find(|word| **word == name) {
+    if let Some(word) = HEADERS.iter().find(|word| name.starts_with(word)) {
         return Err(format!(
-            "it is {}, as headers begin",
+            "it begins with {}, as headers do",
             String::from_utf8_lossy(word)
         ));
     }
@@ -88,12 +89,14 @@ mod tests {
 
     #[test]
     fn names_are_those_of_a_genome() {
-        for name in ["chr1", "NC_000913.3", "gi|556503834|ref", "tracks", "1#"] {
+        for name in ["chr1", "NC_000913.3", "gi|556503834|ref", "atrack", "1#"] {
             assert_eq!(takes(name.as_bytes()), Ok(()), "{name}");
         }
         assert_eq!(takes(b"\xff\xc3"), Ok(()));
         assert_eq!(takes(&[b'a'; 255]), Ok(()));
-        for name in ["", "a b", "a\tb", "a\r", "\u{7f}", "#a", "track", "browser"] {
+        for name in [
+            "", "a b", "a\tb", "a\r", "\u{7f}", "#a", "track", "browser1",
+        ] {
             assert!(takes(name.as_bytes()).is_err(), "{name:?}");
         }
         assert!(takes(&[b'a'; 256]).is_err());

@@ -71,7 +71,7 @@ fn a_first_row_above_the_list_is_told_how_long_the_list_is() {
 #[test]
 fn a_name_that_a_format_cannot_hold_is_refused_by_its_record() {
     let long = [b'a'; 256];
-    let names: [&[u8]; 6] = [b"", b"\x0b\x0b", b"x\x01", b"#x", b"track", &long];
+    let names: [&[u8]; 6] = [b"", b"\x0b\x0b", b"x\x01", b"#x", b"tracks", &long];
     for name in names {
         // The record has no occurrence.
         let file = [FILE, b">", name, b" more\nA\n"].concat();
