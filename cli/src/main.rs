@@ -14,6 +14,7 @@
 mod caret;
 mod counted;
 mod failure;
+mod folder;
 mod help;
 mod job;
 mod legs;

@@ -1,13 +1,17 @@
-//! Where a table goes: standard output, or a file.
+//! Where a table goes: standard output, or a file, which is written beside its
+//! place and takes it when it is whole.
+
+mod part;
 
 use crate::failure::{Answer, Failure};
+use crate::folder;
+use part::{Part, Target};
 use std::fs::{self, File};
 use std::io::{self, IsTerminal, Write};
 use std::os::fd::AsFd;
-use std::os::unix::fs::MetadataExt;
 use std::path::{self, Path, PathBuf};
 
-/// A place to write to. Nothing is made or emptied before it is opened.
+/// A place to write to. Nothing is made before it is opened.
 #[derive(Clone, Debug, Default)]
 pub struct Out {
     pub file: Option<PathBuf>,
@@ -22,24 +26,31 @@ pub struct Open {
 /// Where it leads.
 enum To {
     Screen(io::Stdout),
-    File(File),
+    /// What is no plain file, or was opened by another program.
+    Straight(File),
+    Part(Box<Part>),
 }
 
 impl Out {
-    /// Refuses to write over a file that is read.
+    /// Refuses to write over a file that is read, or to write beside its place
+    /// into one.
     pub fn spare(&self, files: &[PathBuf]) -> Answer<()> {
         let Some(out) = &self.file else {
             return Ok(());
         };
+        let target = Target::find(out).ok().flatten();
+        let part = target.map(|target| target.part());
         for file in files {
-            if same(out, file) {
+            let over = same(out, file);
+            if over || part.as_ref().is_some_and(|part| same(part, file)) {
                 let read = if is_input(file) {
                     "standard input".to_string()
                 } else {
                     file.display().to_string()
                 };
+                let until = if over { "" } else { ", until it is whole," };
                 return Err(Failure::usage(format!(
-                    "--out {} would write over {read}, which is read",
+                    "--out {}{until} would write over {read}, which is read",
                     out.display()
                 )));
             }
@@ -47,24 +58,24 @@ impl Out {
         Ok(())
     }
 
-    /// Whether it could be opened, as far as that shows without changing
-    /// anything: it is written to only when a job has ended, which may be long
-    /// after.
+    /// Whether it could be opened. It is written to only when a job has ended,
+    /// which may be long after.
     pub fn check(&self) -> Answer<()> {
         let Some(path) = &self.file else {
             return Ok(());
         };
-        let found = match fs::metadata(path) {
-            Ok(found) if found.is_dir() => Err(io::ErrorKind::IsADirectory.into()),
+        match Out::target(path)? {
+            // It is made, and goes again.
+            Some(target) => target.open()?.remove(),
             // To open a pipe would wait for who reads it.
-            Ok(found) if found.is_file() => File::options().write(true).open(path).map(|_| ()),
-            Ok(_) => Ok(()),
-            Err(error) if error.kind() == io::ErrorKind::NotFound => {
-                fs::read_dir(folder_of(path)).map(|_| ())
-            }
-            Err(error) => Err(error),
-        };
-        found.map_err(|error| Failure::io(path.display(), &error))
+            None => Ok(()),
+        }
+    }
+
+    /// Whether what is written shows only when it is whole.
+    pub fn shows_whole(&self) -> bool {
+        let path = self.file.as_ref();
+        path.is_some_and(|path| Target::find(path).is_ok_and(|target| target.is_some()))
     }
 
     /// Whether a person looks at what is written, as it comes.
@@ -80,9 +91,19 @@ impl Out {
             });
         };
         let called = path.display().to_string();
-        let file = File::create(path).map_err(|error| Failure::io(&called, &error))?;
-        let to = To::File(file);
+        let to = match Out::target(path)? {
+            Some(target) => To::Part(Box::new(target.open()?)),
+            None => {
+                let file = File::create(path).map_err(|error| Failure::io(&called, &error))?;
+                To::Straight(file)
+            }
+        };
         Ok(Open { called, to })
+    }
+
+    /// The plain file that it leads to, if any.
+    fn target(path: &Path) -> Answer<Option<Target>> {
+        Target::find(path).map_err(|error| Failure::io(path.display(), &error))
     }
 }
 
@@ -109,7 +130,7 @@ fn same(written: &Path, read: &Path) -> bool {
         fs::metadata(read)
     };
     match (fs::metadata(written), found) {
-        (Ok(one), Ok(other)) => (one.dev(), one.ino()) == (other.dev(), other.ino()),
+        (Ok(one), Ok(other)) => folder::same(&one, &other),
         (Err(_), Err(_)) => {
             written.file_name().is_some()
                 && written.file_name() == read.file_name()
@@ -133,18 +154,21 @@ impl Open {
     pub fn write(&mut self, bytes: &[u8]) -> Answer<()> {
         let written = match &mut self.to {
             To::Screen(screen) => screen.write_all(bytes).and_then(|()| screen.flush()),
-            To::File(file) => file.write_all(bytes),
+            To::Straight(file) => file.write_all(bytes),
+            To::Part(part) => return part.write(bytes),
         };
         written.map_err(|error| self.failed(&error))
     }
 
-    /// Ends it: a plain file is then on the disk.
+    /// Ends it: a plain file is then whole, on the disk, and under its name.
     pub fn close(self) -> Answer<()> {
-        let closed = match &self.to {
-            To::File(file) if file.metadata().is_ok_and(|found| found.is_file()) => file.sync_all(),
+        match self.to {
+            To::Part(part) => part.close(),
+            To::Straight(ref file) if file.metadata().is_ok_and(|found| found.is_file()) => {
+                file.sync_all().map_err(|error| self.failed(&error))
+            }
             _ => Ok(()),
-        };
-        closed.map_err(|error| self.failed(&error))
+        }
     }
 
     fn failed(&self, error: &io::Error) -> Failure {

@@ -16,6 +16,7 @@ use crate::table::{self, End, Searched};
 use crate::template::Template;
 use library::limits;
 use std::path::{Path, PathBuf};
+use std::time::Instant;
 
 /// A new search, as it was asked for.
 pub struct Asked {
@@ -137,26 +138,37 @@ fn how_far(share: f64, rows: u64) -> String {
 }
 
 /// Goes on with a job until it has ended, and writes out its table; or until a
-/// signal asks to stop.
+/// signal asks to stop. Where its folder was moved meanwhile, that is told.
 fn go_on(mut job: Job, asking: Asking, out: &Out, quiet: bool) -> Answer<()> {
-    if !job.about.ended() {
-        run(&mut job, &asking, quiet)?;
-    }
+    let ran = match job.about.ended() {
+        true => Ok(()),
+        false => run(&mut job, &asking, quiet),
+    };
     // All is saved: from here on a signal may end the program at once.
     drop(asking);
-    // Before anything is written out that would look whole.
-    job.about.check_table()?;
+    let moved = job.about.moved();
+    match (ran, moved) {
+        (Ok(()), Some(words)) => say::say(&format!("tulfasheq: {words}")),
+        (Err(_), Some(words)) if job.about.is_removed() => return Err(Failure::broken(words)),
+        (Err(failure), Some(words)) => return Err(failure.and(words)),
+        (ran, None) => ran?,
+    }
+    if !out.shows_whole() {
+        // Before anything is written out that would look whole.
+        job.about.check_table()?;
+    }
     write_out(&job.about, out)
 }
 
-/// Writes out the whole table of a job that has ended.
+/// Writes out the whole table of a job that has ended. Where it does not show
+/// before it is whole, one that is damaged never does.
 fn write_out(about: &About, out: &Out) -> Answer<()> {
     let written = out.open().and_then(|mut out| {
         about.hand_on(|piece| out.write(piece))?;
         out.close()
     });
     written.map_err(|failure| match failure.status {
-        Failure::BROKEN => failure.and(format!(
+        Failure::BROKEN | Failure::BUSY => failure.and(format!(
             "The search has ended, and its table is kept: {} writes it out again.",
             how(about)
         )),
@@ -172,6 +184,7 @@ fn run(job: &mut Job, asking: &Asking, quiet: bool) -> Answer<()> {
         job.about.steps(),
         job.about.rows(),
     );
+    let (begun, before) = (Instant::now(), job.about.time());
     let mut progress = Progress::new(quiet);
     let searched = Searched::of(&job.about.sequences, &job.about.template, job.about.quorum);
     let mut lines = Vec::new();
@@ -184,7 +197,8 @@ fn run(job: &mut Job, asking: &Asking, quiet: bool) -> Answer<()> {
             &mut progress,
             &mut lines,
         )?;
-        job.keep(&lines, search.steps, search.rows, &search.saved)
+        let time = before + begun.elapsed();
+        job.keep(&lines, search.steps, search.rows, time, &search.saved)
             .map_err(|failure| {
                 failure.and(format!(
                     "The search is saved up to its last leg: {} goes on with it.",
@@ -203,7 +217,11 @@ fn run(job: &mut Job, asking: &Asking, quiet: bool) -> Answer<()> {
     }
 }
 
-/// How a job is gone on with, as a shell reads it.
+/// How a job is gone on with, as a shell reads it. The path of a folder that
+/// was moved may be another job's by now.
 fn how(about: &About) -> String {
-    format!("tulfasheq resume {}", say::quoted(&about.folder))
+    match about.place() {
+        Some(folder) => format!("tulfasheq resume {}", say::quoted(&folder)),
+        None => "tulfasheq resume with the folder's new place".to_string(),
+    }
 }

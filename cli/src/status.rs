@@ -3,7 +3,7 @@
 use crate::failure::Answer;
 use crate::job::About;
 use crate::out::Out;
-use crate::progress::percent;
+use crate::progress::{clock, percent};
 use std::path::Path;
 
 /// Tells of a job, a line for each thing: its name, a tab, and what it is.
@@ -31,6 +31,7 @@ pub fn status(folder: &Path) -> Answer<()> {
         ("done", percent(template.share(letters, number))),
         ("steps", about.steps().to_string()),
         ("rows", about.rows().to_string()),
+        ("time", clock(about.time())),
     ];
     let mut text = String::new();
     for (name, value) in lines {

@@ -1,7 +1,12 @@
-//! A sum of bytes by which damage shows (FNV-1a, 64 bits). It guards against
-//! accidents, not against someone who wants to deceive.
+//! Sums of bytes by which damage shows. They guard against accidents, not
+//! against someone who wants to deceive. The one here, FNV-1a of 64 bits, takes
+//! a byte at a time: it is that of a table's last line, and of the jobs of
+//! layout 1. `Words` is that of the jobs since.
+
+mod words;
 
 use std::fmt;
+pub use words::Words;
 
 /// A sum that grows with the bytes.
 #[derive(Clone, Copy, Debug, PartialEq, Eq)]

@@ -81,11 +81,16 @@ fn a_job_with_a_damaged_file_is_refused_and_left_alone() {
         }
     }
     let state = fs::read_to_string(stopped.join("state")).expect("the state");
-    let state = state.replacen("tulfasheq job 1\n", "tulfasheq job 2\n", 1);
-    let said = refused_with(&stopped, "state", "layout 2", |path| {
-        fs::write(path, &state).expect("it is written");
+    let other = state.replacen("tulfasheq job 2\n", "tulfasheq job 3\n", 1);
+    let said = refused_with(&stopped, "state", "layout 3", |path| {
+        fs::write(path, &other).expect("it is written");
     });
-    assert!(said.contains("layout \"2\""), "{said}");
+    assert!(said.contains("layout \"3\""), "{said}");
+    // Nor is one read by the layout of the version before.
+    let other = state.replacen("tulfasheq job 2\n", "tulfasheq job 1\n", 1);
+    refused_with(&stopped, "state", "layout 1", |path| {
+        fs::write(path, &other).expect("it is written");
+    });
 }
 
 #[test]
@@ -153,7 +158,7 @@ fn what_a_killed_program_leaves_is_no_damage() {
         copy(&stopped, &folder);
         fs::write(folder.join("rows.tsv"), [&rows, tail].concat()).expect("rows");
         // A state that was not yet whole, and a lock that was not copied.
-        fs::write(folder.join("state.new"), "tulfasheq job 1\nst").expect("a state");
+        fs::write(folder.join("state.new"), "tulfasheq job 2\nst").expect("a state");
         fs::remove_file(folder.join("lock")).expect("the lock goes");
         let before = files(&folder);
         run(&["status", word(&folder)]).printed();

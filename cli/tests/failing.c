@@ -1,6 +1,6 @@
 /* Loaded before the C library: counts the calls by which the program opens,
-   writes, flushes, cuts, renames, locks and makes files, and at one of them
-   something goes wrong. FAULT_AT is the number of that call, from 1, and
+   writes, flushes, cuts, renames, removes, locks and makes files and changes
+   whose they are, and at one of them something goes wrong. FAULT_AT is the number of that call, from 1, and
    FAULT_HOW what happens there:
 
      full    from there on no call gets more room: ENOSPC
@@ -59,6 +59,15 @@ static const char *path_of(int fd) {
     snprintf(link, sizeof link, "/proc/self/fd/%d", fd);
     ssize_t size = readlink(link, path, sizeof path - 1);
     path[size > 0 ? size : 0] = 0;
+    return path;
+}
+
+/* The path of a name in a folder that is open. */
+static const char *path_in(int folder, const char *name) {
+    static char path[8192];
+    if (folder == AT_FDCWD || name[0] == '/')
+        return name;
+    snprintf(path, sizeof path, "%s/%s", path_of(folder), name);
     return path;
 }
 
@@ -166,12 +175,44 @@ int ftruncate(int fd, off_t size) { return cut("ftruncate", fd, size); }
 
 int ftruncate64(int fd, off64_t size) { return cut("ftruncate64", fd, size); }
 
-int rename(const char *from, const char *to) {
-    if (before("rename", to, 1))
+int renameat(int folder, const char *from, int into, const char *to) {
+    const char *path = path_in(into, to);
+    if (before("rename", path, 1))
         return -1;
-    int answer = (int)syscall(SYS_renameat, AT_FDCWD, from, AT_FDCWD, to);
-    after("rename", to);
+    int answer = (int)syscall(SYS_renameat, folder, from, into, to);
+    after("rename", path);
     return answer;
+}
+
+int rename(const char *from, const char *to) {
+    return renameat(AT_FDCWD, from, AT_FDCWD, to);
+}
+
+int unlinkat(int folder, const char *name, int flags) {
+    const char *path = path_in(folder, name);
+    if (before("unlink", path, 0))
+        return -1;
+    int answer = (int)syscall(SYS_unlinkat, folder, name, flags);
+    int why = errno;
+    after("unlink", path);
+    errno = why;
+    return answer;
+}
+
+int unlink(const char *path) { return unlinkat(AT_FDCWD, path, 0); }
+
+int fchmod(int fd, mode_t mode) {
+    if (before("fchmod", path_of(fd), 0))
+        return -1;
+    int answer = (int)syscall(SYS_fchmod, fd, mode);
+    after("fchmod", path_of(fd));
+    return answer;
+}
+
+ssize_t pread64(int fd, void *bytes, size_t size, off64_t at) {
+    if (how("error") && plain(fd) && before("pread", path_of(fd), 0))
+        return -1;
+    return syscall(SYS_pread64, fd, bytes, size, at);
 }
 
 int mkdir(const char *path, mode_t mode) {
@@ -190,10 +231,15 @@ int flock(int fd, int operation) {
     return answer;
 }
 
-static int opened(const char *call, int folder, const char *path, int flags, mode_t mode) {
-    if (before(call, path, (flags & O_CREAT) != 0))
+static int opened(const char *call, int folder, const char *name, int flags, mode_t mode) {
+    const char *path = path_in(folder, name);
+    /* One that is only looked at is as stat is. */
+    int looks = (flags & O_PATH) != 0;
+    if (!looks && before(call, path, (flags & O_CREAT) != 0))
         return -1;
-    int fd = (int)syscall(SYS_openat, folder, path, flags, mode);
+    int fd = (int)syscall(SYS_openat, folder, name, flags, mode);
+    if (looks)
+        return fd;
     if (fd >= 0 && (flags & O_ACCMODE) != O_RDONLY && count < 256) {
         struct stat found;
         int kept = fcntl(fd, F_DUPFD_CLOEXEC, 300);

@@ -128,7 +128,7 @@ fn a_search_begins_in_an_empty_folder_or_where_one_was_killed_before_its_first_s
     let search = SHORT.over(&scratch);
     let expected = search.table();
     let sequences = fs::read(&search.file).expect("the sequences");
-    let (header, state) = (HEADER.as_bytes(), &b"tulfasheq job 1\nst"[..]);
+    let (header, state) = (HEADER.as_bytes(), &b"tulfasheq job 2\nst"[..]);
     let lock: (&str, &[u8]) = ("lock", LOCK);
     let left: [&[(&str, &[u8])]; 9] = [
         &[],

@@ -3,26 +3,26 @@
 use super::lock::{self, Ours};
 use super::{disk, LOCK, NEW, ROWS, SEQUENCES, STATE};
 use crate::failure::{Answer, Failure};
+use crate::folder::Folder;
 use crate::say;
 use crate::table;
 use std::fs;
-use std::path::Path;
 
 /// A folder in which a new job may be begun: an empty one, or one that a
 /// program left that was killed before its first save. That has a lock which
 /// says so, and is made first, plain files, and no rows yet: what only has the
 /// same names is not written over.
-pub fn may_begin(folder: &Path) -> Answer<()> {
-    let called = folder.display();
+pub fn may_begin(folder: &Folder) -> Answer<()> {
+    let called = folder.path.display();
     let mut names = Vec::new();
-    for entry in fs::read_dir(folder).map_err(|error| Failure::io(&called, &error))? {
+    for entry in fs::read_dir(&folder.path).map_err(|error| Failure::io(&called, &error))? {
         let entry = entry.map_err(|error| Failure::io(&called, &error))?;
         names.push(entry.file_name());
     }
     if names.iter().any(|name| name == STATE) {
         return Err(Failure::usage(format!(
             "{called} holds a search already: tulfasheq resume {} goes on with it",
-            say::quoted(folder)
+            say::quoted(&folder.path)
         )));
     }
     // The lock is made before all others, and these only after it says so.
@@ -39,14 +39,18 @@ pub fn may_begin(folder: &Path) -> Answer<()> {
             )));
         }
         // One that another program is just beginning may be renamed meanwhile.
-        disk::plain_or_none(&folder.join(name))?;
+        disk::plain_or_none(folder, &name.to_string_lossy())?;
     }
-    let rows = folder.join(ROWS);
-    if fs::metadata(&rows).is_ok_and(|found| found.len() > table::HEADER.len() as u64) {
+    let rows = folder.look(ROWS);
+    if rows.is_ok_and(|rows| rows.is_some_and(|rows| rows.len() > table::HEADER.len() as u64)) {
         return Err(Failure::damaged(format!(
             "{}: it has rows, but the search that listed them is not saved beside it: it is left alone",
-            rows.display()
+            folder.join(ROWS).display()
         )));
     }
-    Ok(())
+    // The names that were read are those of the folder's path.
+    match disk::moved(folder) {
+        Some(words) => Err(Failure::broken(words)),
+        None => Ok(()),
+    }
 }

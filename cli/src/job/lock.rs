@@ -4,22 +4,19 @@
 
 use super::{disk, LOCK, ROWS};
 use crate::failure::{Answer, Failure};
-use std::fs::{File, OpenOptions, TryLockError};
-use std::io::Write;
-use std::path::Path;
-use std::thread;
-use std::time::Duration;
+use crate::folder::{self, Folder};
+use std::fs::{File, TryLockError};
+use std::io::{self, Write};
 
 /// What the file says, so that a folder can be told from one that only has a
 /// file of that name.
 const WORDS: &[u8] = b"tulfasheq: locked by the program that works on this job\n";
 
 /// Whether a program works on a job.
-pub fn held(folder: &Path) -> Answer<bool> {
+pub fn held(folder: &Folder) -> Answer<bool> {
     for name in [LOCK, ROWS] {
-        let path = folder.join(name);
-        if disk::plain_or_none(&path)? {
-            let file = File::open(&path).map_err(|error| Failure::io(path.display(), &error))?;
+        if disk::plain_or_none(folder, name)? {
+            let file = disk::open(folder, name)?;
             if matches!(file.try_lock_shared(), Err(TryLockError::WouldBlock)) {
                 return Ok(true);
             }
@@ -30,12 +27,11 @@ pub fn held(folder: &Path) -> Answer<bool> {
 
 /// Whether a program of ours made it: no file of that name, one that says so,
 /// or, where that was stopped in the middle, one that says a part of it.
-pub fn ours(folder: &Path) -> Answer<Ours> {
-    let path = folder.join(LOCK);
-    if !disk::plain_or_none(&path)? {
+pub fn ours(folder: &Folder) -> Answer<Ours> {
+    if !disk::plain_or_none(folder, LOCK)? {
         return Ok(Ours::Begun);
     }
-    let words = disk::read_whole(&path, WORDS.len() as u64)?;
+    let words = disk::read_whole(folder, LOCK, WORDS.len() as u64)?;
     Ok(if words == WORDS {
         Ours::Whole
     } else if WORDS.starts_with(&words) {
@@ -54,44 +50,41 @@ pub enum Ours {
 }
 
 /// Locks a job for this program, as long as the file is held.
-pub fn take(folder: &Path) -> Answer<File> {
-    let path = folder.join(LOCK);
-    disk::plain_or_none(&path)?;
-    let io = |error| Failure::io(path.display(), &error);
-    let mut file = OpenOptions::new()
-        .create(true)
-        .truncate(false)
-        .write(true)
-        .open(&path)
-        .map_err(io)?;
+pub fn take(folder: &Folder) -> Answer<File> {
+    let mut file = open_or_make(folder)?;
     hold(&file, folder, LOCK)?;
     if ours(folder)? == Ours::Begun {
         file.write_all(WORDS)
             .and_then(|()| file.sync_all())
-            .map_err(io)?;
+            .map_err(|error| disk::broken(folder, LOCK, &error))?;
     }
     Ok(file)
 }
 
-/// Locks an open file of a job. One that only looks holds it for an instant, so
-/// it is tried for a while.
-pub fn hold(file: &File, folder: &Path, name: &str) -> Answer<()> {
-    for _ in 0..10 {
-        match file.try_lock() {
-            Ok(()) => return Ok(()),
-            Err(TryLockError::WouldBlock) => thread::sleep(Duration::from_millis(20)),
-            Err(TryLockError::Error(error)) => {
-                return Err(Failure::io(folder.join(name).display(), &error));
-            }
+/// The lock's file, which another program may make at the same time.
+fn open_or_make(folder: &Folder) -> Answer<File> {
+    if !disk::plain_or_none(folder, LOCK)? {
+        match folder.create(LOCK, 0o666) {
+            Err(error) if error.kind() == io::ErrorKind::AlreadyExists => {}
+            made => return made.map_err(|error| disk::broken(folder, LOCK, &error)),
         }
     }
-    Err(busy(folder))
+    disk::open_to_write(folder, LOCK)
+}
+
+/// Locks an open file of a job.
+pub fn hold(file: &File, folder: &Folder, name: &str) -> Answer<()> {
+    match folder::lock(file) {
+        Ok(true) => Ok(()),
+        Ok(false) => Err(busy(folder)),
+        Err(error) => Err(disk::broken(folder, name, &error)),
+    }
 }
 
 /// A job that another program works on.
-pub fn busy(folder: &Path) -> Failure {
+pub fn busy(folder: &Folder) -> Failure {
     Failure::busy(format!(
         "{}: another program works on this job",
-        folder.display()
+        folder.path.display()
     ))
 }

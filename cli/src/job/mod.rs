@@ -12,6 +12,10 @@
 //! file of its own, flushed, renamed over the last one, and the folder is
 //! flushed. So whenever the program is killed, or the machine stops, the state
 //! is a whole one, and the part of the table that it counts is on the disk.
+//!
+//! All of it goes by a handle of the folder, and by one of the table: a folder
+//! that is moved while the job runs is written where it is, and one that takes
+//! its place is not touched.
 
 mod about;
 mod begin;
@@ -22,15 +26,18 @@ mod state;
 pub use about::About;
 
 use crate::failure::{Answer, Failure};
+use crate::folder::Folder;
 use crate::out::folder_of;
 use crate::sequences::Sequences;
-use crate::sum::Sum;
+use crate::sum::Words;
 use crate::table;
 use crate::template::Template;
-use state::State;
+use state::{Layout, State};
 use std::fs::{self, File};
 use std::io::{self, Seek, SeekFrom, Write};
+use std::os::unix::fs::MetadataExt;
 use std::path::{Path, PathBuf};
+use std::time::Duration;
 
 const SEQUENCES: &str = "sequences.fa";
 pub const ROWS: &str = "rows.tsv";
@@ -65,40 +72,50 @@ impl Job {
         quorum: u64,
         saved: Vec<u8>,
     ) -> Answer<Job> {
-        match fs::create_dir(folder) {
-            // The folder's own name.
-            Ok(()) => disk::flush_folder(folder_of(folder))?,
-            Err(error) if error.kind() == io::ErrorKind::AlreadyExists => {
-                if lock::held(folder)? {
-                    return Err(lock::busy(folder));
-                }
-                begin::may_begin(folder)?;
-            }
+        let made = match fs::create_dir(folder) {
+            Ok(()) => true,
+            Err(error) if error.kind() == io::ErrorKind::AlreadyExists => false,
             Err(error) => return Err(Failure::io(folder.display(), &error)),
+        };
+        if made {
+            // The folder's own name.
+            disk::flush_path(folder_of(folder))?;
         }
-        let lock = lock::take(folder)?;
+        let folder = Folder::open(folder).map_err(|error| Failure::io(folder.display(), &error))?;
+        if !made {
+            if lock::held(&folder)? {
+                return Err(lock::busy(&folder));
+            }
+            begin::may_begin(&folder)?;
+        }
+        let lock = lock::take(&folder)?;
         // Another one may have begun since.
-        begin::may_begin(folder)?;
-        disk::write_flushed(&folder.join(SEQUENCES), &sequences.file)?;
-        let path = folder.join(ROWS);
-        disk::write_flushed(&path, table::HEADER.as_bytes())?;
-        let table = disk::open_to_write(&path)?;
-        lock::hold(&table, folder, ROWS)?;
+        begin::may_begin(&folder)?;
+        disk::write_flushed(&folder, SEQUENCES, &sequences.file)?;
+        let table = disk::write_flushed(&folder, ROWS, table::HEADER.as_bytes())?;
+        lock::hold(&table, &folder, ROWS)?;
+        let mut sum = Words::none();
+        sum.and(table::HEADER.as_bytes());
         let state = State {
+            layout: Layout::Two,
             steps: 0,
             rows: 0,
             bytes: table::HEADER.len() as u64,
-            table: Sum::of(table::HEADER.as_bytes()),
-            sequences: Sum::of(&sequences.file),
+            table: sum.sum(),
+            sequences: Words::of(&sequences.file),
+            time: 0,
             saved,
         };
+        let held = table.try_clone();
         let about = About {
-            folder: folder.to_path_buf(),
+            table: held.map_err(|error| disk::broken(&folder, ROWS, &error))?,
+            folder,
             sequences,
             template,
             quorum,
             next: (1, 0),
             state,
+            sum,
         };
         let mut job = Job {
             about,
@@ -107,7 +124,7 @@ impl Job {
         };
         job.seek_end()?;
         // A state never stands there without what it goes with.
-        disk::flush_folder(folder)?;
+        disk::flush(&job.about.folder)?;
         job.write_state()?;
         Ok(job)
     }
@@ -117,11 +134,16 @@ impl Job {
     /// place; what is cut is at that place or after it, or an unfinished line.
     pub fn open(about: About) -> Answer<Job> {
         // Nothing was made yet in the folder, which may have been refused.
-        disk::plain_or_none(&about.folder.join(NEW))?;
+        disk::plain_or_none(&about.folder, NEW)?;
         let lock = lock::take(&about.folder)?;
-        let table = disk::open_to_write(&about.folder.join(ROWS))?;
+        let table = disk::open_to_write(&about.folder, ROWS)?;
         lock::hold(&table, &about.folder, ROWS)?;
-        let about = about.again()?;
+        let mut about = about.again(&table)?;
+        if about.state.layout == Layout::One {
+            about.state.layout = Layout::Two;
+            about.state.table = about.sum.sum();
+            about.state.sequences = Words::of(&about.sequences.file);
+        }
         let mut job = Job {
             about,
             table,
@@ -154,20 +176,34 @@ impl Job {
         self.seek_end()
     }
 
-    /// Keeps what a leg brought: lines of the table, the steps and rows so
-    /// far, and the search at its new place.
-    pub fn keep(&mut self, lines: &[u8], steps: u64, rows: u64, saved: &[u8]) -> Answer<()> {
+    /// Keeps what a leg brought: lines of the table, the steps, the rows and
+    /// the time so far, and the search at its new place.
+    pub fn keep(
+        &mut self,
+        lines: &[u8],
+        steps: u64,
+        rows: u64,
+        time: Duration,
+        saved: &[u8],
+    ) -> Answer<()> {
         if !lines.is_empty() {
             self.table
                 .write_all(lines)
                 .and_then(|()| self.table.sync_all())
                 .map_err(|error| self.broken(ROWS, &error))?;
         }
-        let state = &mut self.about.state;
+        // No state counts rows that nobody can read any more.
+        if self.table.metadata().is_ok_and(|table| table.nlink() == 0) {
+            return Err(self.broken(ROWS, &io::ErrorKind::NotFound.into()));
+        }
+        let about = &mut self.about;
+        about.sum.and(lines);
+        let state = &mut about.state;
         state.steps = steps;
         state.rows = rows;
         state.bytes += lines.len() as u64;
-        state.table = state.table.and(lines);
+        state.table = about.sum.sum();
+        state.time = u64::try_from(time.as_millis()).unwrap_or(u64::MAX);
         state.saved.clear();
         state.saved.extend_from_slice(saved);
         self.write_state()
@@ -177,16 +213,18 @@ impl Job {
     /// flushes all of it.
     fn write_state(&mut self) -> Answer<()> {
         let folder = &self.about.folder;
-        let new = folder.join(NEW);
-        disk::write_flushed(&new, self.about.state.text().as_bytes()).inspect_err(|_| {
+        let text = self.about.state.text();
+        disk::write_flushed(folder, NEW, text.as_bytes()).inspect_err(|_| {
             // Half a state is of no use, and where the disk is full its room is.
-            let _ = fs::remove_file(&new);
+            let _ = folder.remove(NEW);
         })?;
-        fs::rename(&new, folder.join(STATE)).map_err(|error| self.broken(STATE, &error))?;
-        disk::flush_folder(folder)
+        folder
+            .rename(NEW, STATE)
+            .map_err(|error| self.broken(STATE, &error))?;
+        disk::flush(folder)
     }
 
     fn broken(&self, name: &str, error: &io::Error) -> Failure {
-        Failure::io(self.about.folder.join(name).display(), error)
+        disk::broken(&self.about.folder, name, error)
     }
 }

@@ -2,18 +2,37 @@
 //! folder held when it was saved. Lines of text, so that an operator can read
 //! it, and last a sum of those lines.
 
-use crate::sum::Sum;
+use crate::sum::{Sum, Words};
 use std::fmt::Write;
 use std::str::{from_utf8, FromStr};
 
-/// The first line. The number changes with the layout, so that no program
-/// reads a state by another layout than its own.
-const FIRST: &str = "tulfasheq job 1";
+/// What the first line is before its number, which changes with the layout, so
+/// that no program reads a state by another layout than its own.
 const PROGRAM: &str = "tulfasheq job ";
+
+/// How a state is laid out, and by what it sums.
+#[derive(Clone, Copy, Debug, PartialEq, Eq)]
+pub enum Layout {
+    /// That of the first jobs, which is only read: sums of bytes, and no time.
+    One,
+    /// Sums of words.
+    Two,
+}
+
+impl Layout {
+    /// The sum of bytes.
+    pub fn sum(self, bytes: &[u8]) -> Sum {
+        match self {
+            Layout::One => Sum::of(bytes),
+            Layout::Two => Words::of(bytes),
+        }
+    }
+}
 
 /// A state.
 #[derive(Clone, Debug, PartialEq, Eq)]
 pub struct State {
+    pub layout: Layout,
     /// The candidates examined so far.
     pub steps: u64,
     /// The rows listed so far.
@@ -25,6 +44,8 @@ pub struct State {
     pub table: Sum,
     /// The sum of the sequences' file.
     pub sequences: Sum,
+    /// The milliseconds spent so far; 0 in layout 1.
+    pub time: u64,
     /// The saved search.
     pub saved: Vec<u8>,
 }
@@ -45,11 +66,15 @@ impl State {
             // To write to memory does not fail.
             let _ = write!(saved, "{byte:02x}");
         }
+        let (number, time) = match self.layout {
+            Layout::One => (1, String::new()),
+            Layout::Two => (2, format!("time {}\n", self.time)),
+        };
         let lines = format!(
-            "{FIRST}\nsteps {}\nrows {}\nbytes {}\ntable {:016x}\nsequences {:016x}\nsaved {saved}\n",
-            self.steps, self.rows, self.bytes, self.table.0, self.sequences.0
+            "{PROGRAM}{number}\nsteps {}\nrows {}\nbytes {}\ntable {}\nsequences {}\n{time}saved {saved}\n",
+            self.steps, self.rows, self.bytes, self.table, self.sequences
         );
-        format!("{lines}sum {:016x}\n", Sum::of(lines.as_bytes()).0)
+        format!("{lines}sum {}\n", self.layout.sum(lines.as_bytes()))
     }
 
     /// Reads a state, or says what is wrong with it. Only what `text` writes
@@ -63,16 +88,18 @@ impl State {
             return bad("it is no text", None);
         };
         let first = text.lines().next().unwrap_or("");
-        if first != FIRST {
-            return match first.strip_prefix(PROGRAM) {
-                Some(layout) => bad(
-                    &format!("it has layout {layout:?}, and this program reads layout \"1\""),
-                    None,
-                ),
-                None => bad("it is no state of a job", None),
-            };
-        }
-        let Some(state) = State::lines(text) else {
+        let layout = match first.strip_prefix(PROGRAM) {
+            Some("1") => Layout::One,
+            Some("2") => Layout::Two,
+            Some(layout) => {
+                let why = format!(
+                    "it has layout {layout:?}, and this program reads layouts \"1\" and \"2\""
+                );
+                return bad(&why, None);
+            }
+            None => return bad("it is no state of a job", None),
+        };
+        let Some(state) = State::lines(layout, text) else {
             return bad("its lines are not those of a state", None);
         };
         if state.text() != text {
@@ -83,15 +110,20 @@ impl State {
     }
 
     /// The values of the lines.
-    fn lines(text: &str) -> Option<State> {
+    fn lines(layout: Layout, text: &str) -> Option<State> {
         let mut lines = text.lines().skip(1);
         let mut value = |name: &str| lines.next()?.strip_prefix(name)?.strip_prefix(' ');
         Some(State {
+            layout,
             steps: number(value("steps")?)?,
             rows: number(value("rows")?)?,
             bytes: number(value("bytes")?)?,
             table: sum(value("table")?)?,
             sequences: sum(value("sequences")?)?,
+            time: match layout {
+                Layout::One => 0,
+                Layout::Two => number(value("time")?)?,
+            },
             saved: hex(value("saved")?)?,
         })
     }
@@ -116,51 +148,75 @@ fn hex(text: &str) -> Option<Vec<u8>> {
 
 #[cfg(test)]
 mod tests {
-    use super::State;
+    use super::{Layout, State};
     use crate::sum::Sum;
 
-    fn state() -> State {
-        State {
+    /// One of each layout.
+    fn states() -> [State; 2] {
+        [Layout::One, Layout::Two].map(|layout| State {
+            layout,
             steps: 20,
             rows: 3,
             bytes: 77,
-            table: Sum::of(b"table"),
-            sequences: Sum::of(b">a\nACGT\n"),
+            table: layout.sum(b"table"),
+            sequences: layout.sum(b">a\nACGT\n"),
+            time: if layout == Layout::One { 0 } else { 1_234 },
             saved: (0..64).collect(),
-        }
+        })
     }
 
     #[test]
     fn a_state_is_read_as_it_was_written() {
-        assert_eq!(State::read(state().text().as_bytes()), Ok(state()));
+        for state in states() {
+            assert_eq!(State::read(state.text().as_bytes()), Ok(state));
+        }
+    }
+
+    #[test]
+    fn layout_1_is_that_of_earlier_versions() {
+        let [mut state, _] = states();
+        state.saved.truncate(2);
+        state.table = Sum(1);
+        state.sequences = Sum(0xab);
+        assert_eq!(
+            state.text(),
+            "tulfasheq job 1\nsteps 20\nrows 3\nbytes 77\ntable 0000000000000001\nsequences 00000000000000ab\nsaved 0001\nsum 2b203b8c3b76b50a\n"
+        );
     }
 
     #[test]
     fn a_state_cut_short_or_made_longer_is_refused() {
-        let text = state().text();
-        for end in 0..text.len() {
-            assert!(State::read(&text.as_bytes()[..end]).is_err(), "{end}");
-        }
-        for more in ["\n", " ", "0", "sum 0"] {
-            assert!(State::read(format!("{text}{more}").as_bytes()).is_err());
+        for text in states().map(|state| state.text()) {
+            for end in 0..text.len() {
+                assert!(State::read(&text.as_bytes()[..end]).is_err(), "{end}");
+            }
+            for more in ["\n", " ", "0", "sum 0"] {
+                assert!(State::read(format!("{text}{more}").as_bytes()).is_err());
+            }
         }
     }
 
     #[test]
     fn a_state_with_any_bit_changed_is_refused() {
-        let text = state().text().into_bytes();
-        for at in 0..text.len() {
-            for bit in 0..8 {
-                let mut changed = text.clone();
-                changed[at] ^= 1 << bit;
-                assert!(State::read(&changed).is_err(), "byte {at}, bit {bit}");
+        for text in states().map(|state| state.text().into_bytes()) {
+            for at in 0..text.len() {
+                for bit in 0..8 {
+                    let mut changed = text.clone();
+                    changed[at] ^= 1 << bit;
+                    assert!(State::read(&changed).is_err(), "byte {at}, bit {bit}");
+                }
             }
         }
     }
 
     #[test]
     fn another_layout_is_named() {
-        let why = State::read(b"tulfasheq job 2\n").unwrap_err().why;
-        assert!(why.contains("layout \"2\""), "{why}");
+        let why = State::read(b"tulfasheq job 3\n").unwrap_err().why;
+        assert!(why.contains("layout \"3\""), "{why}");
+        // Nor is a state read by the other one.
+        let [one, two] = states().map(|state| state.text());
+        for (text, from, to) in [(one, "job 1\n", "job 2\n"), (two, "job 2\n", "job 1\n")] {
+            assert!(State::read(text.replacen(from, to, 1).as_bytes()).is_err());
+        }
     }
 }
