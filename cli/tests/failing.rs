@@ -5,7 +5,7 @@
 
 mod common;
 
-use common::jobs::{copy, end, start_as, state_value, whole, Search, SHORT};
+use common::jobs::{copy, end, files, start_as, state_value, whole, Search, SHORT};
 use common::{program, word, Ran, Scratch};
 use std::path::{Path, PathBuf};
 use std::process::{Command, Stdio};
@@ -20,6 +20,15 @@ const WAYS: [(&str, bool); 6] = [
     ("after", false),
     ("lost", false),
 ];
+
+/// What stands where a table is written out.
+const OLDER: &str = "an older table\n";
+
+/// That an older table stands there, or the whole new one.
+fn old_or_whole(out: &Path, expected: &[u8], what: &str) {
+    let found = std::fs::read(out).expect("a table");
+    assert!(found == OLDER.as_bytes() || found == expected, "{what}");
+}
 
 /// `failing.c`, built.
 struct Faults {
@@ -74,8 +83,8 @@ impl Faults {
     }
 
     /// Goes through all calls of a run, in one way of going wrong. `prepare`
-    /// makes the folder as it is before the run. Answers with the number of
-    /// calls.
+    /// makes the folder as it is before the run. At its end a table is written
+    /// out over an older one. Answers with the number of calls.
     fn every_call(
         &self,
         search: &Search,
@@ -88,7 +97,7 @@ impl Faults {
             let scratch = Scratch::new();
             let folder = scratch.path("job");
             prepare(&folder);
-            let out = scratch.path("table.tsv");
+            let out = scratch.file("table.tsv", OLDER);
             let mut words = search.further(&folder);
             words.extend(["--out", word(&out)]);
             let (ran, hits) = self.run(&words, at, how);
@@ -104,6 +113,7 @@ impl Faults {
             } else {
                 assert_eq!(ran.status, None, "{what}: {}", ran.err);
             }
+            old_or_whole(&out, expected, &what);
             if folder.join("state").exists() {
                 let ran = self.well(&["status", word(&folder)]);
                 assert_eq!(ran.status, Some(0), "{what}: {}", ran.err);
@@ -111,6 +121,41 @@ impl Faults {
             let ran = self.well(&search.further(&folder));
             assert_eq!(ran.status, Some(0), "{what}: {}", ran.err);
             whole(ran, &folder, expected);
+        }
+        unreachable!("a run has an end");
+    }
+
+    /// The same of a run that writes a table over an older one, and keeps no
+    /// job.
+    fn every_call_without_a_job(&self, words: &[&str], way: (&str, bool)) -> u64 {
+        let (how, lives) = way;
+        let expected = self.well(words).printed();
+        for at in 1.. {
+            let scratch = Scratch::new();
+            let out = scratch.file("table.tsv", OLDER);
+            let words = [words, &["--out", word(&out)]].concat();
+            let (ran, hits) = self.run(&words, at, how);
+            let Some(hit) = hits.first() else {
+                assert!(ran.printed().is_empty());
+                assert!(std::fs::read(out).expect("the table") == expected);
+                return at - 1;
+            };
+            let what = format!("{how} at call {at}, {hit:?}");
+            if lives {
+                let said = ran.said(4);
+                assert!(said.contains(&hit.file), "{what}: {said}");
+            } else {
+                assert_eq!(ran.status, None, "{what}: {}", ran.err);
+            }
+            old_or_whole(&out, &expected, &what);
+            // What is left does not disturb the next.
+            self.well(&words).printed();
+            assert!(
+                std::fs::read(&out).expect("the table") == expected,
+                "{what}"
+            );
+            let left = files(&scratch.path(""));
+            assert_eq!(left.keys().collect::<Vec<_>>(), ["table.tsv"], "{what}");
         }
         unreachable!("a run has an end");
     }
@@ -155,6 +200,22 @@ fn every_call_of_a_resume_may_go_wrong() {
         let calls = faults.every_call(&search, &expected, way, prepare);
         println!("resume, {}: {calls} calls", way.0);
         assert!(calls > 20, "there are more calls");
+    }
+}
+
+#[test]
+fn every_call_of_a_table_without_a_job_may_go_wrong() {
+    let scratch = Scratch::new();
+    let faults = Faults::new(&scratch);
+    let file = scratch.file("a.fa", ">a\nACGTACGT\n>b\nACGGT\n");
+    let search = ["search", "NN[0,2]N", "1", word(&file)];
+    let places = ["places", "N", "A", word(&file), "--gff"];
+    for words in [&search[..], &places] {
+        for way in WAYS {
+            let calls = faults.every_call_without_a_job(words, way);
+            println!("{}, {}: {calls} calls", words[0], way.0);
+            assert!(calls > 8, "there are more calls");
+        }
     }
 }
 
