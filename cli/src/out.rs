@@ -91,13 +91,12 @@ impl Out {
             });
         };
         let called = path.display().to_string();
-        let to = match Out::target(path)? {
-            Some(target) => To::Part(Box::new(target.open()?)),
-            None => {
-                let file = File::create(path).map_err(|error| Failure::io(&called, &error))?;
-                To::Straight(file)
-            }
-        };
+        if let Some(target) = Out::target(path)? {
+            let to = To::Part(Box::new(target.open()?));
+            return Ok(Open { called, to });
+        }
+        let file = File::create(path).map_err(|error| Failure::io(&called, &error))?;
+        let to = To::Straight(file);
         Ok(Open { called, to })
     }
 

@@ -140,9 +140,10 @@ fn how_far(share: f64, rows: u64) -> String {
 /// Goes on with a job until it has ended, and writes out its table; or until a
 /// signal asks to stop. Where its folder was moved meanwhile, that is told.
 fn go_on(mut job: Job, asking: Asking, out: &Out, quiet: bool) -> Answer<()> {
-    let ran = match job.about.ended() {
-        true => Ok(()),
-        false => run(&mut job, &asking, quiet),
+    let ran = if job.about.ended() {
+        Ok(())
+    } else {
+        run(&mut job, &asking, quiet)
     };
     // All is saved: from here on a signal may end the program at once.
     drop(asking);

@@ -6,11 +6,12 @@ mod common;
 #[path = "common/within.rs"]
 mod within;
 
-use common::jobs::{end, start, start_as, Kind, MIDDLE};
+use common::jobs::{
+    end, signal, start, start_as, until_rows, Kind, HEADER, MIDDLE, SIGCONT, SIGSTOP,
+};
 use common::{program, run, word, Random, Scratch};
 use std::fs::{self, File, Permissions};
-use std::io::{Read, Write};
-use std::os::unix::fs::{symlink, FileTypeExt, MetadataExt, PermissionsExt};
+use std::os::unix::fs::{symlink, FileExt, FileTypeExt, MetadataExt, PermissionsExt};
 use std::path::Path;
 use std::process::{Command, Stdio};
 use std::thread;
@@ -119,7 +120,12 @@ fn a_second_program_does_not_write_the_same_table() {
     let out = scratch.file("table.tsv", OLD);
     let words = [&search.words()[..], &["--out", word(&out)]].concat();
     let first = start(&words);
+    let begun = Instant::now();
     while parts(&scratch.path("")).is_empty() {
+        assert!(
+            begun.elapsed() < Duration::from_secs(60),
+            "nothing is written"
+        );
         thread::sleep(Duration::from_millis(1));
     }
     // Neither a search nor one with a job, which would write it at its end.
@@ -362,25 +368,30 @@ fn a_place_that_cannot_be_written_is_noticed_before_the_search() {
 }
 
 #[test]
-fn a_table_of_a_job_that_is_damaged_at_its_end_does_not_take_a_name() {
-    let (scratch, _) = folder();
-    let words = [&SEARCH[..], &["--job", "job"]].concat();
-    ran(&mut within(&scratch, &words)).printed();
-    let rows = scratch.path("job/rows.tsv");
-    let mut bytes = Vec::new();
-    File::open(&rows)
-        .expect("rows")
-        .read_to_end(&mut bytes)
-        .expect("rows");
-    let last = bytes.len() - 2;
-    bytes[last] ^= 1;
-    File::create(&rows)
-        .expect("rows")
-        .write_all(&bytes)
-        .expect("rows");
-    scratch.file("table.tsv", OLD);
-    let words = ["resume", "job", "--out", "table.tsv"];
-    ran(&mut within(&scratch, &words)).said(7);
-    assert_eq!(read(&scratch.path("table.tsv")), OLD.as_bytes());
-    assert!(parts(&scratch.path("")).is_empty());
+fn a_table_of_a_job_that_was_changed_on_its_way_does_not_take_a_name() {
+    let scratch = Scratch::new();
+    let search = MIDDLE.over(&scratch);
+    let out = scratch.file("table.tsv", OLD);
+    for i in 0..20 {
+        let folder = scratch.path(&format!("job-{i}"));
+        let mut words = search.in_job(&folder);
+        words.extend(["--out", word(&out)]);
+        let child = start(&words);
+        until_rows(&folder, HEADER.len() as u64);
+        signal(&child, SIGSTOP);
+        let rows = folder.join("rows.tsv");
+        let soon = !String::from_utf8_lossy(&read(&rows)).contains("# end");
+        let file = File::options().write(true).open(&rows).expect("rows");
+        file.write_at(b"?", HEADER.len() as u64).expect("a byte");
+        signal(&child, SIGCONT);
+        let ran = end(child);
+        // Where it was over already, the table may have been written out.
+        if soon {
+            assert!(ran.said(7).contains(word(&rows)));
+            assert_eq!(read(&out), OLD.as_bytes());
+            assert!(parts(&scratch.path("")).is_empty());
+            return;
+        }
+    }
+    panic!("the search ends too soon");
 }

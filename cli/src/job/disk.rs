@@ -94,7 +94,8 @@ pub fn write_flushed(folder: &Folder, name: &str, bytes: &[u8]) -> Answer<File> 
 
 /// Flushes the names of a folder's files to the disk.
 pub fn flush(folder: &Folder) -> Answer<()> {
-    folder.flush().map_err(|error| broken(folder, "", &error))
+    let called = folder.path.display();
+    folder.flush().map_err(|error| Failure::io(called, &error))
 }
 
 /// The same of a folder that is not held open.
