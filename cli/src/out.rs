@@ -2,14 +2,16 @@
 //! place and takes it when it is whole.
 
 mod part;
+mod target;
 
 use crate::failure::{Answer, Failure};
 use crate::folder;
-use part::{Part, Target};
+use part::Part;
 use std::fs::{self, File};
 use std::io::{self, IsTerminal, Write};
 use std::os::fd::AsFd;
 use std::path::{self, Path, PathBuf};
+use target::Target;
 
 /// A place to write to. Nothing is made before it is opened.
 #[derive(Clone, Debug, Default)]
@@ -39,7 +41,7 @@ impl Out {
             return Ok(());
         };
         let target = Target::find(out).ok().flatten();
-        let part = target.map(|target| target.part());
+        let part = target.map(|target| target.beside());
         for file in files {
             let over = same(out, file);
             if over || part.as_ref().is_some_and(|part| same(part, file)) {
