@@ -19,9 +19,42 @@ pub fn of(number: u64, one: &str) -> String {
     format!("{} {one}{plural}", grouped(number))
 }
 
+/// A number in at most eleven characters: from a thousand million on in
+/// three digits and G, T, P or E for the thousands that follow, rounded down.
+pub fn short(number: u64) -> String {
+    if number < 1_000_000_000 {
+        return grouped(number);
+    }
+    let units = [(18, 'E'), (15, 'P'), (12, 'T'), (9, 'G')];
+    let of = |(power, _): &(u32, char)| number >= 10u64.pow(*power);
+    let (power, letter) = units.into_iter().find(of).unwrap_or((9, 'G'));
+    let whole = number / 10u64.pow(power);
+    let hundredths = number / 10u64.pow(power - 2) % 100;
+    match whole {
+        0..10 => format!("{whole}.{hundredths:02} {letter}"),
+        10..100 => format!("{whole}.{} {letter}", hundredths / 10),
+        _ => format!("{whole} {letter}"),
+    }
+}
+
 #[cfg(test)]
 mod tests {
-    use super::{grouped, of};
+    use super::{grouped, of, short};
+
+    #[test]
+    fn large_numbers_are_shortened() {
+        for (number, text) in [
+            (0, "0"),
+            (999_999_999, "999,999,999"),
+            (1_000_000_000, "1.00 G"),
+            (12_399_999_999, "12.3 G"),
+            (999_999_999_999, "999 G"),
+            (1_069_000_000_000, "1.06 T"),
+            (u64::MAX, "18.4 E"),
+        ] {
+            assert_eq!(short(number), text);
+        }
+    }
 
     #[test]
     fn thousands_stand_apart() {

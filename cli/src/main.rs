@@ -11,6 +11,7 @@
     clippy::cast_sign_loss
 )]
 
+mod caller;
 mod caret;
 mod counted;
 mod failure;
@@ -19,10 +20,13 @@ mod help;
 mod job;
 mod legs;
 mod out;
+mod pace;
 mod places;
+mod processor;
 mod progress;
 mod quorum;
 mod refusals;
+mod run;
 mod say;
 mod search;
 mod sequences;
@@ -39,7 +43,7 @@ use std::process::ExitCode;
 use std::thread;
 use words::Command;
 
-/// The stack of the thread that works: a call of the library uses less than
+/// The stack of a thread that works: a call of the library uses less than
 /// 1.5 MiB, whatever the limit of the program's first thread is.
 const STACK: usize = 8 * 1024 * 1024;
 

@@ -10,18 +10,31 @@ const EVERY: Duration = Duration::from_millis(200);
 pub struct Progress {
     shown: bool,
     width: usize,
+    /// The time that was spent before.
+    before: Duration,
     begun: Instant,
     last: Option<Instant>,
 }
 
 impl Progress {
     pub fn new(quiet: bool) -> Progress {
+        Progress::after(Duration::ZERO, quiet)
+    }
+
+    /// Of what goes on, after so much time was spent on it.
+    pub fn after(before: Duration, quiet: bool) -> Progress {
         Progress {
             shown: !quiet && io::stderr().is_terminal(),
             width: 0,
+            before,
             begun: Instant::now(),
             last: None,
         }
+    }
+
+    /// The time spent.
+    pub fn time(&self) -> Duration {
+        self.before + self.begun.elapsed()
     }
 
     /// Whether the line is to be written anew.
@@ -33,7 +46,15 @@ impl Progress {
     /// for 29 characters of the first.
     pub fn show(&mut self, how_far: &str) {
         self.last = Some(Instant::now());
-        self.write(&format!("{how_far}, {}", clock(self.begun.elapsed())));
+        self.write(&line(how_far, self.time()));
+    }
+
+    /// Takes the line away, so that another can be said in its place.
+    pub fn clear(&mut self) {
+        if self.width > 0 {
+            self.write("");
+            let _ = write!(io::stderr(), "\r");
+        }
     }
 
     /// Writes over what stands there.
@@ -48,11 +69,23 @@ impl Progress {
 
 impl Drop for Progress {
     fn drop(&mut self) {
-        if self.width > 0 {
-            self.write("");
-            let _ = write!(io::stderr(), "\r");
-        }
+        self.clear();
     }
+}
+
+/// How far it is, and the time spent.
+pub fn line(how_far: &str, spent: Duration) -> String {
+    format!("{how_far}, {}", clock(spent))
+}
+
+/// The time that something took: from a minute on in hours, minutes and
+/// seconds.
+pub fn spent(time: Duration) -> String {
+    if time.as_secs() >= 60 {
+        return clock(time);
+    }
+    let tenths = time.as_millis() / 100;
+    format!("{}.{} s", tenths / 10, tenths % 10)
 }
 
 /// A time in hours, minutes and seconds.

@@ -1,7 +1,13 @@
 //! What goes to standard error. Where that is closed too, nobody can be told.
 
+use crate::out::Out;
+use std::ffi::OsString;
 use std::io::{self, Write};
 use std::path::Path;
+
+/// Where ./tulfasheq, which builds and starts the program, tells as what it was
+/// called.
+const CALLED: &str = "TULFASHEQ_CALLED";
 
 /// Says lines on standard error.
 pub fn say(words: &str) {
@@ -22,6 +28,24 @@ pub fn quoted(path: &Path) -> String {
         return text;
     }
     format!("'{}'", text.replace('\'', "'\\''"))
+}
+
+/// What the program was called as, so that it can be called so again.
+pub fn called() -> String {
+    let known = |name: &OsString| !name.is_empty();
+    std::env::var_os(CALLED)
+        .filter(known)
+        .or_else(|| std::env::args_os().next().filter(known))
+        .map_or("tulfasheq".to_string(), |name| quoted(Path::new(&name)))
+}
+
+/// The command that goes on with a job, as it can be pasted into a shell.
+pub fn again(folder: &Path, out: &Out) -> String {
+    let out = match &out.file {
+        Some(file) => format!(" --out {}", quoted(file)),
+        None => String::new(),
+    };
+    format!("{} resume {}{out}", called(), quoted(folder))
 }
 
 /// The words as a terminal may show them: what a name of a file or a word of

@@ -1,11 +1,18 @@
-//! SIGINT, SIGTERM and SIGHUP, while a job is running: they ask it to stop
-//! after its leg. Before and after they do what they always do.
+//! The signals that ask a job to stop while it is running. Before and after
+//! they do what they always do.
 
-use std::sync::atomic::{AtomicBool, Ordering};
+use std::sync::atomic::{AtomicI32, Ordering};
 
-const SIGHUP: i32 = 1;
-const SIGINT: i32 = 2;
-const SIGTERM: i32 = 15;
+/// Those that a person sends, and those that schedulers do.
+const ASKING: [(i32, &str); 6] = [
+    (1, "SIGHUP"),
+    (2, "SIGINT"),
+    (10, "SIGUSR1"),
+    (12, "SIGUSR2"),
+    (15, "SIGTERM"),
+    (24, "SIGXCPU"),
+];
+
 const SIGXFSZ: i32 = 25;
 
 const DEFAULT: usize = 0;
@@ -17,10 +24,11 @@ extern "C" {
     fn signal(number: i32, handler: usize) -> usize;
 }
 
-static ASKED: AtomicBool = AtomicBool::new(false);
+/// The one that came, or 0.
+static ASKED: AtomicI32 = AtomicI32::new(0);
 
-extern "C" fn ask(_: i32) {
-    ASKED.store(true, Ordering::SeqCst);
+extern "C" fn ask(number: i32) {
+    ASKED.store(number, Ordering::SeqCst);
 }
 
 /// From here on a file that grows beyond a limit is a write that fails, and not
@@ -34,12 +42,12 @@ pub fn ignore_limits() {
 
 /// While this lives, the signals only ask.
 pub struct Asking {
-    asked: &'static AtomicBool,
+    asked: &'static AtomicI32,
 }
 
 impl Asking {
     pub fn begin() -> Asking {
-        for number in [SIGHUP, SIGINT, SIGTERM] {
+        for (number, _) in ASKING {
             // SAFETY: the handler only stores to an atomic. A signal that was
             // ignored, as by nohup, stays so.
             unsafe {
@@ -51,15 +59,18 @@ impl Asking {
         Asking { asked: &ASKED }
     }
 
-    /// Whether one came.
-    pub fn asked(&self) -> bool {
-        self.asked.load(Ordering::SeqCst)
+    /// The name of one that came.
+    pub fn asked(&self) -> Option<&'static str> {
+        let came = self.asked.load(Ordering::SeqCst);
+        ASKING
+            .iter()
+            .find_map(|(number, name)| (*number == came).then_some(*name))
     }
 }
 
 impl Drop for Asking {
     fn drop(&mut self) {
-        for number in [SIGHUP, SIGINT, SIGTERM] {
+        for (number, _) in ASKING {
             // SAFETY: the default needs no handler.
             unsafe {
                 if signal(number, DEFAULT) == IGNORE {

@@ -211,7 +211,7 @@ fn check(words: &[OsString], ran: &Ran, written: bool) {
         "{}",
         told()
     );
-    assert!(status == 0 || !ran.err.is_empty(), "{}", told());
+    assert_eq!(ran.complaints().is_empty(), status == 0, "{}", told());
     assert!(ran.err.len() < 300_000, "{} bytes are said", ran.err.len());
     let help = ran.out.starts_with(b"usage: ");
     if words[0] == "search" && !help {

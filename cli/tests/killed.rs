@@ -47,10 +47,11 @@ fn half_done(folder: &Path) -> bool {
 enum Moment {
     /// So long after its start, wherever it is then.
     After(Duration),
-    /// So long after it has saved a leg.
-    Saved(Duration),
+    /// So long after a save. The first ones come at once, one after another;
+    /// the fourth when a quarter of a second has passed.
+    Saved(u64, Duration),
     /// When it has written rows and not saved them yet, if that is seen before
-    /// two legs are saved.
+    /// two saves.
     Rows,
 }
 
@@ -59,18 +60,20 @@ fn early(random: &mut Random) -> Moment {
     Moment::After(Duration::from_micros(random.below(1_000)))
 }
 
-/// A moment that is blind: mostly not enough for a whole leg, sometimes for
-/// more. It is told in parts of the whole search's time, so that it is one on
-/// a fast machine too.
+/// A moment that is blind: mostly too soon for more than the first saves. It
+/// is told in parts of the whole search's time, so that it is one on a fast
+/// machine too.
 fn blind(random: &mut Random, stop: u64) -> Moment {
     let parts = if stop % 5 == 4 { 24 } else { 75 };
     let most = expected().1.as_micros() as u64 / parts;
     Moment::After(Duration::from_micros(random.below(most)))
 }
 
-/// A moment soon after a leg was saved.
-fn saved(random: &mut Random) -> Moment {
-    Moment::Saved(Duration::from_micros(random.below(15_000)))
+/// A moment soon after a save: mostly the first one, and at every eighth stop
+/// one of those that come every quarter of a second.
+fn saved(random: &mut Random, stop: u64) -> Moment {
+    let saves = if stop % 8 == 1 { 4 } else { 1 };
+    Moment::Saved(saves, Duration::from_micros(random.below(15_000)))
 }
 
 /// The bytes of rows.tsv behind what the state counts.
@@ -83,7 +86,7 @@ fn behind(folder: &Path) -> u64 {
 struct Stops<'a> {
     search: &'a Search,
     stops: u64,
-    /// Stops before any leg of that start was saved.
+    /// Stops before the first save of that start.
     nothing_saved: u64,
     /// Stops with rows in the table that were not saved.
     rows_behind: u64,
@@ -114,7 +117,7 @@ impl Stops<'_> {
         let moved = state_value(folder, "steps") > before.max(Some(0));
         let behind = behind(folder);
         if ran.status == Some(5) {
-            assert!(moved, "the leg before the stop is saved");
+            assert!(moved, "what was done before the stop is saved");
             assert_eq!(behind, 0, "all rows are saved");
         }
         self.nothing_saved += u64::from(!moved);
@@ -125,7 +128,7 @@ impl Stops<'_> {
     /// Lets the job come to its end.
     fn finish(self, folder: &Path, by: &str) {
         println!(
-            "{} stops by {by}: {} before a leg was saved, {} with unsaved rows in the table; {:?} steps were saved",
+            "{} stops by {by}: {} before a save, {} with unsaved rows in the table; {:?} steps were saved",
             self.stops,
             self.nothing_saved,
             self.rows_behind,
@@ -140,16 +143,19 @@ impl Stops<'_> {
 fn await_moment(folder: &Path, before: Option<u64>, moment: Moment) {
     let begun = Instant::now();
     let mut last = before.max(Some(0));
-    let mut legs = 0;
+    let mut saves = 0;
     loop {
-        assert!(begun.elapsed() < Duration::from_secs(60), "no leg is saved");
+        assert!(
+            begun.elapsed() < Duration::from_secs(60),
+            "nothing is saved"
+        );
         let steps = state_value(folder, "steps");
-        legs += u64::from(steps > last);
+        saves += u64::from(steps > last);
         last = steps.max(last);
         match moment {
             Moment::After(time) => return thread::sleep(time),
-            Moment::Saved(time) if legs > 0 => return thread::sleep(time),
-            Moment::Rows if legs > 1 || (legs > 0 && behind(folder) > 0) => return,
+            Moment::Saved(wanted, time) if saves >= wanted => return thread::sleep(time),
+            Moment::Rows if saves > 1 || (saves > 0 && behind(folder) > 0) => return,
             _ => thread::sleep(Duration::from_micros(100)),
         }
     }
@@ -188,14 +194,14 @@ fn killed_at_any_moment_no_row_is_lost_or_listed_twice() {
             _ if half_done(&folder) => early(&mut random),
             13 => Moment::Rows,
             at if at % 2 == 0 => blind(&mut random, stop),
-            _ => saved(&mut random),
+            _ => saved(&mut random, stop),
         };
         let ran = stops.stop(&folder, moment, None);
         assert_eq!(ran.status, None, "{}", ran.err);
         look(&folder);
     }
     let after = stops.stops - stops.nothing_saved;
-    assert!(after >= 8, "{after} kills after a leg was saved");
+    assert!(after >= 8, "{after} kills after a save");
     stops.finish(&folder, "SIGKILL");
 }
 
@@ -211,7 +217,7 @@ fn asked_to_stop_it_is_saved_and_says_how_to_go_on() {
         let moment = match stop % 2 {
             _ if half_done(&folder) => early(&mut random),
             0 => blind(&mut random, stop),
-            _ => saved(&mut random),
+            _ => saved(&mut random, stop),
         };
         let number = [SIGTERM, SIGINT, SIGHUP][stop as usize % 3];
         let ran = stops.stop(&folder, moment, Some(number));
@@ -233,7 +239,7 @@ fn a_folder_copied_elsewhere_between_two_stops_goes_on_there() {
     for stop in 0..STOPS {
         let moment = match stop % 4 {
             _ if half_done(&folder) => early(&mut random),
-            1 | 2 => saved(&mut random),
+            1 | 2 => saved(&mut random, stop),
             _ => blind(&mut random, stop),
         };
         let by = (stop % 2 == 0).then_some(SIGTERM);

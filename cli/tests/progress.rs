@@ -9,6 +9,7 @@ use std::fs::File;
 use std::io::Read;
 use std::os::fd::FromRawFd;
 use std::os::unix::fs::OpenOptionsExt;
+use std::path::Path;
 use std::process::{Child, Stdio};
 
 // The C library's.
@@ -84,10 +85,29 @@ fn a_terminal_shows_how_far_it_is() {
     for words in [" %, ", " rows, ", "0:00:0"] {
         assert!(text.contains(words), "{text:?}");
     }
-    // The line is gone at the end.
-    assert!(text.ends_with('\r'), "{text:?}");
-    let line = text.trim_end_matches('\r').rsplit('\r').next();
+    // No line is longer than 40 columns have room for.
+    let (opening, rest) = text.split_once("\r\n").expect("what is searched");
+    assert!(opening.ends_with(", quorum 62"), "{text:?}");
+    let mut lines: Vec<&str> = rest.trim_end_matches("\r\n").split('\r').collect();
+    let closing = lines.pop().expect("what there was of it");
+    assert!(lines.iter().all(|line| line.len() < 40), "{text:?}");
+    // At the end the line is gone, and another stands in its place.
+    assert!(closing.starts_with("tulfasheq: "), "{text:?}");
+    assert!(closing.contains(" steps, "), "{text:?}");
+    let line = lines.pop();
     assert!(line.is_some_and(|line| line.trim().is_empty()), "{text:?}");
+}
+
+#[test]
+fn it_is_shown_of_a_search_whose_table_goes_to_a_file() {
+    let scratch = Scratch::new();
+    let search = MIDDLE.over(&scratch);
+    let out = scratch.path("table.tsv");
+    let mut words = search.words();
+    words.extend(["--out", word(&out)]);
+    if let Some(text) = seen(&words, |_| {}) {
+        assert!(text.contains(" %, "), "{text:?}");
+    }
 }
 
 #[test]
@@ -112,7 +132,8 @@ fn what_is_said_at_a_stop_stands_on_a_line_of_its_own() {
         return;
     };
     let said = format!(
-        "\rtulfasheq: stopped, and saved: tulfasheq resume {} goes on with it\r\n",
+        "\rtulfasheq: SIGTERM: stopping, and saving\r\ntulfasheq: stopped, and saved: {} resume {} goes on with it\r\n",
+        word(Path::new(program().get_program())),
         word(&folder)
     );
     assert!(text.ends_with(&said), "{text:?}");

@@ -18,9 +18,12 @@ pub const LOCK: &[u8] = b"tulfasheq: locked by the program that works on this jo
 
 pub const SIGHUP: i32 = 1;
 pub const SIGINT: i32 = 2;
+pub const SIGUSR1: i32 = 10;
+pub const SIGUSR2: i32 = 12;
 pub const SIGTERM: i32 = 15;
 pub const SIGCONT: i32 = 18;
 pub const SIGSTOP: i32 = 19;
+pub const SIGXCPU: i32 = 24;
 
 /// A search over random sequences, the same in every run.
 #[derive(Clone, Copy)]
@@ -50,7 +53,7 @@ pub const MIDDLE: Kind = Kind {
     quorum: "62",
 };
 
-/// Some milliseconds, but three legs.
+/// Some milliseconds, but several saves.
 pub const SHORT: Kind = Kind {
     seed: 3,
     sequences: 16,
@@ -144,7 +147,7 @@ pub fn start_as(mut command: Command, words: &[&str]) -> Child {
     // which may be.
     unsafe {
         command.pre_exec(|| {
-            for number in [SIGHUP, SIGINT, SIGTERM] {
+            for number in [SIGHUP, SIGINT, SIGUSR1, SIGUSR2, SIGTERM, SIGXCPU] {
                 set_handler(number, DEFAULT);
             }
             Ok(())

@@ -75,10 +75,22 @@ impl Ran {
     /// What a run that went well printed. It may have warned of its sequences.
     pub fn printed(self) -> Vec<u8> {
         assert_eq!(self.status, Some(0), "{}", self.err);
-        let warned = |line: &str| WARNINGS.iter().any(|words| line.contains(words));
-        let said: Vec<&str> = self.err.lines().filter(|line| !warned(line)).collect();
-        assert!(said.is_empty(), "said although all is well: {}", self.err);
+        assert_eq!(self.complaints(), "", "said although all is well");
         self.out
+    }
+
+    /// What was said, but for the lines in which a search tells what it
+    /// searches and what there was of it, and for warnings of its sequences.
+    pub fn complaints(&self) -> String {
+        let told = |line: &str, words: &[&str]| {
+            line.starts_with("tulfasheq: ") && words.iter().all(|word| line.contains(word))
+        };
+        self.err
+            .lines()
+            .filter(|line| !told(line, &[" sequence", " letter", ", quorum "]))
+            .filter(|line| !told(line, &[" row", " step"]))
+            .filter(|line| !WARNINGS.iter().any(|words| told(line, &[words])))
+            .collect()
     }
 
     /// What a run that ended with a status said; it printed nothing.

@@ -1,0 +1,296 @@
+//! A search that runs: call by call of the library, the rows gathered, and
+//! handed on every quarter of a second.
+
+use crate::counted;
+use crate::failure::{Answer, Failure};
+use crate::job::Job;
+use crate::legs::{self, Search};
+use crate::out::Out;
+use crate::progress::{self, Progress};
+use crate::refusals;
+use crate::say;
+use crate::search::how;
+use crate::sequences::Sequences;
+use crate::signals::Asking;
+use crate::table::{self, End, Searched};
+use crate::template::Template;
+use std::time::{Duration, Instant};
+
+/// How often rows are handed on: written out, or saved.
+const EVERY: Duration = Duration::from_millis(250);
+
+/// The calls of a run after each of which they are: what is there is soon
+/// there, and a job that is killed soon after its start has got on.
+const SOON: u64 = 3;
+
+/// Bytes of lines that are handed on at once.
+const LARGE: usize = 16 * 1024 * 1024;
+
+/// How long a stop waits for a call that is under way.
+const PATIENCE: Duration = Duration::from_millis(150);
+
+/// A search on its way, and the lines that are not handed on yet.
+pub struct Run {
+    pub search: Search,
+    searched: Searched,
+    pub lines: Vec<u8>,
+    pub ended: bool,
+    /// Calls that ended.
+    calls: u64,
+    handed_on: Instant,
+    progress: Progress,
+    quiet: bool,
+}
+
+impl Run {
+    /// A search that begins or goes on. What is searched is said first.
+    pub fn new(search: Search, searched: Searched, quiet: bool, progress: Progress) -> Run {
+        if !quiet {
+            say::say(&opening(&searched, search.steps, search.rows));
+        }
+        Run {
+            search,
+            searched,
+            lines: Vec::new(),
+            ended: false,
+            calls: 0,
+            handed_on: Instant::now(),
+            progress,
+            quiet,
+        }
+    }
+
+    /// Makes a call, and gathers its lines, the last one too where the search
+    /// has ended.
+    pub fn call(
+        &mut self,
+        sequences: &Sequences,
+        template: &Template,
+        stop: &mut Stop,
+    ) -> Answer<()> {
+        // A first one is waited for, so that a job gets on however often it is
+        // stopped.
+        let first = self.calls == 0;
+        let Some(rows) = self
+            .search
+            .call(|| stop.waits(&mut self.progress) || first)?
+        else {
+            return Ok(());
+        };
+        table::rows(
+            template,
+            rows.motifs,
+            rows.supports,
+            rows.weights,
+            &mut self.lines,
+        );
+        self.calls += 1;
+        self.ended = rows.ended;
+        if self.ended {
+            let end = End {
+                steps: self.search.steps,
+                rows: self.search.rows,
+                searched: Some(self.searched.clone()),
+            };
+            self.lines.extend_from_slice(format!("{end}\n").as_bytes());
+        }
+        if self.progress.due() && !stop.asked(&mut self.progress) {
+            let (letters, number) = legs::restored(sequences, &self.search.saved)
+                .map_err(|refusal| refusals::of_save(refusal, "the search"))?
+                .next;
+            let share = template.share(letters, number);
+            self.progress.show(&how_far(share, self.search.rows));
+        }
+        Ok(())
+    }
+
+    /// Whether the lines are to be handed on.
+    pub fn due(&self) -> bool {
+        self.ended
+            || self.calls <= SOON
+            || self.lines.len() >= LARGE
+            || self.handed_on.elapsed() >= EVERY
+    }
+
+    /// The lines were handed on.
+    pub fn was_handed_on(&mut self) {
+        self.lines.clear();
+        self.handed_on = Instant::now();
+    }
+
+    /// Says what there was of it, at its end.
+    pub fn close(self) {
+        let (rows, steps) = (self.search.rows, self.search.steps);
+        let (quiet, time) = (self.quiet, self.progress.time());
+        // The line that tells how far it is goes.
+        drop(self);
+        if !quiet {
+            say::say(&closing(rows, steps, time));
+        }
+    }
+}
+
+/// A stop that a signal asks for.
+#[derive(Default)]
+pub struct Stop<'a> {
+    asking: Option<&'a Asking>,
+    heard: Option<Instant>,
+}
+
+impl Stop<'_> {
+    /// Whether one was asked for: which is said at once, and once.
+    fn asked(&mut self, progress: &mut Progress) -> bool {
+        let name = self.asking.and_then(Asking::asked);
+        if let (Some(name), None) = (name, self.heard) {
+            progress.clear();
+            say::say(&format!("tulfasheq: {name}: stopping, and saving"));
+            self.heard = Some(Instant::now());
+        }
+        self.heard.is_some()
+    }
+
+    /// Whether a call that is under way is waited for.
+    fn waits(&mut self, progress: &mut Progress) -> bool {
+        !self.asked(progress) || self.heard.is_some_and(|heard| heard.elapsed() < PATIENCE)
+    }
+}
+
+/// Runs a job's search until it has ended, or until a signal has come.
+pub fn run(job: &mut Job, asking: &Asking, out: &Out, quiet: bool) -> Answer<()> {
+    let about = &job.about;
+    let search = Search::new(
+        &about.sequences,
+        &about.template,
+        about.saved().to_vec(),
+        about.steps(),
+        about.rows(),
+    )?;
+    let searched = Searched::of(&about.sequences, &about.template, about.quorum);
+    let progress = Progress::after(about.time(), quiet);
+    let mut run = Run::new(search, searched, quiet, progress);
+    let mut stop = Stop {
+        asking: Some(asking),
+        heard: None,
+    };
+    loop {
+        run.call(&job.about.sequences, &job.about.template, &mut stop)?;
+        let stopped = stop.asked(&mut run.progress);
+        if stopped || run.due() {
+            save(job, &run, out)?;
+            run.was_handed_on();
+        }
+        if run.ended {
+            run.close();
+            return Ok(());
+        }
+        if stopped {
+            return Err(Failure::stopped(format!(
+                "stopped, and saved: {} goes on with it",
+                how(&job.about, out)
+            )));
+        }
+    }
+}
+
+/// Saves a job as far as its search has come.
+fn save(job: &mut Job, run: &Run, out: &Out) -> Answer<()> {
+    let search = &run.search;
+    let time = run.progress.time();
+    job.keep(&run.lines, search.steps, search.rows, time, &search.saved)
+        .map_err(|failure| {
+            failure.and(format!(
+                "The search is kept as it was last saved: {} goes on with it.",
+                how(&job.about, out)
+            ))
+        })
+}
+
+/// What is searched, and the rows so far of a search that goes on.
+fn opening(of: &Searched, steps: u64, rows: u64) -> String {
+    let so_far = if steps > 0 {
+        format!(", {} so far", counted::of(rows, "row"))
+    } else {
+        String::new()
+    };
+    format!(
+        "tulfasheq: {}, {}, quorum {}{so_far}",
+        counted::of(of.sequences, "sequence"),
+        counted::of(of.letters, "letter"),
+        counted::grouped(of.quorum)
+    )
+}
+
+/// What there was of a search, and how long it took.
+fn closing(rows: u64, steps: u64, time: Duration) -> String {
+    format!(
+        "tulfasheq: {}, {}, {}",
+        counted::of(rows, "row"),
+        counted::of(steps, "step"),
+        progress::spent(time)
+    )
+}
+
+/// The share of letter order that is done, and the rows so far.
+fn how_far(share: f64, rows: u64) -> String {
+    let share = (share * 10_000.0).floor() / 100.0;
+    let plural = if rows == 1 { "" } else { "s" };
+    format!("{share:.2} %, {} row{plural}", counted::short(rows))
+}
+
+#[cfg(test)]
+mod tests {
+    use super::{closing, how_far, opening};
+    use crate::progress::line;
+    use crate::sum::Sum;
+    use crate::table::Searched;
+    use std::time::Duration;
+
+    #[test]
+    fn what_is_searched_is_told() {
+        let mut of = Searched {
+            template: "NN".to_string(),
+            mixed: "no".to_string(),
+            quorum: 1,
+            sequences: 1,
+            letters: 1,
+            sum: Sum::NONE,
+        };
+        assert_eq!(
+            opening(&of, 0, 0),
+            "tulfasheq: 1 sequence, 1 letter, quorum 1"
+        );
+        (of.sequences, of.letters, of.quorum) = (1_024, 65_536, 1_000);
+        assert_eq!(
+            opening(&of, 1, 0),
+            "tulfasheq: 1,024 sequences, 65,536 letters, quorum 1,000, 0 rows so far"
+        );
+    }
+
+    #[test]
+    fn what_there_was_is_told_with_its_time() {
+        let told = |millis| closing(1, 700, Duration::from_millis(millis));
+        assert_eq!(told(149), "tulfasheq: 1 row, 700 steps, 0.1 s");
+        assert_eq!(told(59_940), "tulfasheq: 1 row, 700 steps, 59.9 s");
+        assert_eq!(told(59_990), "tulfasheq: 1 row, 700 steps, 59.9 s");
+        assert_eq!(told(60_000), "tulfasheq: 1 row, 700 steps, 0:01:00");
+    }
+
+    #[test]
+    fn how_far_it_is_fits_40_columns() {
+        let whole = |share, rows, hours: u64| {
+            let spent = Duration::from_secs(hours * 3_600 + 3_599);
+            let line = line(&how_far(share, rows), spent);
+            assert!(line.chars().count() <= 39, "{line}");
+            line
+        };
+        assert_eq!(
+            whole(0.296_999, 4_588_027, 0),
+            "29.69 %, 4,588,027 rows, 0:59:59"
+        );
+        assert_eq!(whole(0.0, 1, 0), "0.00 %, 1 row, 0:59:59");
+        // A hundred years, and as many rows as can be counted.
+        for rows in [999_999_999, 1_000_000_000, 999_999_999_999, u64::MAX] {
+            whole(0.999_999_9, rows, 876_000);
+        }
+    }
+}
