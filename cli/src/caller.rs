@@ -12,7 +12,7 @@ use std::thread;
 use std::time::Duration;
 
 /// How often who waits for a call looks around.
-const LOOK: Duration = Duration::from_millis(10);
+const LOOK: Duration = Duration::from_millis(25);
 
 /// What goes to the thread with a call, and comes back from it.
 pub struct Call {

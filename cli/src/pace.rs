@@ -1,32 +1,33 @@
 //! How much a call of the library is asked for: what takes some milliseconds
-//! at the speed of the call before, and less where what comes could be dear.
+//! at the speed of the calls before, and less where what comes could be dear.
 
 use crate::sequences::Sequences;
 use crate::template::Template;
 use std::time::Duration;
 
-/// How long a call is meant to take. A call makes its tables and the rows
-/// along its place anew, which takes 0.1 to 0.4 ms in most searches, by the
-/// letters of the set and of the place, and 1 to 2 ms where a thousand
-/// sequences have five wide gaps. That is to be little beside the rest. A stop
-/// does not wait for a call that takes longer than it is meant to (`caller`).
-const CALL: Duration = Duration::from_millis(40);
+/// How long a call is meant to take, in seconds, if its start takes little.
+const CALL: f64 = 0.010;
 
-/// What a call may take, in nanoseconds, if all of it were the dearest that the
-/// set can have. That may be several hundred times what cheap candidates take:
-/// with a smaller bound the calls of searches that are cheap throughout would
-/// be so short that what each begins with counts.
-const MOST: f64 = 10e9;
+/// A call makes its tables and the rows along its place anew: in most searches
+/// that takes 0.1 to 0.5 ms, by the letters of the set and of the place, and up
+/// to 2 ms where a thousand sequences have wide gaps. It is to be no more than
+/// one part in so many of what a call takes.
+const PARTS: f64 = 100.0;
 
-/// What the rows of a call may take of it where few are expected. Those are
-/// what is dear at most borders of a cheap stretch, and calls without them are
-/// none the shorter for it.
-const ROWS_MOST: f64 = 0.1e9;
+/// Every so many calls one is asked for a single step, to see what a start takes.
+const LOOK: u64 = 32;
 
-/// What is left, after a call, of what a dear step took: so calls grow by a
-/// quarter while a stretch is cheap that comes after a dear one, and at its end
-/// have no more than a fifth of the steps that it had.
-const FORGOTTEN: f64 = 0.8;
+/// What a call may take, in nanoseconds, if all of its steps, or all of its
+/// rows, were the dearest that the set can have: a tenth of a second for both.
+/// Only where a call would then be so short that its start counts for more than
+/// it should, it may be longer: a dear step may take several hundred times what
+/// a cheap one does. A stop does not wait for such a call (`caller`).
+const MOST: f64 = 0.05e9;
+
+/// What is left, after a call, of what a dear step took: so calls grow to twice
+/// their steps, and no faster, while a stretch is cheap that comes after a dear
+/// one.
+const LEFT: f64 = 0.5;
 
 /// The steps of a first call, before anything is known of their speed: few, since
 /// a stop waits for it, however long it takes.
@@ -47,10 +48,13 @@ pub struct Ask {
 /// The speed that calls are to have.
 pub struct Pace {
     dearest: Dearest,
-    /// The steps that the speed of the call before allows.
+    calls: u64,
+    /// The steps that the speed of the calls before allows.
     wanted: u64,
-    /// What a step took of the dearest of the long calls before, in seconds:
-    /// it is forgotten slowly, since dear stretches come back.
+    /// What a start takes, in seconds, as it was last seen.
+    start: f64,
+    /// What a step of the call before took, and one of the dear calls before.
+    cost: f64,
     dear: f64,
     /// The rows of the call before for each of its steps.
     share: f64,
@@ -60,7 +64,10 @@ impl Pace {
     pub fn new(sequences: &Sequences, template: &Template) -> Pace {
         Pace {
             dearest: Dearest::of(sequences, template),
+            calls: 0,
             wanted: FIRST,
+            start: 0.0,
+            cost: 0.0,
             dear: 0.0,
             share: 0.0,
         }
@@ -68,24 +75,40 @@ impl Pace {
 
     /// What the next call is asked for.
     pub fn ask(&self) -> Ask {
-        let most = self.dearest.most(self.share);
-        Ask {
-            steps: self.wanted.clamp(1, most.steps),
-            rows: most.rows,
+        if self.looks() {
+            return Ask { steps: 1, rows: 1 };
         }
+        let most = self.dearest.most();
+        // The steps beside which a start is little.
+        let enough = PARTS * self.start / self.cost.max(1e-9);
+        // Twice the rows that are expected in them.
+        let rows = (2.0 * self.share * enough) as u64;
+        Ask {
+            steps: self.wanted.clamp(1, most.steps.max(enough as u64)),
+            rows: most.rows.max(rows).min(ROOM),
+        }
+    }
+
+    /// Whether the next call is to see what a start takes.
+    fn looks(&self) -> bool {
+        self.calls % LOOK == 1
     }
 
     /// Heeds what a call did, and how long it took. The next one may have four
     /// times as many steps, since the speed of what comes is not known.
     pub fn heed(&mut self, asked: Ask, steps: u64, rows: u64, took: Duration) {
-        let cost = took.as_secs_f64().max(1e-9) / steps.max(1) as f64;
-        self.dear *= FORGOTTEN;
-        // What a short call begins with is most of what it takes.
-        if took >= CALL / 2 {
-            self.dear = self.dear.max(cost);
+        let (looked, took) = (self.looks(), took.as_secs_f64().max(1e-9));
+        self.calls += 1;
+        if looked {
+            self.start = took;
+            return;
         }
-        let wanted = (CALL.as_secs_f64() / cost.max(self.dear)).round();
-        self.wanted = (wanted as u64).clamp(1, asked.steps.saturating_mul(4));
+        // Of a short call the start is most, and may have been longer.
+        let worked = (took - self.start).max(took / 10.0);
+        self.cost = worked / steps.max(1) as f64;
+        self.dear = self.cost.max(LEFT * self.dear);
+        let call = CALL.max(PARTS * self.start);
+        self.wanted = ((call / self.dear).round() as u64).clamp(1, asked.steps.saturating_mul(4));
         self.share = rows as f64 / steps.max(1) as f64;
     }
 }
@@ -96,9 +119,8 @@ impl Pace {
 /// A candidate is an AND over the words of all sequences. One that is held and
 /// ends a component has the gap behind it opened; since such a one has four
 /// longer ones at least, no more than one in four does. A row adds up counts,
-/// one for each place where its last component may stand. The counts are made
-/// anew for the first row of each prefix before the last component, and below
-/// such a prefix are four candidates at least for each letter of it.
+/// one for each place where its last component may stand, and the counts are
+/// made anew for the first row of each prefix before the last component.
 ///
 /// The numbers were measured on sets of 65,536 letters, as one sequence, as 64
 /// and as 1,024, of one letter and of four. On a machine that is half as fast
@@ -108,8 +130,6 @@ struct Dearest {
     step: f64,
     add: f64,
     count: f64,
-    /// The least candidates for which counts are made once.
-    share_counts: f64,
 }
 
 impl Dearest {
@@ -133,24 +153,14 @@ impl Dearest {
             step: 50.0 + 3.5 * words + opened / 4.0,
             add: 50.0 + 0.9 * ends,
             count: 50.0 + 1.5 * letters * gaps().count() as f64 + 0.5 * count * span as f64,
-            share_counts: 4.0 * last.map_or(1.0, |last| last.length as f64),
         }
     }
 
-    /// The most that a call may be asked for, where there are so many rows for
-    /// each step: either many steps and few rows, or fewer steps, all of which
-    /// may be rows. What is expected to get further is taken.
-    fn most(&self, share: f64) -> Ask {
-        let steps = (MOST - ROWS_MOST) / self.step;
-        let few = ROWS_MOST / (self.add + self.count);
-        let any = MOST / (self.step + self.add + self.count / self.share_counts);
-        let (steps, rows) = if any > steps.min(few / share) {
-            (any, any)
-        } else {
-            (steps, few)
-        };
+    /// The most that a call may be asked for.
+    fn most(&self) -> Ask {
+        let rows = MOST / (self.add + self.count);
         Ask {
-            steps: (steps as u64).max(1),
+            steps: ((MOST / self.step) as u64).max(1),
             rows: (rows as u64).clamp(1, ROOM),
         }
     }
@@ -167,106 +177,97 @@ fn most_frequent(letters: &[u8]) -> usize {
 
 #[cfg(test)]
 mod tests {
-    use super::{Ask, Pace, CALL, FIRST, MOST, ROOM};
+    use super::{Ask, Pace, CALL, FIRST, LOOK, MOST, PARTS, ROOM};
     use crate::sequences::Sequences;
     use crate::template::Template;
     use std::time::Duration;
 
-    fn pace(file: String, template: &str, mixed: Option<&str>) -> Pace {
+    fn pace(file: String, template: &str) -> Pace {
         let sequences = Sequences::new("a.fa".to_string(), file.into_bytes()).expect("sequences");
-        Pace::new(&sequences, &Template::read(template, mixed).expect("one"))
+        Pace::new(&sequences, &Template::read(template, None).expect("one"))
     }
 
     /// Over a short set, of which no call is too long.
     fn short() -> Pace {
-        pace(">a\nACGT\n".to_string(), "NN[0,3]N", None)
+        pace(">a\nACGT\n".to_string(), "NN[0,3]N")
     }
 
     /// Over as many letters as there can be.
-    fn full(template: &str) -> Pace {
-        pace(format!(">a\n{}\n", "ACGT".repeat(16_384)), template, None)
+    fn full() -> Pace {
+        let template = "NN[0,40]NN[0,40]NN[0,40]NN[0,40]NN[200,255]NNN";
+        pace(format!(">a\n{}\n", "ACGT".repeat(16_384)), template)
     }
 
-    /// What is asked for after a call of 1,000 steps.
-    fn after(mut pace: Pace, rows: u64, took: Duration) -> Ask {
-        let steps = 1_000;
-        pace.heed(Ask { steps, rows: ROOM }, steps, rows, took);
-        pace.ask()
-    }
-
-    #[test]
-    fn a_call_follows_the_clock() {
-        assert_eq!(short().ask().steps, FIRST);
-        for (took, steps) in [
-            (CALL, 1_000),
-            (CALL * 2, 500),
-            (CALL / 2, 2_000),
-            (CALL / 100, 4_000),
-            (Duration::ZERO, 4_000),
-            (CALL * 100_000, 1),
-        ] {
-            assert_eq!(after(short(), 0, took).steps, steps, "{took:?}");
-        }
-        let mut pace = short();
-        for _ in 0..100 {
-            pace.heed(pace.ask(), u64::MAX, 0, Duration::ZERO);
-        }
-        assert!(pace.ask().steps > 1_000_000, "{:?}", pace.ask());
-        pace.heed(pace.ask(), 0, 0, CALL);
-        assert_eq!(pace.ask().steps, 1, "it gets on");
-    }
-
-    #[test]
-    fn after_a_dear_call_cheap_ones_grow_by_a_quarter() {
-        let mut pace = short();
-        let ask = |steps| Ask { steps, rows: ROOM };
-        pace.heed(ask(8_000), 8_000, 0, CALL);
-        for steps in [10_000, 12_500, 15_625] {
-            pace.heed(ask(8_000), 8_000, 0, CALL / 1_000);
-            assert_eq!(pace.ask().steps, steps);
-        }
-        for _ in 0..100 {
+    /// Calls that take so many seconds to start and for each step, until their
+    /// length has settled: the last that was no look at the start.
+    fn settled(pace: &mut Pace, start: f64, step: f64, share: f64) -> Ask {
+        let mut last = pace.ask();
+        for _ in 0..4 * LOOK {
             let asked = pace.ask();
-            pace.heed(asked, asked.steps, 0, CALL / 10);
+            let rows = ((asked.steps as f64 * share) as u64).min(asked.rows);
+            let steps = if rows == asked.rows && share > 0.0 {
+                (rows as f64 / share) as u64
+            } else {
+                asked.steps
+            };
+            let took = Duration::from_secs_f64(start + step * steps as f64);
+            if !pace.looks() {
+                last = asked;
+            }
+            pace.heed(asked, steps, rows, took);
         }
-        assert!(pace.ask().steps > 1_000_000, "it is forgotten");
+        last
     }
 
     #[test]
-    fn no_call_could_take_longer_than_the_bound() {
-        for template in ["NN[0,40]NN[0,40]NN[200,255]NNN", "NNNNNNNN", "N[0,255]N"] {
-            for share in [0.0, 0.001, 0.1, 1.0] {
-                let dearest = full(template).dearest;
-                let most = dearest.most(share);
-                let (steps, rows) = (most.steps as f64, most.rows as f64);
-                let counts = rows.min(steps / dearest.share_counts);
-                let took = steps * dearest.step + rows * dearest.add + counts * dearest.count;
-                assert!(took <= MOST * 1.01, "{template}, {share}: {took}");
-                assert!(took >= MOST / 5.0, "{template}, {share}: {took}");
+    fn a_call_takes_some_ten_milliseconds() {
+        assert_eq!(short().ask().steps, FIRST);
+        for step in [1e-7, 1e-6, 1e-4] {
+            let steps = settled(&mut short(), 1e-5, step, 0.0).steps as f64;
+            let call = steps * step;
+            assert!(call > 0.98 * CALL && call < 1.2 * CALL, "{step}: {call}");
+        }
+        // A step that takes longer than a call should is a call of its own.
+        assert_eq!(settled(&mut short(), 1e-5, 1.0, 0.0).steps, 1);
+    }
+
+    #[test]
+    fn a_start_is_little_of_a_call_also_where_all_could_be_dear() {
+        for start in [2e-4, 2e-3] {
+            for (step, share) in [(5e-8, 0.0), (1.5e-7, 0.001), (2e-6, 0.7), (4e-4, 1.0)] {
+                let steps = settled(&mut full(), start, step, share).steps as f64;
+                let part = start / (steps * step);
+                assert!(part < 1.05 / PARTS, "{start}, {step}: {part}");
             }
         }
     }
 
     #[test]
-    fn a_cheap_call_has_room_for_few_rows_and_one_of_many_rows_for_all() {
-        let mut pace = full("NN[0,40]NN[0,40]NN[0,40]NN[0,40]NN[200,255]NNN");
-        for _ in 0..100 {
-            let asked = pace.ask();
-            pace.heed(
-                asked,
-                asked.steps,
-                0,
-                Duration::from_nanos(40 * asked.steps),
-            );
+    fn all_of_a_call_could_be_the_dearest_where_starts_are_short() {
+        let mut pace = full();
+        // So cheap that the clock would allow far more.
+        let asked = settled(&mut pace, 1e-8, 1e-9, 0.0);
+        let dearest = pace.dearest;
+        let steps = asked.steps as f64 * dearest.step;
+        let rows = asked.rows as f64 * (dearest.add + dearest.count);
+        assert!(steps <= MOST && steps > 0.9 * MOST, "{steps}");
+        assert!(rows <= MOST && rows > 0.9 * MOST, "{rows}");
+    }
+
+    #[test]
+    fn calls_grow_to_twice_their_steps_after_a_dear_one() {
+        let mut pace = short();
+        pace.start = 1e-5;
+        pace.calls = 2;
+        let ask = |steps| Ask { steps, rows: ROOM };
+        pace.heed(ask(8_000), 8_000, 0, Duration::from_micros(10_010));
+        assert_eq!(pace.ask().steps, 8_000);
+        for steps in [16_000, 32_000, 64_000] {
+            pace.heed(ask(100_000), 100_000, 0, Duration::from_micros(20));
+            assert_eq!(pace.ask().steps, steps);
         }
-        let asked = pace.ask();
-        assert_eq!(asked.steps, 1_000_000);
-        assert!(asked.rows < 250, "{asked:?}");
-        // Where many candidates are rows, so many that they do not end each
-        // call.
-        let rows = asked.steps / 2;
-        pace.heed(asked, asked.steps, rows, CALL);
-        let asked = pace.ask();
-        assert!(asked.rows >= asked.steps.min(ROOM), "{asked:?}");
+        // Nor to more than four times, whatever the clock says.
+        pace.heed(ask(10), 10, 0, Duration::ZERO);
+        assert_eq!(pace.ask().steps, 40);
     }
 }
