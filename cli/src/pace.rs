@@ -100,7 +100,7 @@ impl Pace {
         let (looked, took) = (self.looks(), took.as_secs_f64().max(1e-9));
         self.calls += 1;
         if looked {
-            self.start = took;
+            self.start = (took - self.cost).max(0.0);
             return;
         }
         // Of a short call the start is most, and may have been longer.
