@@ -83,7 +83,8 @@ prove() { # NAME
     # shellcheck disable=SC2086
     ! to_be_proved || say "checking that all of the library is proved (some minutes, the first time):$(printf ' %s' $crates)"
     : >"$log"
-    { rt check "$1" 2>&1 && echo "library: all is proved"; } </dev/null | tell_proofs
+    # Behind a line end of its own, should rt's last line have none.
+    { rt check "$1" 2>&1 && printf '\nlibrary: all is proved\n'; } </dev/null | tell_proofs
     if [ "$(tail -n 1 "$log")" != "library: all is proved" ]; then
         cat "$log" >&2
         exit 1

@@ -16,7 +16,7 @@ ended 0
 printed examples/promoters.tsv
 
 begin "what is built is not built again"
-try ./tulfasheq "$@"
+try ./tulfasheq "$@" --quiet
 ended 0
 printed examples/promoters.tsv
 [ ! -s "$work/err" ] || fail "it says something"
