@@ -229,3 +229,40 @@ fn a_job_that_goes_on_tells_its_rows_so_far() {
     assert!(said[0].ends_with(" so far"), "{said:?}");
     whole(ran, &folder, &search.table());
 }
+
+/// What begins with A, C or G and then some stands in a short sequence alone,
+/// and what is of G and T everywhere in a long one: cheap stretches and dear
+/// ones come in turns. Gaps are as wide as can be.
+#[test]
+fn saves_come_often_also_where_cheap_stretches_end() {
+    let scratch = Scratch::new();
+    let mut random = Random::new(37);
+    let mut of = |letters: &[u8], count: u64| -> Vec<u8> {
+        let letter = |_| letters[random.below(letters.len() as u64) as usize];
+        (0..count).map(letter).collect()
+    };
+    let sequences = [of(b"ACG", 400), of(b"GT", 65_000)];
+    let file = scratch.file("in-turns.fa", fasta(&sequences));
+    let folder = scratch.path("job");
+    let template = "NNNN[0,255]NN[0,255]NN[0,255]NN[0,255]NN[0,255]N";
+    let child = start(&["search", template, "1", word(&file), "--job", word(&folder)]);
+    let (mut saves, mut steps, mut longest) = (0, None, Duration::ZERO);
+    let mut last = Duration::ZERO;
+    while last < Duration::from_secs(3) {
+        thread::sleep(Duration::from_millis(2));
+        let (now, found) = (taken(&child), state_value(&folder, "steps"));
+        longest = longest.max(now.saturating_sub(last));
+        if found != steps {
+            (saves, steps, last) = (saves + 1, found, now);
+        }
+        assert!(
+            longest < Duration::from_secs(1),
+            "not saved for {longest:?}"
+        );
+    }
+    signal(&child, SIGTERM);
+    let (status, said, _) = ended(child);
+    assert_eq!(status, 5, "{said}");
+    println!("{saves} saves, at most {longest:?} of processor time between two");
+    assert!(saves >= 6, "{saves} saves");
+}
