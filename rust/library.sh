@@ -8,7 +8,7 @@
 # Its verdict of the archive says so: `cache=trusted`. The verdict of the crate is the check's, and stays in its log.
 # Where the kit lies otherwise, or its prover does not take that, the crate is proved once more.
 #
-# On x86-64 that archive is the one. On another processor it cannot be linked, and x86-64 programs run under an emulator, whose times
+# On x86-64 that archive is the one, its functions aligned. On another processor it cannot be linked, and x86-64 programs run under an emulator, whose times
 # say nothing. So there the same module is compiled once more, for the processor at hand: by the kit's own compiler, at the same call,
 # with the same words but for the target. (The module names an x86-64 processor to tune for, which the other back end does not know and
 # leaves aside.) What is tested and measured is then the proved crate's module through the same compiler, with another back end.
@@ -168,11 +168,23 @@ over_checked || {
 }
 cp -p "$work/log"/* target/log
 
+# Has each function of an archive begin at a multiple of 64 bytes. Where it begins hangs else on what a program has before it, and
+# with that how fast its loops are: up to 12 in 100 were seen. No byte of a function changes. Without objcopy all stays as it is.
+align() { # ARCHIVE
+    command -v objcopy >/dev/null 2>&1 && command -v objdump >/dev/null 2>&1 || return 0
+    objdump -h "$1" | awk '$2 ~ /^\.text\./ { print "--set-section-alignment"; print $2 "=64" }' >"$work/sections"
+    xargs objcopy "$1" <"$work/sections"
+}
+
 if [ "$machine" = x86_64 ]; then
-    cp target/staticlib/libexports.a "$host/libtulfasheq.a"
+    cp target/staticlib/libexports.a "$work/libtulfasheq.a"
+    align "$work/libtulfasheq.a"
+    mv "$work/libtulfasheq.a" "$host/libtulfasheq.a"
     echo "target/host/libtulfasheq.a: as rt staticlib exports makes it, $how"
 else
-    "$kit/$own/toolchain/bin/llvm-ar" rcs "$host/libtulfasheq.a" "$work/host.o"
+    "$kit/$own/toolchain/bin/llvm-ar" rcs "$work/libtulfasheq.a" "$work/host.o"
+    align "$work/libtulfasheq.a"
+    mv "$work/libtulfasheq.a" "$host/libtulfasheq.a"
     echo "target/host/libtulfasheq.a: the same module as rt staticlib exports compiles, $how, for $machine"
 fi
 cp target/stamp/exports "$host/stamp"
