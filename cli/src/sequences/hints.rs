@@ -1,5 +1,6 @@
 //! What can be done with a file that is refused. None of it changes what is.
 
+use super::command::Names;
 use super::{foreign, lines, look, refused};
 use crate::counted::{grouped, of as count};
 use library::Refusal;
@@ -10,7 +11,7 @@ struct Kind {
     /// What one of them is, and what stands behind their number.
     one: &'static str,
     more: &'static str,
-    /// What can be done.
+    /// What can be done, with `FILE` and `NEW.fa` for the names in a command.
     hint: &'static str,
 }
 
@@ -88,15 +89,15 @@ const KINDS: [Kind; 10] = [
 ];
 
 /// What is told of a refused file behind the line that says why: at most two
-/// lines. `FILE` stands in them for the file.
-pub fn of(file: &[u8], refusal: Refusal) -> Option<String> {
+/// lines, with these names in their commands.
+pub fn of(file: &[u8], refusal: Refusal, names: &Names) -> Option<String> {
     match refusal.number {
         19 => {
             let text = &file[refused::first_text(file)..];
             let returns = || text.windows(2).any(|pair| pair == b"\r>");
             match foreign::of(text) {
-                Some(kind) => Some(kind.hint.to_string()),
-                None => returns().then(|| look::CONVERT.to_string()),
+                Some(kind) => Some(names.put(kind.hint)),
+                None => returns().then(|| names.put(look::CONVERT)),
             }
         }
         4 => {
@@ -115,7 +116,8 @@ pub fn of(file: &[u8], refusal: Refusal) -> Option<String> {
             // Most letters that stand for several bases are a protein's too.
             let protein = is(&SEVERAL) && PROTEIN.found(file).0 > 0;
             let kind = if protein { &PROTEIN } else { kind };
-            Some(format!("{}\n{}", kind.told(file, at), kind.hint))
+            let hint = names.put(kind.hint);
+            Some(format!("{}\n{hint}", kind.told(file, at)))
         }
         _ => None,
     }

@@ -23,7 +23,8 @@ pub struct Input {
 
 /// Reads a file whole, or standard input for `-`, and unpacks it.
 pub fn read(path: &Path) -> Answer<Input> {
-    let (called, bytes) = if path == Path::new("-") {
+    let input = path == Path::new("-");
+    let (called, bytes) = if input {
         let called = "standard input".to_string();
         let bytes = bytes_of(io::stdin().lock(), &called)?;
         (called, bytes)
@@ -42,7 +43,7 @@ pub fn read(path: &Path) -> Answer<Input> {
     Ok(Input {
         called,
         bytes,
-        plain: !packed && path.is_file(),
+        plain: !packed && !input && path.is_file(),
     })
 }
 

@@ -11,23 +11,21 @@ const TOLD: usize = 10;
 /// How the lines of a file are made to end as they should.
 pub const CONVERT: &str = "tr '\\r' '\\n' <FILE >NEW.fa makes it one that can be read.";
 
-/// Refuses a file with lines that end in byte 13 alone: the library reads such
-/// lines as a part of a name, and letters would be lost without a word.
-pub fn returns(sequences: &Sequences) -> Result<(), String> {
+/// Why a file is refused that has lines which end in byte 13 alone: the library
+/// reads such lines as a part of a name, and letters would be lost without a
+/// word.
+pub fn returns(sequences: &Sequences) -> Option<String> {
     let file = &sequences.file;
-    let within = lines::all(file)
+    let offset = lines::all(file)
         .filter(|(_, line)| lines::is_header(line))
         .find_map(|(start, line)| {
             let end = line.iter().rposition(|b| *b != b'\r')?;
             let at = line[..end].iter().position(|b| *b == b'\r')?;
             Some(start + at)
-        });
-    let Some(offset) = within else {
-        return Ok(());
-    };
+        })?;
     let (line, column) = lines::place(file, offset);
-    Err(format!(
-        "{}:{line}:{column}: byte 13 within a name: lines that end in byte 13 alone are not read as lines\n{CONVERT}",
+    Some(format!(
+        "{}:{line}:{column}: byte 13 within a name: lines that end in byte 13 alone are not read as lines",
         sequences.called
     ))
 }

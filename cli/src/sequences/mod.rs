@@ -1,6 +1,7 @@
 //! The sequences of a FASTA file, read by the library, with each record's
 //! name, and where a byte stands that it refuses.
 
+mod command;
 mod foreign;
 mod gzip;
 mod hints;
@@ -11,8 +12,9 @@ mod refused;
 
 use crate::counted::of;
 use crate::failure::{Answer, Failure};
-use crate::say::{quoted, say};
+use crate::say::say;
 use crate::sum::Sum;
+use command::Names;
 pub use input::MOST_BYTES;
 use library::{Reader, Refusal};
 use std::ops::Range;
@@ -38,13 +40,15 @@ pub struct Sequences {
 /// may not be what the user takes it for is told on standard error.
 pub fn read(path: &Path, upper: bool) -> Answer<Sequences> {
     let input = input::read(path)?;
-    let pasted = |hint: String| pasted(&hint, path, input.plain);
+    let names = || Names::of(path, input.plain);
     let (called, mut bytes) = (input.called, input.bytes);
     let raised = if upper { lines::raise(&mut bytes) } else { 0 };
     let sequences = Sequences::made(called, bytes, |file, refusal| {
-        hints::of(file, refusal).map(pasted)
+        hints::of(file, refusal, &names())
     })?;
-    look::returns(&sequences).map_err(|words| Failure::refused(pasted(words)))?;
+    if let Some(words) = look::returns(&sequences) {
+        return Err(Failure::refused(words).and(names().put(look::CONVERT)));
+    }
     let called = &sequences.called;
     if raised > 0 {
         say(&format!(
@@ -58,21 +62,6 @@ pub fn read(path: &Path, upper: bool) -> Answer<Sequences> {
         say(&format!("tulfasheq: {called}: {warning}"));
     }
     Ok(sequences)
-}
-
-/// A hint with the file's own name for `FILE`, where a command can read the
-/// file as it is; and never with a command that would write to it.
-fn pasted(hint: &str, path: &Path, plain: bool) -> String {
-    if !plain {
-        return hint.to_string();
-    }
-    let new = Path::new("NEW.fa");
-    let other = if path.ends_with(new) {
-        "NEWER.fa"
-    } else {
-        "NEW.fa"
-    };
-    hint.replace("NEW.fa", other).replace("FILE", &quoted(path))
 }
 
 impl Sequences {

@@ -3,6 +3,7 @@
 use crate::common::{fasta, Random, Scratch};
 use crate::{pasted, refused, searched};
 use std::fs;
+use std::os::unix::fs::symlink;
 
 #[test]
 fn upper_takes_a_soft_masked_file_as_the_same_in_upper_case() {
@@ -188,9 +189,47 @@ fn letters_that_no_search_takes_are_told_with_what_can_be_done() {
 }
 
 #[test]
-fn a_command_never_writes_to_the_file_that_it_reads() {
-    let said = refused("NEW.fa", b">a\nACU\n", 3);
-    assert!(said.contains(" NEW.fa >NEWER.fa "), "{said}");
-    let said = refused("NEWER.fa", b">a\nACU\n", 3);
-    assert!(said.contains(" NEWER.fa >NEW.fa "), "{said}");
+fn a_command_never_writes_over_a_file_that_is_there() {
+    let told = |scratch: &Scratch, file: &str| {
+        let words = ["search", "N", "1", file];
+        crate::within::said(scratch, &words, 3)
+    };
+    let scratch = Scratch::new();
+    scratch.file("NEW.fa", b">a\nACU\n");
+    let said = told(&scratch, "NEW.fa");
+    assert!(said.contains(" NEW.fa >NEW-2.fa "), "{said}");
+    scratch.file("NEW-2.fa", b">a\nACU\n");
+    let said = told(&scratch, "NEW-2.fa");
+    assert!(said.contains(" NEW-2.fa >NEW-3.fa "), "{said}");
+    // Links too, also to what is not there; and where the file is no plain one.
+    symlink("NEW.fa", scratch.path("x.fa")).expect("a link");
+    symlink("none", scratch.path("NEW-3.fa")).expect("a link");
+    let said = told(&scratch, "x.fa");
+    assert!(said.contains(" x.fa >NEW-4.fa "), "{said}");
+    pasted(&scratch, "gzip -k NEW.fa");
+    let said = told(&scratch, "NEW.fa.gz");
+    assert!(said.contains(" FILE >NEW-4.fa "), "{said}");
+}
+
+#[test]
+fn names_of_files_and_records_stand_as_they_are_beside_a_command() {
+    assert_eq!(
+        refused("MYFILE.fa", b">a\rACGT\r", 3),
+        "MYFILE.fa:1:3: byte 13 within a name: lines that end in byte 13 alone are not read as lines\ntr '\\r' '\\n' <MYFILE.fa >NEW.fa makes it one that can be read.\n"
+    );
+    let said = refused("r.fa", b">FILE7\nACU\n", 3);
+    assert!(said.contains("\nIt is in record 1 (FILE7). "), "{said}");
+    let said = refused("r.fa", b">NEW.fa\nACU\n", 3);
+    assert!(said.contains("\nIt is in record 1 (NEW.fa). "), "{said}");
+    assert!(said.contains(" r.fa >NEW.fa "), "{said}");
+}
+
+#[test]
+fn a_file_called_as_standard_input_is_another_one() {
+    let scratch = Scratch::new();
+    scratch.file("-", b">a\nACU\n");
+    let mut search = crate::within::within(&scratch, &["search", "N", "1", "-"]);
+    let file = fs::File::open(scratch.path("-")).expect("a file");
+    let said = crate::within::ran(search.stdin(file)).said(3);
+    assert!(said.contains(" FILE >NEW.fa "), "{said}");
 }
