@@ -71,10 +71,14 @@ pub fn unpacked(packed: Vec<u8>, called: &str) -> Answer<Vec<u8>> {
         return Ok(bytes);
     }
     let errors = errors.recv_timeout(GRACE).unwrap_or(Ok(Vec::new()));
-    Err(Failure::broken(format!(
-        "{called}: gzip cannot unpack it: {}",
-        why(status, &errors.unwrap_or_default())
-    )))
+    let why = why(status, &errors.unwrap_or_default());
+    // What was unpacked may be all of it, or a part that was joined wrongly.
+    let what = if why.contains("trailing garbage") {
+        "there is something behind the packed data, and gzip says"
+    } else {
+        "gzip cannot unpack it"
+    };
+    Err(Failure::broken(format!("{called}: {what}: {why}")))
 }
 
 /// Reads a pipe in a thread, to its end or up to so many bytes, which come in

@@ -161,7 +161,12 @@ fn a_packed_file_that_is_damaged_is_told_in_gzip_s_words() {
     }
     // Something behind it: gzip warns, and who knows what is missing.
     let scratch = folder(&[&packed[..], b"garbage"].concat());
-    refused(&scratch, ran(&mut search(&scratch)), 4);
+    let said = refused(&scratch, ran(&mut search(&scratch)), 4);
+    let begins = "tulfasheq: a.fa.gz: there is something behind the packed data, and gzip says: ";
+    assert!(
+        said.starts_with(begins) && said.len() > begins.len() + 5,
+        "{said}"
+    );
 }
 
 #[test]
