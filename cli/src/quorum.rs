@@ -71,6 +71,9 @@ fn hint(text: &str) -> Option<String> {
     if let Some(written) = written(text) {
         return Some(format!("Write it {written}."));
     }
+    if let Some(hint) = with_point(text) {
+        return Some(hint);
+    }
     Path::new(text).is_file().then(|| {
         "This is a file: the template comes first, then the quorum, and the file last.".to_string()
     })
@@ -98,6 +101,20 @@ fn written(text: &str) -> Option<String> {
         thousands(&text)
     };
     written.filter(|written| Quorum::strict(written).is_ok())
+}
+
+/// What can be said of a number with a point that is above every part of one:
+/// it may be a number of sequences, or a share.
+fn with_point(text: &str) -> Option<String> {
+    let (whole, part) = decimal(text.trim())?;
+    let whole: u64 = whole.parse().ok().filter(|whole| *whole > 0)?;
+    let part = part.trim_end_matches('0');
+    Some(match (whole, part) {
+        (1, "") => "Write it 100%, or 1 for one sequence.".to_string(),
+        (2..=100, "") => format!("Write it {whole} for {whole} sequences, or {whole}% for a share of them."),
+        (1..=99, _) => format!("A share of the sequences is written {whole}.{part}%, and a number of them without a point."),
+        _ => "A number of sequences is written without a point.".to_string(),
+    })
 }
 
 /// The digits before and behind a point, which some write as a comma.
@@ -172,6 +189,33 @@ mod tests {
             "e", "/", "%", ".", "1,0240", "1.0",
         ] {
             assert_eq!(written(text), None, "{text}");
+        }
+    }
+
+    #[test]
+    fn a_number_with_a_point_may_be_one_or_a_share() {
+        for (text, hint) in [
+            ("1.0", "Write it 100%, or 1 for one sequence."),
+            ("1.", "Write it 100%, or 1 for one sequence."),
+            (
+                "2.0",
+                "Write it 2 for 2 sequences, or 2% for a share of them.",
+            ),
+            (
+                "1.50",
+                "A share of the sequences is written 1.5%, and a number of them without a point.",
+            ),
+            (
+                "12,5",
+                "A share of the sequences is written 12.5%, and a number of them without a point.",
+            ),
+            ("100.5", "A number of sequences is written without a point."),
+            ("101.0", "A number of sequences is written without a point."),
+        ] {
+            assert_eq!(super::hint(text).as_deref(), Some(hint), "{text}");
+        }
+        for text in ["0.0", "1.0.0", "-1.5", "1.5x", ".", ""] {
+            assert_eq!(super::hint(text), None, "{text}");
         }
     }
 

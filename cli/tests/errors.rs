@@ -211,7 +211,7 @@ fn a_quorum_is_told_with_what_is_wrong() {
     let digits = "a share has at most three digits, and nine behind its point";
     for (quorum, why, carets) in [
         ("", number, "^"),
-        ("1.5", number, "^^^"),
+        ("1.5.", number, "^^^^"),
         ("-1", number, "^^"),
         ("half", number, "^^^^"),
         ("%", share, "^"),

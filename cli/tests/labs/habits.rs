@@ -26,10 +26,9 @@ fn a_template_of_another_tool_is_told_as_it_is_written_here() {
         "nnn[0,3]nn",
         "NNN[0-3]NN",
         "NNN[0..3]NN",
-        "NNN{0,3}NN",
-        "NNN(0,3)NN",
         "NNN [0,3] NN",
         "NNN[0, 3]NN",
+        "NNN[0 3]NN",
         "NNN[00,03]NN",
         "N{3}[0,3]N{2}",
         "N3[0,3]N2",
@@ -44,11 +43,20 @@ fn a_template_of_another_tool_is_told_as_it_is_written_here() {
         );
     }
     assert_eq!(told(["NNN[3]NN", "1", "a.fa"]), "Write it NNN[3,3]NN.");
+    for template in ["NNN{0,3}NN", "NNN(0,3)NN"] {
+        assert_eq!(
+            told([template, "1", "a.fa"]),
+            "A gap of 0 to 3 letters is written [0,3].",
+            "{template}"
+        );
+    }
     for template in [
         "[0,3]NN",
         "NN[0,3]",
         "NN[3",
         "NN[,3]N",
+        "NN{2}N",
+        "N[1 0,3]N",
         "N{5000}",
         "N{99999999999999999999}",
     ] {
@@ -58,12 +66,28 @@ fn a_template_of_another_tool_is_told_as_it_is_written_here() {
 
 #[test]
 fn a_motif_in_the_place_of_a_template_is_told_as_one() {
-    for motif in ["ACG[0,3]TA", "acg[0-3]ta", "RYN{0,3}NN"] {
+    let these = "These are a motif's letters: a template has runs of N in their place";
+    let places = "Where a motif occurs is told by tulfasheq places MOTIF FILE.fa.";
+    for motif in ["ACG[0,3]TA", "acg[0-3]ta"] {
         assert_eq!(
             told([motif, "1", "a.fa"]),
-            "These are a motif's letters: a template has runs of N in their place, NNN[0,3]NN.\ntulfasheq places looks for where a motif occurs."
+            format!("{these}, NNN[0,3]NN.\n{places}")
         );
     }
+    // An N may be one of a gap here.
+    for motif in ["RYN{0,3}NN", "ACGNNNTA", "ACn[0,3]TA"] {
+        assert_eq!(told([motif, "1", "a.fa"]), format!("{these}.\n{places}"));
+    }
+    // The same words fit one who called places.
+    let scratch = Scratch::new();
+    scratch.file("a.fa", ">a\nACGT\n");
+    scratch.file("c.tsv", "motif\nACGT\n");
+    let words = ["places", "ACGT", "a.fa", "--list", "c.tsv"];
+    let told = said(&scratch, &words, 2);
+    assert!(
+        told.ends_with(&format!("{these}, NNNN.\n{places}\n")),
+        "{told}"
+    );
 }
 
 #[test]
@@ -84,7 +108,15 @@ fn a_quorum_of_another_habit_is_told_as_it_is_written_here() {
             "{quorum}"
         );
     }
-    for quorum in ["1.5", "half", "-1", "1000%", ""] {
+    assert_eq!(
+        told(["NN", "1.0", "a.fa"]),
+        "Write it 100%, or 1 for one sequence."
+    );
+    assert_eq!(
+        told(["NN", "2.0", "a.fa"]),
+        "Write it 2 for 2 sequences, or 2% for a share of them."
+    );
+    for quorum in ["half", "-1", "1000%", ""] {
         assert_eq!(told(["NN", quorum, "a.fa"]), "", "{quorum}");
     }
 }
