@@ -67,6 +67,13 @@ try env PATH="$work/bin" sh tulfasheq "$@"
 ended 0
 printed examples/promoters.tsv
 
+begin "called by a shell from its folder, how to go on can be pasted"
+try env PATH="$work/bin" sh tulfasheq "$@" --job "$work/job"
+ended 0
+try env PATH="$work/bin" sh tulfasheq "$@" --job "$work/job"
+ended 2
+said ": ./tulfasheq resume $work/job goes on with it"
+
 begin "without the kit, where it is to be built"
 mv "$mark" "$work/mark"
 try env PATH="$work/bin" sh tulfasheq "$@"

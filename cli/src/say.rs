@@ -2,7 +2,9 @@
 
 use crate::out::Out;
 use std::ffi::OsString;
-use std::io::{self, Write};
+use std::fmt::Write as _;
+use std::io::{self, Write as _};
+use std::os::unix::ffi::OsStrExt;
 use std::path::Path;
 
 /// Where ./tulfasheq, which builds and starts the program, tells as what it was
@@ -19,15 +21,47 @@ pub fn say(words: &str) {
 /// A path as a shell reads it: in quotes where it has more than plain
 /// characters.
 pub fn quoted(path: &Path) -> String {
-    let mut text = path.display().to_string();
-    if text.starts_with('-') {
-        text.insert_str(0, "./");
+    let mut bytes = path.as_os_str().as_bytes().to_vec();
+    if bytes.starts_with(b"-") {
+        bytes.splice(..0, *b"./");
     }
+    let text = match String::from_utf8(bytes) {
+        Ok(text) if !text.contains(char::is_control) => text,
+        Ok(text) => return numbered(text.as_bytes()),
+        Err(error) => return numbered(error.as_bytes()),
+    };
     let plain = |c: char| c.is_alphanumeric() || "/._-+,:@%".contains(c);
     if !text.is_empty() && text.chars().all(plain) {
         return text;
     }
     format!("'{}'", text.replace('\'', "'\\''"))
+}
+
+/// A path in the quotes that have bytes by their numbers, as bash, ksh and zsh
+/// read them. An octal number ends by itself; a hexadecimal one does not in all
+/// of them.
+fn numbered(path: &[u8]) -> String {
+    let mut text = String::from("$'");
+    for part in path.utf8_chunks() {
+        for c in part.valid().chars() {
+            match c {
+                '\'' | '\\' => text.extend(['\\', c]),
+                c if c.is_control() => number(c.to_string().as_bytes(), &mut text),
+                c => text.push(c),
+            }
+        }
+        number(part.invalid(), &mut text);
+    }
+    text.push('\'');
+    text
+}
+
+/// Writes bytes by their numbers.
+fn number(bytes: &[u8], to: &mut String) {
+    for byte in bytes {
+        // To write to memory does not fail.
+        let _ = write!(to, "\\{byte:03o}");
+    }
 }
 
 /// What the program was called as, so that it can be called so again.
@@ -66,7 +100,10 @@ fn harmless(words: &str) -> String {
 #[cfg(test)]
 mod tests {
     use super::{harmless, quoted};
+    use std::ffi::OsStr;
+    use std::os::unix::ffi::OsStrExt;
     use std::path::Path;
+    use std::process::Command;
 
     #[test]
     fn a_shell_reads_a_quoted_path_as_it_is() {
@@ -74,6 +111,35 @@ mod tests {
         assert_eq!(quoted(Path::new("my job")), "'my job'");
         assert_eq!(quoted(Path::new("it's")), "'it'\\''s'");
         assert_eq!(quoted(Path::new("--out")), "./--out");
+        assert_eq!(quoted(Path::new("Proben für Ä/1")), "'Proben für Ä/1'");
+        assert_eq!(
+            quoted(Path::new("a\tb'c\\\u{85}ä")),
+            r"$'a\011b\'c\\\302\205ä'"
+        );
+        let odd = OsStr::from_bytes(b"-a\xff1");
+        assert_eq!(quoted(Path::new(odd)), r"$'./-a\3771'");
+    }
+
+    #[test]
+    fn bash_reads_a_path_of_odd_bytes_as_it_is() {
+        for path in [
+            &b"a\tb\nc"[..],
+            b"it's\\\xff0",
+            b"\x1b[2J",
+            b"-\x7f",
+            "ä\u{9b}1".as_bytes(),
+        ] {
+            let quoted = quoted(Path::new(OsStr::from_bytes(path)));
+            assert_eq!(harmless(&quoted), quoted);
+            let mut bash = Command::new("bash");
+            let printed = bash.args(["-c", &format!("printf %s {quoted}")]).output();
+            let printed = printed.expect("bash").stdout;
+            assert_eq!(
+                printed.strip_prefix(b"./").unwrap_or(&printed),
+                path,
+                "{quoted}"
+            );
+        }
     }
 
     #[test]

@@ -7,9 +7,12 @@ use common::jobs::{
     copy, end, files, same, signal, start, until_rows, whole, Kind, Search, HEADER, LOCK, LONG,
     MIDDLE, SHORT, SIGTERM,
 };
-use common::{run, word, Scratch};
+use common::{program, run, word, Scratch};
+use std::ffi::OsStr;
 use std::fs;
+use std::os::unix::ffi::OsStrExt;
 use std::path::Path;
+use std::process::Command;
 
 /// That a run is refused with a status, and leaves a folder as it is.
 fn refused(words: &[&str], status: i32, folder: &Path) -> String {
@@ -98,6 +101,33 @@ fn a_search_does_not_begin_where_there_is_a_job() {
     }
     whole(run(&search.further(&folder)), &folder, &search.table());
     refused(&other.in_job(&folder), 2, &folder);
+}
+
+#[test]
+fn how_to_go_on_with_a_job_that_is_there_can_be_pasted() {
+    let scratch = Scratch::new();
+    let search = SHORT.over(&scratch);
+    let odd = OsStr::from_bytes(b"it's\ta\njob\xff");
+    for name in [OsStr::new("my job"), odd] {
+        let begin = || {
+            let mut program = program();
+            program.current_dir(scratch.path(""));
+            let begun = program.args(search.words()).arg("--job").arg(name).output();
+            begun.expect("the program starts")
+        };
+        assert_eq!(begin().status.code(), Some(0));
+        let again = begin();
+        assert_eq!(again.status.code(), Some(2));
+        let said = String::from_utf8(again.stderr).expect("text");
+        let command = said.split(" holds a search already: ").nth(1);
+        let command = command.and_then(|told| told.strip_suffix(" goes on with it\n"));
+        let pasted = Command::new("bash")
+            .args(["-c", command.expect("a command")])
+            .current_dir(scratch.path(""))
+            .output()
+            .expect("bash");
+        assert!(pasted.stdout == search.table(), "{said}");
+    }
 }
 
 #[test]

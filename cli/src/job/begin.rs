@@ -4,6 +4,7 @@ use super::lock::{self, Ours};
 use super::{disk, LOCK, NEW, ROWS, SEQUENCES, STATE};
 use crate::failure::{Answer, Failure};
 use crate::folder::Folder;
+use crate::out::Out;
 use crate::say;
 use crate::table;
 use std::fs;
@@ -21,8 +22,8 @@ pub fn may_begin(folder: &Folder) -> Answer<()> {
     }
     if names.iter().any(|name| name == STATE) {
         return Err(Failure::usage(format!(
-            "{called} holds a search already: tulfasheq resume {} goes on with it",
-            say::quoted(&folder.path)
+            "{called} holds a search already: {} goes on with it",
+            say::again(&folder.path, &Out::default())
         )));
     }
     // The lock is made before all others, and these only after it says so.
