@@ -20,7 +20,7 @@ const SEVERAL: Kind = Kind {
     // X is written for masked letters.
     bytes: b"RYSWKMBDHVNXryswkmbdhvnx",
     one: "letter",
-    more: " such as N, that stands for several bases",
+    more: " for several bases, such as N",
     hint: "Leave such records out, or cut them there: sequences are of A, C, G and T alone, and only motifs may have others (--mixed).",
 };
 

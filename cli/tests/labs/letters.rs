@@ -85,14 +85,14 @@ fn letters_that_no_search_takes_are_told_with_what_can_be_done() {
             vec![
                 "2:1: 'a' is no letter: letters are upper case (refusal 4)",
                 "The file has 2 lower-case letters, in its one record. --upper takes them as upper-case ones.",
-                "The file has 2 letters such as N, that stands for several bases, in its one record.",
+                "The file has 2 letters for several bases, such as N, in its one record.",
             ],
         ),
         (
             b">a\nAC\n>b NN\nAN\nNnr\n>c\nR\n",
             vec![
                 "4:2: 'N' is no letter (refusal 4)",
-                "It is in record 2 (b). The file has 5 letters such as N, that stands for several bases, in 2 of its 3 records.",
+                "It is in record 2 (b). The file has 5 letters for several bases, such as N, in 2 of its 3 records.",
                 several,
             ],
         ),
@@ -100,7 +100,7 @@ fn letters_that_no_search_takes_are_told_with_what_can_be_done() {
             b">\nAX\n",
             vec![
                 "2:2: 'X' is no letter (refusal 4)",
-                "It is in record 1. The file has 1 letter such as N, that stands for several bases, in its one record.",
+                "It is in record 1. The file has 1 letter for several bases, such as N, in its one record.",
                 several,
             ],
         ),
