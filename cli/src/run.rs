@@ -12,6 +12,7 @@ use crate::say;
 use crate::search::how;
 use crate::sequences::Sequences;
 use crate::signals::Asking;
+use crate::sum::Words;
 use crate::table::{self, End, Searched};
 use crate::template::Template;
 use std::time::{Duration, Instant};
@@ -34,6 +35,8 @@ pub struct Run {
     pub search: Search,
     searched: Searched,
     pub lines: Vec<u8>,
+    /// The sum of the table so far, these lines too.
+    sum: Words,
     pub ended: bool,
     /// Calls that ended.
     calls: u64,
@@ -43,8 +46,15 @@ pub struct Run {
 }
 
 impl Run {
-    /// A search that begins or goes on. What is searched is said first.
-    pub fn new(search: Search, searched: Searched, quiet: bool, progress: Progress) -> Run {
+    /// A search that begins or goes on, and the sum of its table so far. What
+    /// is searched is said first.
+    pub fn new(
+        search: Search,
+        searched: Searched,
+        sum: Words,
+        quiet: bool,
+        progress: Progress,
+    ) -> Run {
         if !quiet {
             say::say(&opening(&searched, search.steps, search.rows));
         }
@@ -52,6 +62,7 @@ impl Run {
             search,
             searched,
             lines: Vec::new(),
+            sum,
             ended: false,
             calls: 0,
             handed_on: Instant::now(),
@@ -77,6 +88,7 @@ impl Run {
         else {
             return Ok(());
         };
+        let before = self.lines.len();
         table::rows(
             template,
             rows.motifs,
@@ -84,6 +96,7 @@ impl Run {
             rows.weights,
             &mut self.lines,
         );
+        self.sum.and(&self.lines[before..]);
         self.calls += 1;
         self.ended = rows.ended;
         if self.ended {
@@ -91,6 +104,7 @@ impl Run {
                 steps: self.search.steps,
                 rows: self.search.rows,
                 searched: Some(self.searched.clone()),
+                table: Some(self.sum.sum()),
             };
             self.lines.extend_from_slice(format!("{end}\n").as_bytes());
         }
@@ -167,7 +181,7 @@ pub fn run(job: &mut Job, asking: &Asking, out: &Out, quiet: bool) -> Answer<()>
     )?;
     let searched = Searched::of(&about.sequences, &about.template, about.quorum);
     let progress = Progress::after(about.time(), quiet);
-    let mut run = Run::new(search, searched, quiet, progress);
+    let mut run = Run::new(search, searched, about.sum().clone(), quiet, progress);
     let mut stop = Stop {
         asking: Some(asking),
         heard: None,

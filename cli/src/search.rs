@@ -12,6 +12,7 @@ use crate::run::{run, Run, Stop};
 use crate::say;
 use crate::sequences::{self, Sequences};
 use crate::signals::Asking;
+use crate::sum::Words;
 use crate::table::{self, Searched};
 use crate::template::Template;
 use library::limits;
@@ -81,7 +82,9 @@ fn straight(sequences: &Sequences, asked: &Asked, quorum: u64, saved: Vec<u8>) -
     let searched = Searched::of(sequences, template, quorum);
     // Where rows come to the same terminal, they are what shows how far it is.
     let progress = Progress::new(asked.quiet || asked.out.is_terminal());
-    let mut run = Run::new(search, searched, asked.quiet, progress);
+    let mut sum = Words::none();
+    sum.and(table::HEADER.as_bytes());
+    let mut run = Run::new(search, searched, sum, asked.quiet, progress);
     loop {
         run.call(sequences, template, &mut Stop::default())?;
         if run.due() {

@@ -1,7 +1,8 @@
 //! Sums of bytes by which damage shows. They guard against accidents, not
 //! against someone who wants to deceive. The one here, FNV-1a of 64 bits, takes
-//! a byte at a time: it is that of a table's last line, and of the jobs of
-//! layout 1. `Words` is that of the jobs since.
+//! a byte at a time: it is that of the sequences in a table's last line, and of
+//! the jobs of layout 1. `Words` is that of the table there, and of the jobs
+//! since.
 
 mod words;
 

@@ -35,6 +35,9 @@ pub struct End {
     pub rows: u64,
     /// What was searched, which tables of earlier versions do not tell.
     pub searched: Option<Searched>,
+    /// The sum of the lines before this one, line ends included, by words:
+    /// where there is what was searched, there is this.
+    pub table: Option<Sum>,
 }
 
 /// What a search was of.
@@ -74,6 +77,9 @@ impl fmt::Display for End {
                 of.template, of.mixed, of.quorum, of.sequences, of.letters, of.sum
             )?;
         }
+        if let Some(table) = self.table {
+            write!(to, ", table {table}")?;
+        }
         Ok(())
     }
 }
@@ -87,6 +93,7 @@ impl End {
             steps: value("steps")?.parse().ok()?,
             rows: value("rows")?.parse().ok()?,
             searched: None,
+            table: None,
         };
         if let Some(template) = value("template") {
             end.searched = Some(Searched {
@@ -97,6 +104,7 @@ impl End {
                 letters: value("letters")?.parse().ok()?,
                 sum: Sum::read(value("sum")?)?,
             });
+            end.table = Some(Sum::read(value("table")?)?);
         }
         (end.to_string() == line).then_some(end)
     }
@@ -104,8 +112,8 @@ impl End {
 
 #[cfg(test)]
 mod tests {
-    use super::{End, Searched};
-    use crate::sum::Sum;
+    use super::{End, Searched, HEADER};
+    use crate::sum::{Sum, Words};
 
     fn end(steps: u64, rows: u64) -> End {
         let searched = Some(Searched {
@@ -120,6 +128,7 @@ mod tests {
             steps,
             rows,
             searched,
+            table: Some(Words::of(HEADER.as_bytes())),
         }
     }
 
@@ -127,7 +136,7 @@ mod tests {
     fn the_last_line_tells_what_was_searched() {
         assert_eq!(
             end(700, 88).to_string(),
-            "# end: steps 700, rows 88, template NNN[0,3]NN, mixed 1,0, quorum 13, sequences 26, letters 2626, sum a1b24650290ce18c"
+            "# end: steps 700, rows 88, template NNN[0,3]NN, mixed 1,0, quorum 13, sequences 26, letters 2626, sum a1b24650290ce18c, table b3fd65353a4a371c"
         );
         for (steps, rows) in [(0, 0), (1, 1), (1_003, 13), (u64::MAX, u64::MAX)] {
             let end = end(steps, rows);
@@ -138,7 +147,8 @@ mod tests {
     #[test]
     fn one_of_an_earlier_version_counts_the_rows() {
         let end = End::read("# end: steps 700, rows 88").expect("a last line");
-        assert_eq!((end.steps, end.rows, end.searched), (700, 88, None));
+        assert_eq!((end.steps, end.rows), (700, 88));
+        assert_eq!((end.searched, end.table), (None, None));
     }
 
     #[test]

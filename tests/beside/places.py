@@ -143,7 +143,8 @@ class Trial:
         }
         for name, value in wanted.items():
             same(f"the last line's {name}", values.get(name), str(value))
-        if not end.startswith("# end: ") or not re.fullmatch("[0-9a-f]{16}", values["sum"]):
+        sums = values["sum"] + values["table"]
+        if not end.startswith("# end: ") or not re.fullmatch("[0-9a-f]{32}", sums):
             raise Differs(f"the last line: {end}")
 
     def check_form(self, form):

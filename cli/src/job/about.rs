@@ -104,6 +104,11 @@ impl About {
         Duration::from_millis(self.state.time)
     }
 
+    /// The sum of the table so far.
+    pub fn sum(&self) -> &Words {
+        &self.sum
+    }
+
     pub fn saved(&self) -> &[u8] {
         &self.state.saved
     }

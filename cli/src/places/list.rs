@@ -4,6 +4,7 @@ use super::shape;
 use crate::counted::{grouped, of};
 use crate::failure::{Answer, Failure};
 use crate::refusals;
+use crate::sum::Words;
 use crate::table::End;
 use crate::template::{Component, Template};
 use std::fs::File;
@@ -28,6 +29,8 @@ pub struct Table {
     /// The last line, of a table that is whole: one that ends with it, and has
     /// as many rows as it says.
     pub end: Option<End>,
+    /// Whether the last line has another sum than that of its header and rows.
+    pub changed: bool,
 }
 
 /// The header of a table: how many columns there are, and which tells the
@@ -61,7 +64,9 @@ pub fn read(
         counts: counted.then(Vec::new),
         several: vec![0; template.components.len()],
         end: None,
+        changed: false,
     };
+    let mut sum = Words::none();
     let mut bytes = Vec::new();
     for number in 1u64.. {
         bytes.clear();
@@ -83,9 +88,14 @@ pub fn read(
         let line = line.strip_suffix('\n').unwrap_or(line);
         let line = line.strip_suffix('\r').unwrap_or(line);
         table.end = End::read(line).filter(|end| end.rows == table.motifs.len() as u64);
+        let told = table.end.as_ref().and_then(|end| end.table);
+        table.changed = told.is_some_and(|told| told != sum.sum());
         if line.starts_with('#') {
             continue;
         }
+        // Other line ends, and comments, leave a table what it is.
+        sum.and(line.as_bytes());
+        sum.and(b"\n");
         let mut columns = line.split('\t');
         let found = columns.clone().count();
         let first = columns.next().unwrap_or(line);

@@ -127,15 +127,19 @@ fn of_list(template: &Template, list: &Path, file: &Path, how: &How) -> Answer<(
     } else {
         String::new()
     };
-    if let Some(Some(other)) = &other {
-        say(&format!("tulfasheq: {}: note: {other}", list.display()));
+    let changed = table.changed.then(|| {
+        "it was changed since it was written: its sum does not fit, by its last line".to_string()
+    });
+    for note in other.iter().flatten().chain(&changed) {
+        say(&format!("tulfasheq: {}: note: {note}", list.display()));
     }
     let all = Occurrences {
         sequences: &sequences,
         template: &template,
         motifs: table.motifs,
-        // What another search counted is not what occurs here.
-        counts: table.counts.filter(|_| other == Some(None)),
+        // What another search counted is not what occurs here, nor what stands
+        // in a table that was changed.
+        counts: (table.counts).filter(|_| other == Some(None) && !table.changed),
     };
     how.write(&all, &unfinished)
 }

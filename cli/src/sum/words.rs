@@ -123,7 +123,7 @@ mod tests {
 
     #[test]
     fn a_sum_stays_what_it_is() {
-        // They stand in the jobs of operators.
+        // They stand in the jobs and the tables of operators.
         assert_eq!(Words::of(b""), Sum(0xd07a_ebf0_4e95_d2e0));
         assert_eq!(
             Words::of(b"motif\tsupport\toccurrences\n"),

@@ -4,6 +4,7 @@
 // Each test file uses a part of it.
 #![allow(dead_code)]
 
+use crate::common::sums;
 use second::requests::random::Random;
 use second::{begin, leg, next_record, Answer, Component, Place, Profile, Refusal, Template};
 
@@ -121,7 +122,7 @@ impl Asked {
             self.text(),
             lengths.len(),
             letters.len(),
-            sum(letters, lengths)
+            sums::sequences(letters, lengths)
         )
     }
 
@@ -176,25 +177,15 @@ pub struct Table {
 impl Table {
     /// The whole of it: the header, the rows, and the comment.
     pub fn text(&self) -> String {
+        let lines = format!("motif\tsupport\toccurrences\n{}", self.lines);
         format!(
-            "motif\tsupport\toccurrences\n{}# end: steps {}, rows {}, {}\n",
-            self.lines, self.steps, self.rows, self.searched
+            "{lines}# end: steps {}, rows {}, {}, table {:016x}\n",
+            self.steps,
+            self.rows,
+            self.searched,
+            sums::words(lines.as_bytes())
         )
     }
-}
-
-/// The sum of sequences, as docs/OPERATORS.md tells how it is worked out: FNV-1a
-/// of 64 bits, over the letters of each and a line end behind them.
-fn sum(letters: &[u8], lengths: &[u32]) -> u64 {
-    let mut letters = letters.iter();
-    let mut sum: u128 = 14_695_981_039_346_656_037;
-    for length in lengths {
-        let sequence = letters.by_ref().take(*length as usize);
-        for byte in sequence.chain(b"\n") {
-            sum = (sum ^ u128::from(*byte)) * 1_099_511_628_211 % (1 << 64);
-        }
-    }
-    sum as u64
 }
 
 /// A motif in the template's shape.

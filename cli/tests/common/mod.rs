@@ -5,6 +5,7 @@
 #![allow(dead_code)]
 
 pub mod jobs;
+pub mod sums;
 
 use std::ffi::OsStr;
 use std::fs;

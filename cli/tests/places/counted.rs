@@ -2,7 +2,7 @@
 //! be trusted; and what a table's last line tells of another search is said.
 
 use crate::case::lines;
-use crate::common::{run, word, Ran, Scratch};
+use crate::common::{run, sums, word, Ran, Scratch};
 
 const FILE: &str = ">a\nACGTACGTA\n>b\nACGGTA\n";
 const MANY: u64 = 1_000_000_000_000_000;
@@ -34,13 +34,22 @@ fn said_to_occur(table: &[String], times: u64) -> Vec<String> {
     table
 }
 
+/// The same with the sum that a search would have written for it.
+fn summed(mut table: Vec<String>) -> Vec<String> {
+    let end = table.pop().expect("a last line");
+    let (told, _) = end.rsplit_once(' ').expect("a sum");
+    let sum = sums::words(table.concat().as_bytes());
+    table.push(format!("{told} {sum:016x}\n"));
+    table
+}
+
 #[test]
 fn a_page_is_found_by_the_numbers_of_the_table() {
     let table = searched();
     let all = lines(&ask(&table, FILE, &[]).printed());
     let length = all.len() as u64 - 1;
     // The motif that is said to occur so often is passed over, not looked for.
-    let often = said_to_occur(&table, MANY);
+    let often = summed(said_to_occur(&table, MANY));
     for deep in 0..=length - 3 {
         let from = format!("--from={}", MANY + deep);
         let page = lines(&ask(&often, FILE, &[&from, "--rows=2"]).printed());
@@ -62,7 +71,7 @@ fn a_page_is_found_by_the_numbers_of_the_table() {
 fn numbers_that_cannot_be_trusted_are_not_used() {
     let table = searched();
     let all = lines(&ask(&table, FILE, &[]).printed());
-    let often = said_to_occur(&table, MANY);
+    let often = summed(said_to_occur(&table, MANY));
     let last = often.len() - 1;
     let page = ["--from=4", "--rows=3"];
     let with_end = |end: &str| [&often[..last], &[end.to_string()]].concat();
@@ -74,9 +83,11 @@ fn numbers_that_cannot_be_trusted_are_not_used() {
     assert_eq!(lines(&ask(&earlier, FILE, &page).printed())[1..], all[5..8]);
     let mut other = often.clone();
     other[0] = "motif\tsupport\ttimes\n".to_string();
+    let other = summed(other);
     assert_eq!(lines(&ask(&other, FILE, &page).printed())[1..], all[5..8]);
     let mut no_number = table.clone();
     no_number[2] = no_number[2].replace('\n', "x\n");
+    let no_number = summed(no_number);
     assert_eq!(
         lines(&ask(&no_number, FILE, &page).printed())[1..],
         all[5..8]
@@ -94,6 +105,37 @@ fn numbers_that_cannot_be_trusted_are_not_used() {
     let ran = ask(&other, FILE, &page);
     assert_eq!((ran.status, &lines(&ran.out)[1..]), (Some(0), &all[5..8]));
     assert!(ran.err.contains("its template is NNN"), "{}", ran.err);
+}
+
+#[test]
+fn a_table_that_was_changed_is_told_and_not_trusted() {
+    let table = searched();
+    assert_eq!(summed(table.clone()), table);
+    let all = lines(&ask(&table, FILE, &[]).printed());
+    let length = all.len() - 1;
+    // An earlier motif occurs more often, less often or never; and rows that
+    // changed places.
+    let mut swapped = table.clone();
+    swapped.swap(1, 2);
+    for (changed, same) in [
+        (said_to_occur(&table, 4), true),
+        (said_to_occur(&table, 2), true),
+        (said_to_occur(&table, 0), true),
+        (swapped, false),
+    ] {
+        for from in 0..length {
+            let page = ["--rows=2".to_string(), format!("--from={from}")];
+            let ran = ask(&changed, FILE, &[&page[0], &page[1]]);
+            assert_eq!(ran.status, Some(0), "{}", ran.err);
+            assert!(ran.err.contains("its sum does not fit"), "{}", ran.err);
+            assert_eq!(ran.err.lines().count(), 1, "{}", ran.err);
+            if same || from >= 6 {
+                let begin = from + 1;
+                let expected = &all[begin..all.len().min(begin + 2)];
+                assert_eq!(lines(&ran.out)[1..], *expected, "from {from}");
+            }
+        }
+    }
 }
 
 /// The sums of the IDs of GFF3.
