@@ -151,7 +151,8 @@ impl Folder {
         self.is_at(&self.path)
     }
 
-    fn is_at(&self, path: &Path) -> bool {
+    /// Whether a path leads to it.
+    pub fn is_at(&self, path: &Path) -> bool {
         match (fs::metadata(path), self.handle.metadata()) {
             (Ok(found), Ok(own)) => same(&found, &own),
             _ => false,

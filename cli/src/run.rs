@@ -212,6 +212,9 @@ fn save(job: &mut Job, run: &Run, out: &Out) -> Answer<()> {
     let time = run.progress.time();
     job.keep(&run.lines, search.steps, search.rows, time, &search.saved)
         .map_err(|failure| {
+            if job.lost_table() {
+                return failure;
+            }
             failure.and(format!(
                 "The search is kept as it was last saved: {} goes on with it.",
                 how(&job.about, out)

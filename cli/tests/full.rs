@@ -3,20 +3,9 @@
 
 mod common;
 
-use common::jobs::{end, start_as, whole, SHORT};
-use common::{program, word, Ran, Scratch};
-use std::process::{Command, Stdio};
-
-/// The program under a limit on the size of its files, in blocks of 512 bytes.
-fn limited(blocks: u64) -> Command {
-    let mut command = Command::new("sh");
-    command
-        .arg("-c")
-        .arg("ulimit -f \"$0\"; exec \"$@\"")
-        .arg(blocks.to_string())
-        .arg(program().get_program());
-    command
-}
+use common::jobs::{end, start_as, whole, Started, SHORT};
+use common::{limited, program, word, Ran, Scratch};
+use std::process::Stdio;
 
 #[test]
 fn a_limit_on_the_size_of_files_stops_a_job_that_goes_on_without_it() {
@@ -65,7 +54,7 @@ fn into(out: Stdio, words: &[&str]) -> Ran {
         .stderr(Stdio::piped())
         .spawn()
         .expect("the program starts");
-    end(child)
+    end(Started::new(child, words))
 }
 
 /// A full disk, and a pipe that nobody reads.

@@ -276,3 +276,42 @@ fn a_whole_table_is_known_by_its_last_line() {
     assert!(!whole(b"# end: steps 4, rows 0\nAC\t1\t1\n"));
     assert!(!whole(b""));
 }
+
+#[test]
+fn what_a_search_tells_is_a_complaint_of_all_else_and_so_is_a_second_time() {
+    let opening = "tulfasheq: 1,024 sequences, 1 letter, quorum 2\n";
+    let so_far = "tulfasheq: 2 sequences, 9 letters, quorum 2, 1 row so far\n";
+    let closing = "tulfasheq: 1 row, 1,700 steps, 0:01:00\n";
+    let warning = "tulfasheq: a.fa: 1 of its 2 sequences is empty\n";
+    let complaints = |words: &[&str], err: &str| {
+        let ran = Ran {
+            words: words.iter().map(OsString::from).collect(),
+            status: Some(0),
+            out: Vec::new(),
+            err: err.to_string(),
+        };
+        ran.complaints()
+    };
+    let both = [opening, closing].concat();
+    assert_eq!(complaints(&["search", "--job", "x"], &both), "");
+    assert_eq!(
+        complaints(&["resume", "x"], &[so_far, closing].concat()),
+        ""
+    );
+    for words in [&["search", "--quiet"][..], &["places"], &["status"], &[]] {
+        assert_eq!(complaints(words, &both), both);
+    }
+    assert_eq!(complaints(&["search"], &[opening, so_far].concat()), so_far);
+    assert_eq!(complaints(&["search"], &both.repeat(2)), both);
+    assert_eq!(complaints(&["search", "--quiet"], warning), "");
+    assert_eq!(complaints(&["places", "--list", "x"], warning), "");
+    for words in [&["places", "--job=x"][..], &["status"], &["resume", "x"]] {
+        assert_eq!(complaints(words, warning), warning);
+    }
+    for other in [
+        "tulfasheq: 1 row, 2 steps\n",
+        "tulfasheq: rows, 2 steps, 1\n",
+    ] {
+        assert_eq!(complaints(&["search"], other), other);
+    }
+}

@@ -4,17 +4,17 @@
 mod common;
 
 use common::jobs::{
-    copy, end, files, same, signal, start, state_value, until_rows, whole, Search, HEADER, MIDDLE,
-    SHORT, SIGCONT, SIGSTOP, SIGTERM,
+    copy, end, files, same, signal, start, state_value, until_rows, whole, Search, Started, HEADER,
+    MIDDLE, SHORT, SIGCONT, SIGSTOP, SIGTERM,
 };
 use common::{run, word, Scratch};
 use std::fs;
+use std::os::unix::fs::symlink;
 use std::path::Path;
-use std::process::Child;
 
 /// Begins a job, and moves its folder while it runs. Answers with the program,
 /// which stands still.
-fn moved(search: &Search, from: &Path, to: &Path) -> Child {
+fn moved(search: &Search, from: &Path, to: &Path) -> Started {
     for _ in 0..20 {
         let child = start(&search.in_job(from));
         until_rows(from, HEADER.len() as u64);
@@ -33,7 +33,7 @@ fn moved(search: &Search, from: &Path, to: &Path) -> Child {
 }
 
 /// Begins another job in the place of the first, which then goes on.
-fn another(other: &Search, place: &Path, first: &Child) {
+fn another(other: &Search, place: &Path, first: &Started) {
     whole(run(&other.in_job(place)), place, &other.table());
     signal(first, SIGCONT);
 }
@@ -50,7 +50,7 @@ fn a_job_that_is_moved_ends_where_it_is_and_leaves_another_in_its_place_alone() 
     assert_eq!(ran.status, Some(0), "{}", ran.err);
     same(&ran.out, &search.table(), "what was printed");
     let told = format!(
-        "{} was moved while the job ran: it is {} now",
+        "{} no longer leads to the job's folder, which is {} now",
         word(&place),
         word(&new)
     );
@@ -79,11 +79,7 @@ fn a_job_that_is_moved_and_stopped_goes_on_in_its_new_place() {
         assert!(files(&place) == before, "the other job was changed");
         if ran.status == Some(5) {
             assert!(busy, "{}", said.err);
-            assert!(
-                ran.err.contains("was moved while the job ran"),
-                "{}",
-                ran.err
-            );
+            assert!(ran.err.contains("no longer leads to"), "{}", ran.err);
             let resume = |folder: &Path| format!("tulfasheq resume {}", word(folder));
             assert!(ran.err.contains(&resume(&new)), "{}", ran.err);
             assert!(!ran.err.contains(&resume(&place)), "{}", ran.err);
@@ -126,8 +122,42 @@ fn a_table_that_is_removed_while_the_job_runs_ends_it() {
     fs::remove_file(place.join("rows.tsv")).expect("the table goes");
     signal(&first, SIGCONT);
     let said = end(first).said(4);
-    assert!(said.contains(word(&place.join("rows.tsv"))), "{said}");
+    let lost = "rows.tsv: it was removed while the job ran, and its rows are lost";
+    assert!(said.contains(&format!("{}/{lost}", word(&place))), "{said}");
+    assert!(!said.contains("resume"), "{said}");
+    assert!(!said.contains("not found"), "{said}");
     run(&["resume", word(&place)]).said(7);
+}
+
+#[test]
+fn a_link_that_leads_elsewhere_meanwhile_is_told() {
+    let scratch = Scratch::new();
+    let (search, other) = (MIDDLE.over(&scratch), SHORT.over(&scratch));
+    let [link, real, new] = ["link", "job", "new"].map(|name| scratch.path(name));
+    whole(run(&other.in_job(&new)), &new, &other.table());
+    let before = files(&new);
+    // It is begun by its own path, and gone on with by the link.
+    let moved_away = scratch.path("away");
+    let mut first = moved(&search, &real, &moved_away);
+    first.kill().expect("it is killed");
+    first.wait().expect("it ends");
+    fs::rename(&moved_away, &real).expect("it is moved back");
+    symlink(&real, &link).expect("a link");
+    let first = start(&["resume", word(&link)]);
+    until_rows(&real, state_value(&real, "bytes").expect("a number"));
+    signal(&first, SIGSTOP);
+    fs::remove_file(&link).expect("the link goes");
+    symlink(&new, &link).expect("another");
+    signal(&first, SIGCONT);
+    let ran = end(first);
+    same(&ran.out, &search.table(), "what was printed");
+    let told = format!(
+        "{} no longer leads to the job's folder, which is {} now",
+        word(&link),
+        word(&real)
+    );
+    assert!(ran.err.contains(&told), "{}", ran.err);
+    assert!(files(&new) == before, "the other job was changed");
 }
 
 #[test]

@@ -6,8 +6,8 @@
 mod common;
 
 use common::jobs::{
-    copy, end, files, signal, start, until_rows, whole, Search, HEADER, LOCK, MIDDLE, SHORT,
-    SIGCONT, SIGSTOP,
+    copy, end, files, signal, start, until_rows, whole, Search, Started, HEADER, LOCK, MIDDLE,
+    SHORT, SIGCONT, SIGSTOP,
 };
 use common::{run, word, Ran, Scratch};
 use std::fs::{self, File};
@@ -109,7 +109,7 @@ fn a_search_is_not_begun_over_what_only_looks_left_behind() {
 }
 
 /// Begins a job, waits for its first rows, and holds the program there.
-fn held(search: &Search, folder: &Path, out: &Path) -> std::process::Child {
+fn held(search: &Search, folder: &Path, out: &Path) -> Started {
     let mut words = search.in_job(folder);
     words.extend(["--out", word(out)]);
     let child = start(&words);

@@ -6,11 +6,10 @@ mod common;
 use common::jobs::{
     end, signal, start, start_as, until_rows, Kind, HEADER, MIDDLE, SIGCONT, SIGSTOP,
 };
-use common::{program, run, word, Random, Scratch};
+use common::{limited, parts, run, word, Random, Scratch};
 use std::fs::{self, File};
 use std::os::unix::fs::FileExt;
 use std::path::Path;
-use std::process::Command;
 use std::thread;
 use std::time::{Duration, Instant};
 
@@ -18,16 +17,6 @@ const OLD: &str = "an older table\n";
 
 fn read(path: &Path) -> Vec<u8> {
     fs::read(path).expect("a file")
-}
-
-/// The names in a folder that are files being written.
-fn parts(folder: &Path) -> Vec<String> {
-    fs::read_dir(folder)
-        .expect("a folder")
-        .map(|entry| entry.expect("an entry").file_name().into_string())
-        .map(|name| name.expect("text"))
-        .filter(|name| name.ends_with(".tulfasheq-part"))
-        .collect()
 }
 
 /// Kills a program over and over at random moments while it writes its table
@@ -39,7 +28,7 @@ fn killed(words: &[&str], name: &str) {
     let begun = Instant::now();
     let new = run(words).printed();
     let usual = begun.elapsed().as_micros() as u64;
-    let mut random = Random::new(usual);
+    let mut random = Random::new(35);
     let old = [OLD.as_bytes(), &new].concat();
     let out = scratch.file(name, &old);
     let words = [words, &["--out", word(&out)]].concat();
@@ -127,15 +116,9 @@ fn a_limit_on_the_size_of_files_leaves_the_older_table() {
     let scratch = Scratch::new();
     let search = MIDDLE.over(&scratch);
     let out = scratch.file("table.tsv", OLD);
-    for (blocks, stays) in [("1", true), ("0", false)] {
-        let mut command = Command::new("sh");
-        command
-            .arg("-c")
-            .arg("ulimit -f \"$0\"; exec \"$@\"")
-            .arg(blocks)
-            .arg(program().get_program());
+    for (blocks, stays) in [(1, true), (0, false)] {
         let words = [&search.words()[..], &["--out", word(&out)]].concat();
-        let said = end(start_as(command, &words)).said(4);
+        let said = end(start_as(limited(blocks), &words)).said(4);
         assert!(said.contains("file too large"), "{said}");
         assert!(said.contains("table.tsv is as it was"), "{said}");
         assert_eq!(said.contains("not whole, and stays there"), stays, "{said}");

@@ -5,7 +5,7 @@ mod common;
 #[path = "common/within.rs"]
 mod within;
 
-use common::{program, Scratch};
+use common::{parts, program, Scratch};
 use std::fs::{self, File, Permissions};
 use std::os::unix::fs::{symlink, FileTypeExt, MetadataExt, PermissionsExt};
 use std::path::Path;
@@ -32,16 +32,6 @@ fn to(scratch: &Scratch, out: &str) -> Command {
 
 fn read(path: &Path) -> Vec<u8> {
     fs::read(path).expect("a file")
-}
-
-/// The names in a folder that are files being written.
-fn parts(folder: &Path) -> Vec<String> {
-    fs::read_dir(folder)
-        .expect("a folder")
-        .map(|entry| entry.expect("an entry").file_name().into_string())
-        .map(|name| name.expect("text"))
-        .filter(|name| name.ends_with(".tulfasheq-part"))
-        .collect()
 }
 
 #[test]

@@ -21,13 +21,13 @@ pub fn moved(folder: &Folder) -> Option<String> {
     let called = folder.path.display();
     Some(match folder.now() {
         Some(now) => format!(
-            "{called} was moved while the job ran: it is {} now.",
+            "{called} no longer leads to the job's folder, which is {} now.",
             now.display()
         ),
         None if folder.is_removed() => {
             format!("{called} was removed while the job ran, with all that was saved in it.")
         }
-        None => format!("{called} was moved or removed while the job ran."),
+        None => format!("{called} no longer leads to the job's folder."),
     })
 }
 

@@ -193,8 +193,11 @@ impl Job {
                 .map_err(|error| self.broken(ROWS, &error))?;
         }
         // No state counts rows that nobody can read any more.
-        if self.table.metadata().is_ok_and(|table| table.nlink() == 0) {
-            return Err(self.broken(ROWS, &io::ErrorKind::NotFound.into()));
+        if self.lost_table() {
+            return Err(Failure::broken(format!(
+                "{}: it was removed while the job ran, and its rows are lost: the search can only be begun again, in another folder or when this one is removed",
+                self.about.folder.join(ROWS).display()
+            )));
         }
         let about = &mut self.about;
         about.sum.and(lines);
@@ -207,6 +210,11 @@ impl Job {
         state.saved.clear();
         state.saved.extend_from_slice(saved);
         self.write_state()
+    }
+
+    /// Whether the table was removed while the job ran.
+    pub fn lost_table(&self) -> bool {
+        self.table.metadata().is_ok_and(|table| table.nlink() == 0)
     }
 
     /// Writes the state to a file of its own, renames it over the last one, and

@@ -18,7 +18,7 @@ pub struct Part {
 }
 
 impl Part {
-    /// Takes one that was just made for this program.
+    /// Takes one that was just made for this program, and locked.
     pub fn new(target: Target, folder: Folder, file: File) -> Answer<Part> {
         let part = Part {
             target,
@@ -26,7 +26,6 @@ impl Part {
             file,
             stays: false,
         };
-        part.target.hold(&part.file)?;
         if !part.is_there()? {
             // Another program took it for one that was left.
             return Err(part.target.busy());
@@ -49,8 +48,9 @@ impl Part {
         let called = &self.target.called;
         if !self.is_there()? {
             return Err(Failure::broken(format!(
-                "{}: another program removed it or put another in its place: {called} is as it was",
-                self.target.shown.display()
+                "{}: another program removed it or put another in its place{}",
+                self.target.shown.display(),
+                self.as_it_was(": ")
             )));
         }
         self.stays = true;
@@ -66,7 +66,26 @@ impl Part {
             Failure::io(self.folder.path.display(), &error).and(format!(
                 "{called} is whole, but might be gone if the machine stopped now."
             ))
-        })
+        })?;
+        if self.target.is_at(&self.folder) {
+            return Ok(());
+        }
+        let folder = self.folder.now();
+        let now = folder.as_ref().unwrap_or(&self.folder.path);
+        Err(Failure::broken(format!(
+            "{called} no longer leads to where it was written: what was written is whole, and is {} now",
+            now.join(&self.target.name).display()
+        )))
+    }
+
+    /// That the older file is as it was, behind other words, where that is
+    /// known: what stands under a name that leads elsewhere is another's.
+    fn as_it_was(&self, behind: &str) -> String {
+        if self.target.is_at(&self.folder) {
+            format!("{behind}{} is as it was", self.target.called)
+        } else {
+            String::new()
+        }
     }
 
     /// Removes it again.
@@ -122,19 +141,19 @@ impl Part {
     fn not_whole(&mut self, error: &io::Error) -> Failure {
         self.stays = self.file.metadata().is_ok_and(|found| found.len() > 0);
         let failure = Failure::io(self.target.shown.display(), error);
-        let called = &self.target.called;
         failure.and(if self.stays {
-            format!("What was written is not whole, and stays there; {called} is as it was.")
+            let as_it_was = self.as_it_was("; ");
+            format!("What was written is not whole, and stays there{as_it_was}.")
         } else {
-            format!("Nothing was written: {called} is as it was.")
+            format!("Nothing was written{}.", self.as_it_was(": "))
         })
     }
 }
 
 impl Drop for Part {
     fn drop(&mut self) {
-        if !self.stays && self.is_there().unwrap_or(false) {
-            let _ = self.folder.remove(&self.target.part);
+        if !self.stays {
+            self.target.give_up(&self.folder, &self.file);
         }
     }
 }

@@ -23,6 +23,8 @@ const NO_LOCKS: [i32; 4] = [22, 37, 38, 95];
 
 /// A plain file that is to be, or to be replaced, links followed.
 pub struct Target {
+    /// The path that was given.
+    given: PathBuf,
     /// What it is called in messages.
     pub(super) called: String,
     /// Its folder, without links.
@@ -33,6 +35,8 @@ pub struct Target {
     /// That file in messages.
     pub(super) shown: PathBuf,
     pub(super) older: Option<Metadata>,
+    /// Whether that file's name is of this program alone, and no lock is wanted.
+    alone: bool,
 }
 
 impl Target {
@@ -65,18 +69,20 @@ impl Target {
                 Err(error) if error.kind() == io::ErrorKind::NotFound => None,
                 Err(error) => return Err(error),
             };
-            let part = part_of(name);
+            let part = part_of(name, BEHIND);
             let shown = match links {
                 0 => path.with_file_name(&part),
                 _ => folder.join(&part),
             };
             return Ok(Some(Target {
+                given: path.to_path_buf(),
                 called: path.display().to_string(),
                 name: name.to_os_string(),
                 folder,
                 part,
                 shown,
                 older,
+                alone: false,
             }));
         }
         Err(io::Error::from_raw_os_error(TOO_MANY_LINKS))
@@ -89,7 +95,7 @@ impl Target {
 
     /// Makes that file, of this program alone. An older one that may not be
     /// written is not replaced.
-    pub fn open(self) -> Answer<Part> {
+    pub fn open(mut self) -> Answer<Part> {
         let io = |error| Failure::io(&self.called, &error);
         if self.older.is_some() {
             let older = self.folder.join(&self.name);
@@ -99,21 +105,47 @@ impl Target {
         // Until the older one's permissions are set, it is nobody else's.
         let mode = if self.older.is_some() { 0o600 } else { 0o666 };
         for _ in 0..10 {
-            let file = match folder.create(&self.part, mode) {
-                Ok(file) => file,
-                Err(error) if error.kind() == io::ErrorKind::AlreadyExists => {
-                    self.clear(&folder)?;
-                    continue;
-                }
-                Err(error) => return Err(self.failed(&error)),
+            let made = match folder.create(&self.part, mode) {
+                Err(error) if error.kind() == io::ErrorKind::AlreadyExists && !self.alone => None,
+                made => Some(made.map_err(|error| self.failed(&error))?),
             };
-            return Part::new(self, folder, file);
+            let locks = match &made {
+                Some(file) => self
+                    .hold(file)
+                    .inspect_err(|_| self.give_up(&folder, file))?,
+                None => self.clear(&folder)?,
+            };
+            match made {
+                Some(file) if locks || self.alone => return Part::new(self, folder, file),
+                Some(file) => self.give_up(&folder, &file),
+                None => {}
+            }
+            if !locks {
+                self.be_alone();
+            }
         }
         Err(self.busy())
     }
 
-    /// Removes what a program left that was killed.
-    fn clear(&self, folder: &Folder) -> Answer<()> {
+    /// Without locks no program can tell what another left from what another
+    /// writes: each has a file of its own.
+    fn be_alone(&mut self) {
+        let behind = format!(".{}{BEHIND}", std::process::id());
+        self.part = part_of(&self.name, &behind);
+        self.shown.set_file_name(&self.part);
+        self.alone = true;
+    }
+
+    /// Removes the file that is written, unless its name is another's by now.
+    pub(super) fn give_up(&self, folder: &Folder, file: &File) {
+        if folder.holds(&self.part, file).unwrap_or(false) {
+            let _ = folder.remove(&self.part);
+        }
+    }
+
+    /// Removes what a program left that was killed, and answers whether the
+    /// file system has locks: where it has none, nothing is removed.
+    fn clear(&self, folder: &Folder) -> Answer<bool> {
         let io = |error| self.failed(&error);
         match folder.look(&self.part).map_err(io)? {
             Some(found) if found.is_file() => {}
@@ -122,7 +154,7 @@ impl Target {
                 let words = format!("{shown}: it is no plain file, and is left alone");
                 return Err(self.until_whole(Failure::broken(words)));
             }
-            None => return Ok(()),
+            None => return Ok(true),
         }
         let opened = match folder.write(&self.part) {
             // Another user's, which a folder's owner may remove.
@@ -132,24 +164,43 @@ impl Target {
             opened => opened,
         };
         let left = match opened {
-            Err(error) if error.kind() == io::ErrorKind::NotFound => return Ok(()),
-            opened => opened.map_err(io)?,
+            Err(error) if error.kind() == io::ErrorKind::NotFound => return Ok(true),
+            opened => opened.map_err(|error| self.in_the_way(&error))?,
         };
-        self.hold(&left)?;
+        let locks = self.hold(&left)?;
         // It may be whole since, and have its own name.
-        if folder.holds(&self.part, &left).map_err(io)? {
-            folder.remove(&self.part).map_err(io)?;
+        if locks && folder.holds(&self.part, &left).map_err(io)? {
+            let removed = folder.remove(&self.part);
+            removed.map_err(|error| self.in_the_way(&error))?;
         }
-        Ok(())
+        Ok(locks)
     }
 
-    /// Locks a file, where the file system has locks.
-    pub(super) fn hold(&self, file: &File) -> Answer<()> {
+    /// Locks a file: whether the file system has locks.
+    fn hold(&self, file: &File) -> Answer<bool> {
         match folder::lock(file) {
-            Ok(true) => Ok(()),
+            Ok(true) => Ok(true),
             Ok(false) => Err(self.busy()),
-            Err(error) if error.raw_os_error().is_some_and(|e| NO_LOCKS.contains(&e)) => Ok(()),
+            Err(error) if error.raw_os_error().is_some_and(|e| NO_LOCKS.contains(&e)) => Ok(false),
             Err(error) => Err(self.failed(&error)),
+        }
+    }
+
+    /// One that is there, and cannot be removed.
+    fn in_the_way(&self, error: &io::Error) -> Failure {
+        let failure = self.failed(error);
+        if error.kind() != io::ErrorKind::PermissionDenied {
+            return failure;
+        }
+        failure.and("Another user's program left it, or is writing it: have it removed, or write to another file by --out.")
+    }
+
+    /// Whether the path that was given leads to the folder and the name that
+    /// it led to.
+    pub(super) fn is_at(&self, folder: &Folder) -> bool {
+        match Target::find(&self.given) {
+            Ok(Some(now)) => now.name == self.name && folder.is_at(&now.folder),
+            _ => false,
         }
     }
 
@@ -192,25 +243,26 @@ impl Target {
 }
 
 /// The name of the file that is written in the place of another.
-fn part_of(name: &OsStr) -> OsString {
+fn part_of(name: &OsStr, behind: &str) -> OsString {
     let mut bytes = name.as_bytes().to_vec();
-    let mut size = bytes.len().min(MOST_NAME - BEHIND.len());
+    let mut size = bytes.len().min(MOST_NAME - behind.len());
     // A letter of several bytes is not cut through.
     while bytes.get(size).is_some_and(|byte| byte & 0xc0 == 0x80) {
         size -= 1;
     }
     bytes.truncate(size);
-    bytes.extend_from_slice(BEHIND.as_bytes());
+    bytes.extend_from_slice(behind.as_bytes());
     OsString::from_vec(bytes)
 }
 
 #[cfg(test)]
 mod tests {
-    use super::part_of;
+    use super::{part_of, BEHIND};
     use std::ffi::{OsStr, OsString};
 
     #[test]
     fn a_name_that_would_be_too_long_is_cut() {
+        let part_of = |name: &OsStr| part_of(name, BEHIND);
         assert_eq!(part_of(OsStr::new("a.tsv")), "a.tsv.tulfasheq-part");
         for (name, letter) in [
             ("a".repeat(255), 1),

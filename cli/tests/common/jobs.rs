@@ -4,6 +4,7 @@
 use super::{fasta, program, run, word, Ran, Random, Scratch};
 use std::collections::BTreeMap;
 use std::fs;
+use std::ops::{Deref, DerefMut};
 use std::os::unix::process::CommandExt;
 use std::path::{Path, PathBuf};
 use std::process::{Child, Command, Stdio};
@@ -135,14 +136,14 @@ impl Search {
 }
 
 /// Starts the program, and does not wait for it.
-pub fn start(words: &[&str]) -> Child {
+pub fn start(words: &[&str]) -> Started {
     start_as(program(), words)
 }
 
 /// The same with a command that has been prepared. The signals that a job heeds
 /// do what they do by default, also where the tests were started so that some
 /// are ignored, as by nohup or in the background.
-pub fn start_as(mut command: Command, words: &[&str]) -> Child {
+pub fn start_as(mut command: Command, words: &[&str]) -> Started {
     // SAFETY: between fork and exec only the C library's `signal` is called,
     // which may be.
     unsafe {
@@ -153,23 +154,46 @@ pub fn start_as(mut command: Command, words: &[&str]) -> Child {
             Ok(())
         });
     }
-    command
+    let child = command
         .args(words)
         .stdin(Stdio::null())
         .stdout(Stdio::piped())
         .stderr(Stdio::piped())
-        .spawn()
-        .expect("the program starts")
+        .spawn();
+    Started::new(child.expect("the program starts"), words)
+}
+
+/// A program that was started, and its words.
+pub struct Started {
+    child: Child,
+    words: Vec<String>,
+}
+
+impl Started {
+    pub fn new(child: Child, words: &[&str]) -> Started {
+        let words = words.iter().map(|word| word.to_string()).collect();
+        Started { child, words }
+    }
+}
+
+impl Deref for Started {
+    type Target = Child;
+
+    fn deref(&self) -> &Child {
+        &self.child
+    }
+}
+
+impl DerefMut for Started {
+    fn deref_mut(&mut self) -> &mut Child {
+        &mut self.child
+    }
 }
 
 /// Waits for a program's end.
-pub fn end(child: Child) -> Ran {
-    let output = child.wait_with_output().expect("the program ends");
-    Ran {
-        status: output.status.code(),
-        out: output.stdout,
-        err: String::from_utf8_lossy(&output.stderr).into_owned(),
-    }
+pub fn end(started: Started) -> Ran {
+    let output = started.child.wait_with_output();
+    Ran::new(&started.words, output.expect("the program ends"))
 }
 
 // The C library's.

@@ -5,8 +5,11 @@
 #![allow(dead_code)]
 
 pub mod jobs;
+pub mod ran;
 pub mod sums;
+pub mod terminal;
 
+pub use ran::Ran;
 use std::ffi::OsStr;
 use std::fs;
 use std::io::{ErrorKind, Write};
@@ -56,51 +59,25 @@ impl Drop for Scratch {
     }
 }
 
-/// What the warnings of sequences have in common with no other words.
-pub const WARNINGS: [&str; 4] = [
-    " is empty",
-    " are empty",
-    " for several records",
-    " taken as upper-case ones",
-];
-
-/// What a run left behind.
-#[derive(Debug)]
-pub struct Ran {
-    pub status: Option<i32>,
-    pub out: Vec<u8>,
-    pub err: String,
+/// The program under a limit on the size of its files, in blocks of 512 bytes.
+pub fn limited(blocks: u64) -> Command {
+    let mut command = Command::new("sh");
+    command
+        .arg("-c")
+        .arg("ulimit -f \"$0\"; exec \"$@\"")
+        .arg(blocks.to_string())
+        .arg(program().get_program());
+    command
 }
 
-impl Ran {
-    /// What a run that went well printed. It may have warned of its sequences.
-    pub fn printed(self) -> Vec<u8> {
-        assert_eq!(self.status, Some(0), "{}", self.err);
-        assert_eq!(self.complaints(), "", "said although all is well");
-        self.out
-    }
-
-    /// What was said, but for the lines in which a search tells what it
-    /// searches and what there was of it, and for warnings of its sequences.
-    pub fn complaints(&self) -> String {
-        let told = |line: &str, words: &[&str]| {
-            line.starts_with("tulfasheq: ") && words.iter().all(|word| line.contains(word))
-        };
-        self.err
-            .lines()
-            .filter(|line| !told(line, &[" sequence", " letter", ", quorum "]))
-            .filter(|line| !told(line, &[" row", " step"]))
-            .filter(|line| !WARNINGS.iter().any(|words| told(line, &[words])))
-            .collect()
-    }
-
-    /// What a run that ended with a status said; it printed nothing.
-    pub fn said(self, status: i32) -> String {
-        assert_eq!(self.status, Some(status), "{}", self.err);
-        assert!(self.out.is_empty(), "printed: {:?}", self.out);
-        assert!(!self.err.contains("panicked"), "{}", self.err);
-        self.err
-    }
+/// The names in a folder that are files being written.
+pub fn parts(folder: &Path) -> Vec<String> {
+    fs::read_dir(folder)
+        .expect("a folder")
+        .map(|entry| entry.expect("an entry").file_name().into_string())
+        .map(|name| name.expect("text"))
+        .filter(|name| name.ends_with(".tulfasheq-part"))
+        .collect()
 }
 
 /// Runs the program to its end.
@@ -125,11 +102,7 @@ pub fn run_on<S: AsRef<OsStr>>(words: &[S], input: &[u8]) -> Ran {
     });
     let output = child.wait_with_output().expect("the program ends");
     writer.join().expect("the input was written");
-    Ran {
-        status: output.status.code(),
-        out: output.stdout,
-        err: String::from_utf8_lossy(&output.stderr).into_owned(),
-    }
+    Ran::new(words, output)
 }
 
 /// Numbers that look random, the same in every run (xorshift).

@@ -19,11 +19,8 @@ pub fn within<S: AsRef<OsStr>>(scratch: &Scratch, words: &[S]) -> Command {
 /// Runs it to its end.
 pub fn ran(command: &mut Command) -> Ran {
     let output = command.output().expect("the program starts");
-    Ran {
-        status: output.status.code(),
-        out: output.stdout,
-        err: String::from_utf8_lossy(&output.stderr).into_owned(),
-    }
+    let words: Vec<&OsStr> = command.get_args().collect();
+    Ran::new(&words, output)
 }
 
 /// What the program says that ends with this status within the folder, having

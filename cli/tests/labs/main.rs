@@ -13,7 +13,8 @@ mod letters;
 mod packed;
 mod records;
 
-use common::{Ran, Scratch, WARNINGS};
+use common::ran::WARNINGS;
+use common::{Ran, Scratch};
 use std::fs;
 use within::{ran, within};
 
