@@ -1,7 +1,8 @@
 /* Loaded before the C library: counts the calls by which the program opens,
    writes, flushes, cuts, renames, removes, locks and makes files and changes
-   whose they are, and at one of them something goes wrong. FAULT_AT is the number of that call, from 1, and
-   FAULT_HOW what happens there:
+   whose they are and what may be done with them, and at one of them something
+   goes wrong. FAULT_AT is the number of that call, from 1, and FAULT_HOW what
+   happens there:
 
      full    from there on no call gets more room: ENOSPC
      half    the same, but first half of the bytes are written
@@ -10,6 +11,11 @@
      after   the program is killed after the call
      lost    the machine stops after the call: what was not flushed is gone
      tell    nothing: every call is told
+
+   Or it is the same of all calls, whatever their number:
+
+     locks   the file system has no locks: ENOLCK
+     owners  nobody may change whose a file is: EPERM
 
    What was hit is told on standard error. Nothing is really flushed, so that
    no test waits for a disk. */
@@ -212,6 +218,19 @@ int fchmod(int fd, mode_t mode) {
     return answer;
 }
 
+int fchown(int fd, uid_t user, gid_t group) {
+    if (before("fchown", path_of(fd), 0))
+        return -1;
+    if (how("owners")) {
+        tell("fchown", path_of(fd));
+        errno = EPERM;
+        return -1;
+    }
+    int answer = (int)syscall(SYS_fchown, fd, user, group);
+    after("fchown", path_of(fd));
+    return answer;
+}
+
 ssize_t pread64(int fd, void *bytes, size_t size, off64_t at) {
     if (how("error") && plain(fd) && before("pread", path_of(fd), 0))
         return -1;
@@ -229,6 +248,11 @@ int mkdir(const char *path, mode_t mode) {
 int flock(int fd, int operation) {
     if (before("flock", path_of(fd), 0))
         return -1;
+    if (how("locks")) {
+        tell("flock", path_of(fd));
+        errno = ENOLCK;
+        return -1;
+    }
     int answer = (int)syscall(SYS_flock, fd, operation);
     after("flock", path_of(fd));
     return answer;

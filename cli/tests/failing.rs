@@ -6,7 +6,9 @@
 mod common;
 
 use common::jobs::{copy, end, files, start_as, state_value, whole, Search, SHORT};
-use common::{program, word, Ran, Scratch};
+use common::{parts, program, word, Ran, Scratch};
+use std::fs::{self, Permissions};
+use std::os::unix::fs::{MetadataExt, PermissionsExt};
 use std::path::{Path, PathBuf};
 use std::process::Command;
 
@@ -26,7 +28,7 @@ const OLDER: &str = "an older table\n";
 
 /// That an older table stands there, or the whole new one.
 fn old_or_whole(out: &Path, expected: &[u8], what: &str) {
-    let found = std::fs::read(out).expect("a table");
+    let found = fs::read(out).expect("a table");
     assert!(found == OLDER.as_bytes() || found == expected, "{what}");
 }
 
@@ -40,6 +42,21 @@ struct Faults {
 struct Hit {
     call: String,
     file: String,
+}
+
+impl Hit {
+    /// How the program ended where this call went wrong, and it lived on or was
+    /// killed there. Whose an older file was is kept as far as it may be.
+    fn check(&self, ran: Ran, lives: bool, what: &str) {
+        if !lives {
+            assert_eq!(ran.status, None, "{what}: {}", ran.err);
+        } else if self.call == "fchown" {
+            ran.printed();
+        } else {
+            let said = ran.said(4);
+            assert!(said.contains(&self.file), "{what}: {said}");
+        }
+    }
 }
 
 impl Faults {
@@ -103,16 +120,11 @@ impl Faults {
             let (ran, hits) = self.run(&words, at, how);
             let Some(hit) = hits.first() else {
                 assert!(ran.printed().is_empty());
-                assert!(std::fs::read(out).expect("the table") == expected);
+                assert!(fs::read(out).expect("the table") == expected);
                 return at - 1;
             };
             let what = format!("{how} at call {at}, {hit:?}");
-            if lives {
-                let said = ran.said(4);
-                assert!(said.contains(&hit.file), "{what}: {said}");
-            } else {
-                assert_eq!(ran.status, None, "{what}: {}", ran.err);
-            }
+            hit.check(ran, lives, &what);
             old_or_whole(&out, expected, &what);
             if folder.join("state").exists() {
                 let ran = self.well(&["status", word(&folder)]);
@@ -137,23 +149,15 @@ impl Faults {
             let (ran, hits) = self.run(&words, at, how);
             let Some(hit) = hits.first() else {
                 assert!(ran.printed().is_empty());
-                assert!(std::fs::read(out).expect("the table") == expected);
+                assert!(fs::read(out).expect("the table") == expected);
                 return at - 1;
             };
             let what = format!("{how} at call {at}, {hit:?}");
-            if lives {
-                let said = ran.said(4);
-                assert!(said.contains(&hit.file), "{what}: {said}");
-            } else {
-                assert_eq!(ran.status, None, "{what}: {}", ran.err);
-            }
+            hit.check(ran, lives, &what);
             old_or_whole(&out, &expected, &what);
             // What is left does not disturb the next.
             self.well(&words).printed();
-            assert!(
-                std::fs::read(&out).expect("the table") == expected,
-                "{what}"
-            );
+            assert!(fs::read(&out).expect("the table") == expected, "{what}");
             let left = files(&scratch.path(""));
             assert_eq!(left.keys().collect::<Vec<_>>(), ["table.tsv"], "{what}");
         }
@@ -216,6 +220,68 @@ fn every_call_of_a_table_without_a_job_may_go_wrong() {
             println!("{}, {}: {calls} calls", words[0], way.0);
             assert!(calls > 8, "there are more calls");
         }
+    }
+}
+
+/// A search whose table goes over an older one.
+fn over_older(scratch: &Scratch, mode: u32) -> [String; 6] {
+    let file = scratch.file("a.fa", ">a\nACGTACGT\n>b\nACGGT\n");
+    let out = scratch.file("table.tsv", OLDER);
+    fs::set_permissions(&out, Permissions::from_mode(mode)).expect("a mode");
+    let words = ["search", "NN", "1", word(&file), "--out", word(&out)];
+    words.map(str::to_string)
+}
+
+#[test]
+fn what_the_older_ones_group_might_do_another_group_may_not() {
+    let scratch = Scratch::new();
+    let faults = Faults::new(&scratch);
+    for (before, after) in [
+        (0o660, 0o600),
+        (0o664, 0o644),
+        (0o640, 0o600),
+        (0o606, 0o666),
+    ] {
+        let words = over_older(&scratch, before);
+        let (ran, hits) = faults.run(&words.each_ref().map(String::as_str), 0, "owners");
+        assert!(ran.printed().is_empty());
+        assert_eq!(hits.len(), 2, "{hits:?}");
+        let found = fs::metadata(scratch.path("table.tsv")).expect("the table");
+        assert!(found.len() > OLDER.len() as u64);
+        assert_eq!(found.mode() & 0o7777, after, "{before:o}");
+    }
+}
+
+#[test]
+fn without_locks_the_file_that_another_program_writes_is_left_alone() {
+    let scratch = Scratch::new();
+    let faults = Faults::new(&scratch);
+    let words = over_older(&scratch, 0o644);
+    let words = words.each_ref().map(String::as_str);
+    let expected = faults.well(&words[..4]).printed();
+    let out = scratch.path("table.tsv");
+    let part = scratch.path("table.tsv.tulfasheq-part");
+    for others in [None, Some("another's")] {
+        fs::write(&out, OLDER).expect("an older one");
+        if let Some(others) = others {
+            fs::write(&part, others).expect("another's");
+        }
+        let (ran, hits) = faults.run(&words, 0, "locks");
+        assert!(ran.printed().is_empty());
+        assert!(fs::read(&out).expect("the table") == expected);
+        // What was tried by its common name, and then by one of its own.
+        let ending = |hit: &Hit| hit.file.ends_with("table.tsv.tulfasheq-part");
+        assert_eq!(
+            hits.iter().filter(|hit| !ending(hit)).count(),
+            1,
+            "{hits:?}"
+        );
+        let left = fs::read_to_string(&part).ok();
+        assert_eq!(left.as_deref(), others);
+        assert_eq!(
+            parts(&scratch.path("")).len(),
+            usize::from(others.is_some())
+        );
     }
 }
 

@@ -137,14 +137,11 @@ fn a_link_that_leads_elsewhere_meanwhile_is_told() {
     whole(run(&other.in_job(&new)), &new, &other.table());
     let before = files(&new);
     // It is begun by its own path, and gone on with by the link.
-    let moved_away = scratch.path("away");
-    let mut first = moved(&search, &real, &moved_away);
-    first.kill().expect("it is killed");
-    first.wait().expect("it ends");
-    fs::rename(&moved_away, &real).expect("it is moved back");
+    search.stopped(&real);
     symlink(&real, &link).expect("a link");
+    let saved = state_value(&real, "bytes").expect("a number");
     let first = start(&["resume", word(&link)]);
-    until_rows(&real, state_value(&real, "bytes").expect("a number"));
+    until_rows(&real, saved);
     signal(&first, SIGSTOP);
     fs::remove_file(&link).expect("the link goes");
     symlink(&new, &link).expect("another");

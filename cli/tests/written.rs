@@ -178,6 +178,34 @@ fn is_root() -> bool {
 }
 
 #[test]
+fn a_part_of_another_user_that_may_not_be_removed_is_told() {
+    let (scratch, _) = folder();
+    if !is_root() {
+        println!("only root can make another user's file: not tested");
+        return;
+    }
+    let sticky = scratch.path("sticky");
+    fs::create_dir(&sticky).expect("a folder");
+    fs::set_permissions(&sticky, Permissions::from_mode(0o1777)).expect("a mode");
+    let part = scratch.file("sticky/table.tsv.tulfasheq-part", "another's");
+    for mode in [0o600, 0o644, 0o666] {
+        fs::set_permissions(&part, Permissions::from_mode(mode)).expect("a mode");
+        let words = [&SEARCH[..], &["--out", "sticky/table.tsv"]].concat();
+        let said = ran(&mut as_someone(&scratch, &words)).said(4);
+        assert!(said.contains("table.tsv.tulfasheq-part: "), "{said}");
+        assert!(
+            said.contains("permitted") || said.contains("permission denied"),
+            "{said}"
+        );
+        assert!(
+            said.contains("have it removed, or write to another file by --out"),
+            "{said}"
+        );
+        assert_eq!(read(&part), b"another's");
+    }
+}
+
+#[test]
 fn a_place_that_cannot_be_written_is_noticed_before_the_search() {
     let (scratch, table) = folder();
     let mode = |name: &str, mode| {
