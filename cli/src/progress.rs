@@ -10,19 +10,19 @@ const EVERY: Duration = Duration::from_millis(200);
 pub struct Progress {
     shown: bool,
     width: usize,
-    /// The time that was spent before.
-    before: Duration,
+    /// The time that was spent before, where it is known.
+    before: Option<Duration>,
     begun: Instant,
     last: Option<Instant>,
 }
 
 impl Progress {
     pub fn new(quiet: bool) -> Progress {
-        Progress::after(Duration::ZERO, quiet)
+        Progress::after(Some(Duration::ZERO), quiet)
     }
 
-    /// Of what goes on, after so much time was spent on it.
-    pub fn after(before: Duration, quiet: bool) -> Progress {
+    /// Of what goes on, after so much time was spent on it, where that is known.
+    pub fn after(before: Option<Duration>, quiet: bool) -> Progress {
         Progress {
             shown: !quiet && io::stderr().is_terminal(),
             width: 0,
@@ -32,9 +32,14 @@ impl Progress {
         }
     }
 
-    /// The time spent.
+    /// The time spent, as far as it is known.
     pub fn time(&self) -> Duration {
-        self.before + self.begun.elapsed()
+        self.before.unwrap_or_default() + self.begun.elapsed()
+    }
+
+    /// Whether that is all of it.
+    pub fn is_whole(&self) -> bool {
+        self.before.is_some()
     }
 
     /// Whether the line is to be written anew.

@@ -1,7 +1,7 @@
 //! `status`: what a job is, and how far.
 
 use crate::failure::Answer;
-use crate::job::About;
+use crate::job::{About, UNKNOWN};
 use crate::out::Out;
 use crate::progress::{clock, percent};
 use std::path::Path;
@@ -31,7 +31,7 @@ pub fn status(folder: &Path) -> Answer<()> {
         ("done", percent(template.share(letters, number))),
         ("steps", about.steps().to_string()),
         ("rows", about.rows().to_string()),
-        ("time", clock(about.time())),
+        ("time", about.time().map_or(UNKNOWN.to_string(), clock)),
     ];
     let mut text = String::new();
     for (name, value) in lines {

@@ -62,13 +62,17 @@ fn a_job_that_was_begun_goes_on_in_the_new_layout() {
     let before = files(&folder);
     let status = String::from_utf8(run(&["status", word(&folder)]).printed()).expect("text");
     assert!(status.contains("state\tstopped\n"), "{status}");
-    assert!(status.contains("time\t0:00:00\n"), "{status}");
+    assert!(status.contains("time\tunknown\n"), "{status}");
     assert!(files(&folder) == before, "status changed the folder");
     let file = scratch.file("a.fa", SEQUENCES);
     let expected = run(&["search", "NN[0,2]N", "2", word(&file)]).printed();
     assert!(String::from_utf8_lossy(&expected).contains(ROWS));
-    whole(run(&["resume", word(&folder)]), &folder, &expected);
+    let ran = run(&["resume", word(&folder)]);
+    assert!(ran.err.ends_with(" s in this run\n"), "{}", ran.err);
+    whole(ran, &folder, &expected);
     assert_eq!(layout(&folder), "tulfasheq job 2");
+    let status = String::from_utf8(run(&["status", word(&folder)]).printed()).expect("text");
+    assert!(status.contains("time\tunknown\n"), "{status}");
     whole(run(&["resume", word(&folder)]), &folder, &expected);
 }
 

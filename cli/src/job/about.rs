@@ -99,9 +99,10 @@ impl About {
         self.state.rows
     }
 
-    /// The time spent so far, in all programs that worked on it.
-    pub fn time(&self) -> Duration {
-        Duration::from_millis(self.state.time)
+    /// The time spent so far, in all programs that worked on it, where it is
+    /// known.
+    pub fn time(&self) -> Option<Duration> {
+        self.state.time.map(Duration::from_millis)
     }
 
     /// The sum of the table so far.

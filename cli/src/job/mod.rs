@@ -24,6 +24,7 @@ mod lock;
 mod state;
 
 pub use about::About;
+pub use state::UNKNOWN;
 
 use crate::failure::{Answer, Failure};
 use crate::folder::Folder;
@@ -103,7 +104,7 @@ impl Job {
             bytes: table::HEADER.len() as u64,
             table: sum.sum(),
             sequences: Words::of(&sequences.file),
-            time: 0,
+            time: Some(0),
             saved,
         };
         let held = table.try_clone();
@@ -206,7 +207,9 @@ impl Job {
         state.rows = rows;
         state.bytes += lines.len() as u64;
         state.table = about.sum.sum();
-        state.time = u64::try_from(time.as_millis()).unwrap_or(u64::MAX);
+        let time = u64::try_from(time.as_millis()).unwrap_or(u64::MAX);
+        // What was spent before is not known later either.
+        state.time = state.time.map(|_| time);
         state.saved.clear();
         state.saved.extend_from_slice(saved);
         self.write_state()

@@ -10,6 +10,9 @@ use std::str::{from_utf8, FromStr};
 /// that no program reads a state by another layout than its own.
 const PROGRAM: &str = "tulfasheq job ";
 
+/// A time that is not known.
+pub const UNKNOWN: &str = "unknown";
+
 /// How a state is laid out, and by what it sums.
 #[derive(Clone, Copy, Debug, PartialEq, Eq)]
 pub enum Layout {
@@ -44,8 +47,9 @@ pub struct State {
     pub table: Sum,
     /// The sum of the sequences' file.
     pub sequences: Sum,
-    /// The milliseconds spent so far; 0 in layout 1.
-    pub time: u64,
+    /// The milliseconds spent so far; not known of a job that was begun with
+    /// layout 1.
+    pub time: Option<u64>,
     /// The saved search.
     pub saved: Vec<u8>,
 }
@@ -68,7 +72,10 @@ impl State {
         }
         let (number, time) = match self.layout {
             Layout::One => (1, String::new()),
-            Layout::Two => (2, format!("time {}\n", self.time)),
+            Layout::Two => match self.time {
+                Some(time) => (2, format!("time {time}\n")),
+                None => (2, format!("time {UNKNOWN}\n")),
+            },
         };
         let lines = format!(
             "{PROGRAM}{number}\nsteps {}\nrows {}\nbytes {}\ntable {}\nsequences {}\n{time}saved {saved}\n",
@@ -121,8 +128,11 @@ impl State {
             table: sum(value("table")?)?,
             sequences: sum(value("sequences")?)?,
             time: match layout {
-                Layout::One => 0,
-                Layout::Two => number(value("time")?)?,
+                Layout::One => None,
+                Layout::Two => match value("time")? {
+                    UNKNOWN => None,
+                    time => Some(number(time)?),
+                },
             },
             saved: hex(value("saved")?)?,
         })
@@ -151,16 +161,21 @@ mod tests {
     use super::{Layout, State};
     use crate::sum::Sum;
 
-    /// One of each layout.
-    fn states() -> [State; 2] {
-        [Layout::One, Layout::Two].map(|layout| State {
+    /// One of each layout, and one of the second with no time.
+    fn states() -> [State; 3] {
+        let kinds = [
+            (Layout::One, None),
+            (Layout::Two, Some(1_234)),
+            (Layout::Two, None),
+        ];
+        kinds.map(|(layout, time)| State {
             layout,
             steps: 20,
             rows: 3,
             bytes: 77,
             table: layout.sum(b"table"),
             sequences: layout.sum(b">a\nACGT\n"),
-            time: if layout == Layout::One { 0 } else { 1_234 },
+            time,
             saved: (0..64).collect(),
         })
     }
@@ -174,7 +189,7 @@ mod tests {
 
     #[test]
     fn layout_1_is_that_of_earlier_versions() {
-        let [mut state, _] = states();
+        let [mut state, ..] = states();
         state.saved.truncate(2);
         state.table = Sum(1);
         state.sequences = Sum(0xab);
@@ -214,7 +229,7 @@ mod tests {
         let why = State::read(b"tulfasheq job 3\n").unwrap_err().why;
         assert!(why.contains("layout \"3\""), "{why}");
         // Nor is a state read by the other one.
-        let [one, two] = states().map(|state| state.text());
+        let [one, two, _] = states().map(|state| state.text());
         for (text, from, to) in [(one, "job 1\n", "job 2\n"), (two, "job 2\n", "job 1\n")] {
             assert!(State::read(text.replacen(from, to, 1).as_bytes()).is_err());
         }

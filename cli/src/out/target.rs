@@ -105,17 +105,17 @@ impl Target {
         // Until the older one's permissions are set, it is nobody else's.
         let mode = if self.older.is_some() { 0o600 } else { 0o666 };
         for _ in 0..10 {
-            let made = match folder.create(&self.part, mode) {
+            let new = match folder.create(&self.part, mode) {
                 Err(error) if error.kind() == io::ErrorKind::AlreadyExists && !self.alone => None,
-                made => Some(made.map_err(|error| self.failed(&error))?),
+                new => Some(new.map_err(|error| self.failed(&error))?),
             };
-            let locks = match &made {
+            let locks = match &new {
                 Some(file) => self
                     .hold(file)
                     .inspect_err(|_| self.give_up(&folder, file))?,
                 None => self.clear(&folder)?,
             };
-            match made {
+            match new {
                 Some(file) if locks || self.alone => return Part::new(self, folder, file),
                 Some(file) => self.give_up(&folder, &file),
                 None => {}

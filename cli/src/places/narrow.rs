@@ -10,15 +10,15 @@
 //! two records lie side by side in memory, the join may leave a start too
 //! many; the window, which ends with the record, then holds no occurrence.
 
+mod parts;
+
 use crate::failure::Answer;
 use crate::refusals;
 use crate::sequences::Sequences;
 use crate::template::Template;
 use library::{limits, Recovered, Refusal};
+use parts::{parts, Part};
 use std::collections::HashMap;
-
-/// The most letters of a part: few, so that many motifs have the same.
-const PART: u64 = 5;
 
 /// Windows with fewer letters between them are one: so there are seldom more
 /// than the library takes sequences.
@@ -26,15 +26,6 @@ const BETWEEN: usize = limits::LETTERS / limits::SEQUENCES;
 
 /// The most positions that are kept, of four bytes each.
 const MOST_KEPT: usize = 48 << 20;
-
-/// A part of a component, and the gap range behind it.
-struct Part {
-    length: u16,
-    /// The letters of the motif behind it.
-    behind: u32,
-    low: u16,
-    high: u16,
-}
 
 /// A piece of a record: where its letters stand in those of all records.
 struct Piece {
@@ -226,56 +217,11 @@ impl<'a> Narrowed<'a> {
     }
 }
 
-/// The parts of a template's components, each as long as the others of its
-/// component or a letter longer, with no gap between them.
-fn parts(template: &Template) -> Vec<Part> {
-    let mut parts: Vec<Part> = Vec::new();
-    let mut behind = template.letters();
-    for component in &template.components {
-        if let Some(last) = parts.last_mut() {
-            (last.low, last.high) = (component.low as u16, component.high as u16);
-        }
-        let mut left = component.length;
-        for count in (1..=component.length.div_ceil(PART)).rev() {
-            let length = left.div_ceil(count);
-            left -= length;
-            behind -= length;
-            parts.push(Part {
-                length: length as u16,
-                behind: behind as u32,
-                low: 0,
-                high: 0,
-            });
-        }
-    }
-    parts
-}
-
 #[cfg(test)]
 mod tests {
-    use super::{parts, Narrowed};
+    use super::Narrowed;
     use crate::sequences::Sequences;
     use crate::template::Template;
-
-    #[test]
-    fn components_are_taken_in_even_parts() {
-        let template = Template::read("NNNNNNNNNNNN[3,9]NNNNNN[0,7]N", None).expect("a template");
-        let found: Vec<_> = parts(&template)
-            .iter()
-            .map(|p| (p.length, p.behind, p.low, p.high))
-            .collect();
-        assert_eq!(
-            found,
-            [
-                (4, 15, 0, 0),
-                (4, 11, 0, 0),
-                (4, 7, 3, 9),
-                (3, 4, 0, 0),
-                (3, 1, 0, 7),
-                (1, 0, 0, 0)
-            ]
-        );
-    }
 
     #[test]
     fn a_piece_ends_with_its_record_and_stands_apart() {
