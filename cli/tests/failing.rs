@@ -325,9 +325,18 @@ fn a_leg_is_on_the_disk_before_its_state_is_and_the_state_before_the_next_leg() 
         "fsync ",
     ];
     assert_eq!(calls[..begin.len()], begin);
-    let legs: Vec<_> = calls[begin.len()..].chunks(leg.len()).collect();
-    assert!(legs.len() > 2, "more legs");
-    for calls in legs {
-        assert_eq!(calls, leg);
+    let mut rest = &calls[begin.len()..];
+    let mut legs = 0;
+    while !rest.is_empty() {
+        // One that brought no rows has only a state.
+        let calls = if rest[0] == leg[0] {
+            &leg[..]
+        } else {
+            &leg[2..]
+        };
+        assert_eq!(rest[..calls.len().min(rest.len())], *calls);
+        rest = &rest[calls.len()..];
+        legs += u32::from(calls.len() == leg.len());
     }
+    assert!(legs > 2, "more legs with rows");
 }
