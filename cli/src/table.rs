@@ -1,11 +1,11 @@
 //! The table of a search: tab-separated lines under a header, and last, only
 //! when the search has ended, a comment that tells what was searched.
 
+use crate::digits::number;
 use crate::sequences::Sequences;
 use crate::sum::Sum;
 use crate::template::Template;
 use std::fmt;
-use std::io::Write;
 
 /// The first line.
 pub const HEADER: &str = "motif\tsupport\toccurrences\n";
@@ -18,10 +18,12 @@ pub fn rows(
     weights: &[u64],
     to: &mut Vec<u8>,
 ) {
+    let mut spelled = template.spelled();
     for ((motif, support), weight) in motifs.iter().zip(supports).zip(weights) {
-        template.motif(*motif, to);
-        // To write to memory does not fail.
-        let _ = writeln!(to, "\t{support}\t{weight}");
+        to.extend_from_slice(spelled.to(*motif));
+        number(b'\t', (*support).into(), to);
+        number(b'\t', *weight, to);
+        to.push(b'\n');
     }
 }
 
@@ -112,8 +114,23 @@ impl End {
 
 #[cfg(test)]
 mod tests {
-    use super::{End, Searched, HEADER};
+    use super::{rows, End, Searched, HEADER};
     use crate::sum::{Sum, Words};
+    use crate::template::Template;
+
+    #[test]
+    fn a_row_is_a_line() {
+        let template = Template::read("NN[0,3]N", None).expect("a template");
+        let mut lines = HEADER.as_bytes().to_vec();
+        let (motifs, supports) = ([0, 6, 63], [1, 10, 1_024]);
+        let weights = [1, 12, u64::MAX];
+        rows(&template, &motifs, &supports, &weights, &mut lines);
+        assert_eq!(
+            String::from_utf8_lossy(&lines),
+            "motif\tsupport\toccurrences\nAA[0,3]A\t1\t1\nAC[0,3]G\t10\t12\n\
+             TT[0,3]T\t1024\t18446744073709551615\n"
+        );
+    }
 
     fn end(steps: u64, rows: u64) -> End {
         let searched = Some(Searched {

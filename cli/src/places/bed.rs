@@ -1,7 +1,8 @@
 //! BED with twelve columns: starts count from 0 and ends are not included;
 //! the components are the blocks.
 
-use super::format::{number, Occurrence};
+use super::format::Occurrence;
+use crate::digits::number;
 
 /// The most bytes of a name.
 const NAME: usize = 255;

@@ -88,21 +88,6 @@ impl Format {
     }
 }
 
-/// A number behind a mark. Rows are mostly numbers, and there may be millions
-/// of them: this is quicker than `write!`.
-pub fn number(mark: u8, mut number: u64, to: &mut Vec<u8>) {
-    let mut digits = [b'0'; 21];
-    let mut first = digits.len() - 1;
-    while number > 9 {
-        digits[first] += (number % 10) as u8;
-        number /= 10;
-        first -= 1;
-    }
-    digits[first] += number as u8;
-    digits[first - 1] = mark;
-    to.extend_from_slice(&digits[first - 1..]);
-}
-
 /// Bytes with a percent sign and two digits for each that may not stand.
 pub fn escaped(bytes: &[u8], stands: impl Fn(u8) -> bool, to: &mut Vec<u8>) {
     for byte in bytes {
@@ -127,18 +112,4 @@ pub fn tried(name: &[u8], second: u32, try_it: impl FnOnce(&Occurrence)) {
         starts: &[5, second],
         components: &template.components,
     });
-}
-
-#[cfg(test)]
-mod tests {
-    use super::number;
-
-    #[test]
-    fn a_number_stands_behind_its_mark() {
-        for value in [0, 9, 10, 65_536, 1_000_000_007, u64::MAX] {
-            let mut text = Vec::new();
-            number(b',', value, &mut text);
-            assert_eq!(String::from_utf8_lossy(&text), format!(",{value}"));
-        }
-    }
 }

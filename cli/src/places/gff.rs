@@ -1,7 +1,8 @@
 //! GFF3: a line for an occurrence and, where the template has several
 //! components, one for each of them; from 1, ends included.
 
-use super::format::{escaped, number, Occurrence};
+use super::format::{escaped, Occurrence};
+use crate::digits::number;
 use crate::sequences::Sequences;
 use crate::sum::Sum;
 use std::collections::HashMap;

@@ -35,11 +35,9 @@ impl Occurrences<'_> {
             sum = sum.and(self.sequences.name(number)).and(b"\n");
         }
         sum = sum.and(self.template.text.as_bytes()).and(b"\n");
-        let mut spelled = Vec::new();
+        let mut spelled = self.template.spelled();
         for motif in &self.motifs {
-            spelled.clear();
-            self.template.motif(*motif, &mut spelled);
-            sum = sum.and(&spelled).and(b"\n");
+            sum = sum.and(spelled.to(*motif)).and(b"\n");
         }
         sum
     }
@@ -72,7 +70,7 @@ impl Occurrences<'_> {
         let width = template.components.len() + 1;
         let mut room = vec![0; PAGE * width];
         let mut narrowed = Narrowed::new(sequences, template);
-        let mut spelled = Vec::new();
+        let mut spelled = template.spelled();
         let from = u128::from(from);
         // The rows of the motifs before, of which there may be more than 64
         // bits hold, and those still to be handed out.
@@ -85,15 +83,14 @@ impl Occurrences<'_> {
             if progress.due() {
                 progress.show(&how_far(number, self.motifs.len()));
             }
-            spelled.clear();
-            template.motif(*motif, &mut spelled);
+            let spelled = spelled.to(*motif);
             narrowed.to(*motif, &mut room)?;
             let mut first = from.saturating_sub(before) as u64;
             let mut length = u64::MAX;
             let count = self.counts.as_ref().map(|counts| counts[number]);
             if first > 0 || count.is_some() && number == begin {
                 length = narrowed.recover(0, &mut [])?.length;
-                check(&spelled, count, length)?;
+                check(spelled, count, length)?;
             }
             while first < length {
                 let most = left.min(PAGE as u64) as usize * width;
@@ -104,7 +101,7 @@ impl Occurrences<'_> {
                     rows.zip(before + u128::from(first)..)
                         .map(|(row, number)| Occurrence {
                             row: number,
-                            motif: &spelled,
+                            motif: spelled,
                             name: sequences.name(row[0]),
                             sequence: row[0],
                             starts: &row[1..],

@@ -1,7 +1,8 @@
 //! Tab-separated lines under a header: the motif, the record's name, the
 //! sequence's number, and the start of each component, all from 1.
 
-use super::format::{escaped, number, Occurrence};
+use super::format::{escaped, Occurrence};
+use crate::digits::number;
 use std::io::Write;
 
 /// The first line.

@@ -4,6 +4,7 @@
 mod habits;
 mod motif;
 mod read;
+mod spelled;
 
 use crate::failure::Answer;
 use library::limits;

@@ -1,5 +1,5 @@
-//! A motif's text and its number. The letters are digits, the first one the
-//! highest, as `include/tulfasheq.h` has them.
+//! A motif's number. The letters are digits, the first one the highest, as
+//! `include/tulfasheq.h` has them.
 
 use super::Template;
 use crate::caret;
@@ -11,50 +11,12 @@ const MIXED: (&[u8], u32) = (b"ACGTRYKMSWBDHV", 4);
 
 impl Template {
     /// The symbols that a motif may have, and the bits of a digit.
-    fn symbols(&self) -> (&'static [u8], u32) {
+    pub(super) fn symbols(&self) -> (&'static [u8], u32) {
         if self.mixed {
             MIXED
         } else {
             EXACT
         }
-    }
-
-    /// The digit of a letter of a prefix, counted from 0.
-    fn digit(&self, letters: u64, number: u64, at: u64) -> u64 {
-        let (_, bits) = self.symbols();
-        let shift = u64::from(bits) * (letters - 1 - at);
-        let lowest = number.checked_shr(shift as u32).unwrap_or(0);
-        lowest & ((1 << bits) - 1)
-    }
-
-    /// Spells a prefix of so many letters in the template's shape.
-    fn spell(&self, letters: u64, number: u64, to: &mut Vec<u8>) {
-        let (symbols, _) = self.symbols();
-        let mut at = 0;
-        for (component, range) in self.components.iter().zip(&self.ranges) {
-            if at == letters {
-                return;
-            }
-            to.extend_from_slice(range.as_bytes());
-            let end = letters.min(at + component.length);
-            for i in at..end {
-                let digit = self.digit(letters, number, i) as usize;
-                to.push(*symbols.get(digit).unwrap_or(&b'?'));
-            }
-            at = end;
-        }
-    }
-
-    /// Spells a whole motif in the template's shape.
-    pub fn motif(&self, number: u64, to: &mut Vec<u8>) {
-        self.spell(self.letters(), number, to);
-    }
-
-    /// A prefix's text.
-    pub fn prefix(&self, letters: u64, number: u64) -> String {
-        let mut bytes = Vec::new();
-        self.spell(letters, number, &mut bytes);
-        String::from_utf8_lossy(&bytes).into_owned()
     }
 
     /// The number of a motif, from its letters: with the template's ranges
@@ -122,10 +84,13 @@ impl Template {
         if letters == 0 {
             return 1.0;
         }
-        let (symbols, _) = self.symbols();
-        let mut share = 0.0;
-        for at in (0..letters).rev() {
-            share = (share + self.digit(letters, number, at) as f64) / symbols.len() as f64;
+        let (symbols, bits) = self.symbols();
+        let (mut share, mut left) = (0.0, number);
+        // From the last letter to the first.
+        for _ in 0..letters {
+            let digit = left & ((1 << bits) - 1);
+            share = (share + digit as f64) / symbols.len() as f64;
+            left >>= bits;
         }
         share
     }
