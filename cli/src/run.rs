@@ -108,7 +108,9 @@ impl Run {
                 searched: Some(self.searched.clone()),
                 table: Some(self.sum.sum()),
             };
-            self.lines.extend_from_slice(format!("{end}\n").as_bytes());
+            let last = format!("{end}\n");
+            self.sum.and(last.as_bytes());
+            self.lines.extend_from_slice(last.as_bytes());
         }
         if self.progress.due() && !stop.asked(&mut self.progress) {
             let (letters, number) = legs::restored(sequences, &self.search.saved)
@@ -211,9 +213,7 @@ pub fn run(job: &mut Job, asking: &Asking, out: &Out, quiet: bool) -> Answer<()>
 
 /// Saves a job as far as its search has come.
 fn save(job: &mut Job, run: &Run, out: &Out) -> Answer<()> {
-    let search = &run.search;
-    let time = run.progress.time();
-    job.keep(&run.lines, search.steps, search.rows, time, &search.saved)
+    job.keep(&run.lines, &run.sum, &run.search, run.progress.time())
         .map_err(|failure| {
             if job.lost_table() {
                 return failure;

@@ -28,6 +28,7 @@ pub use state::UNKNOWN;
 
 use crate::failure::{Answer, Failure};
 use crate::folder::Folder;
+use crate::legs::Search;
 use crate::out::folder_of;
 use crate::sequences::Sequences;
 use crate::sum::Words;
@@ -177,15 +178,14 @@ impl Job {
         self.seek_end()
     }
 
-    /// Keeps what a leg brought: lines of the table, the steps, the rows and
-    /// the time so far, and the search at its new place.
+    /// Keeps what a leg brought: lines of the table, the sum of the table with
+    /// them, the search at its new place, and the time so far.
     pub fn keep(
         &mut self,
         lines: &[u8],
-        steps: u64,
-        rows: u64,
+        sum: &Words,
+        search: &Search,
         time: Duration,
-        saved: &[u8],
     ) -> Answer<()> {
         if !lines.is_empty() {
             self.table
@@ -201,17 +201,16 @@ impl Job {
             )));
         }
         let about = &mut self.about;
-        about.sum.and(lines);
+        about.sum.clone_from(sum);
         let state = &mut about.state;
-        state.steps = steps;
-        state.rows = rows;
+        state.steps = search.steps;
+        state.rows = search.rows;
         state.bytes += lines.len() as u64;
-        state.table = about.sum.sum();
+        state.table = sum.sum();
         let time = u64::try_from(time.as_millis()).unwrap_or(u64::MAX);
         // What was spent before is not known later either.
         state.time = state.time.map(|_| time);
-        state.saved.clear();
-        state.saved.extend_from_slice(saved);
+        state.saved.clone_from(&search.saved);
         self.write_state()
     }
 
