@@ -42,8 +42,9 @@ pub fn search(asked: Asked) -> Answer<()> {
     asked.out.spare(&job::paths(folder))?;
     asked.out.check()?;
     let asking = Asking::begin();
-    let job = Job::create(folder, sequences, asked.template, quorum, saved)?;
-    go_on(job, asking, &asked.out, asked.quiet)
+    let out = &asked.out;
+    let job = Job::create(folder, sequences, asked.template, quorum, saved, out)?;
+    go_on(job, asking, out, asked.quiet)
 }
 
 /// Goes on with a job. One that has ended is only read.

@@ -108,15 +108,20 @@ fn how_to_go_on_with_a_job_that_is_there_can_be_pasted() {
     let scratch = Scratch::new();
     let search = SHORT.over(&scratch);
     let odd = OsStr::from_bytes(b"it's\ta\njob\xff");
-    for name in [OsStr::new("my job"), odd] {
-        let begin = || {
+    let table = scratch.path("my table");
+    for (name, out) in [
+        (OsStr::new("my job"), &[][..]),
+        (odd, &[]),
+        (OsStr::new("another"), &["--out", "my table"]),
+    ] {
+        let begin = |out: &[&str]| {
             let mut program = program();
-            program.current_dir(scratch.path(""));
-            let begun = program.args(search.words()).arg("--job").arg(name).output();
+            program.current_dir(scratch.path("")).args(search.words());
+            let begun = program.arg("--job").arg(name).args(out).output();
             begun.expect("the program starts")
         };
-        assert_eq!(begin().status.code(), Some(0));
-        let again = begin();
+        assert_eq!(begin(&[]).status.code(), Some(0));
+        let again = begin(out);
         assert_eq!(again.status.code(), Some(2));
         let said = String::from_utf8(again.stderr).expect("text");
         let command = said.split(" holds a search already: ").nth(1);
@@ -126,7 +131,12 @@ fn how_to_go_on_with_a_job_that_is_there_can_be_pasted() {
             .current_dir(scratch.path(""))
             .output()
             .expect("bash");
-        assert!(pasted.stdout == search.table(), "{said}");
+        let written = match out {
+            [] => pasted.stdout,
+            _ => fs::read(&table).unwrap_or_default(),
+        };
+        assert!(written == search.table(), "{said}");
+        assert_eq!(table.exists(), !out.is_empty());
     }
 }
 

@@ -12,8 +12,9 @@ use std::fs;
 /// A folder in which a new job may be begun: an empty one, or one that a
 /// program left that was killed before its first save. That has a lock which
 /// says so, and is made first, plain files, and no rows yet: what only has the
-/// same names is not written over.
-pub fn may_begin(folder: &Folder) -> Answer<()> {
+/// same names is not written over. Where there is a job, it is told how to go
+/// on with it, and write its table out where it was to go.
+pub fn may_begin(folder: &Folder, out: &Out) -> Answer<()> {
     let called = folder.path.display();
     let mut names = Vec::new();
     for entry in fs::read_dir(&folder.path).map_err(|error| Failure::io(&called, &error))? {
@@ -23,7 +24,7 @@ pub fn may_begin(folder: &Folder) -> Answer<()> {
     if names.iter().any(|name| name == STATE) {
         return Err(Failure::usage(format!(
             "{called} holds a search already: {} goes on with it",
-            say::again(&folder.path, &Out::default())
+            say::again(&folder.path, out)
         )));
     }
     // The lock is made before all others, and these only after it says so.

@@ -29,7 +29,7 @@ pub use state::UNKNOWN;
 use crate::failure::{Answer, Failure};
 use crate::folder::Folder;
 use crate::legs::Search;
-use crate::out::folder_of;
+use crate::out::{folder_of, Out};
 use crate::sequences::Sequences;
 use crate::sum::Words;
 use crate::table;
@@ -73,6 +73,7 @@ impl Job {
         template: Template,
         quorum: u64,
         saved: Vec<u8>,
+        out: &Out,
     ) -> Answer<Job> {
         let made = match fs::create_dir(folder) {
             Ok(()) => true,
@@ -88,11 +89,11 @@ impl Job {
             if lock::held(&folder)? {
                 return Err(lock::busy(&folder));
             }
-            begin::may_begin(&folder)?;
+            begin::may_begin(&folder, out)?;
         }
         let lock = lock::take(&folder)?;
         // Another one may have begun since.
-        begin::may_begin(&folder)?;
+        begin::may_begin(&folder, out)?;
         disk::write_flushed(&folder, SEQUENCES, &sequences.file)?;
         let table = disk::write_flushed(&folder, ROWS, table::HEADER.as_bytes())?;
         lock::hold(&table, &folder, ROWS)?;
