@@ -58,12 +58,17 @@ impl Search {
     /// Makes a call, after which the saved search stands at its new place; or,
     /// where `waits` does not say for each moment that the call is waited for,
     /// lets it be, and the search stands where it stood. Then it is over.
-    pub fn call(&mut self, waits: impl FnMut() -> bool) -> Answer<Option<Rows<'_>>> {
+    pub fn call(
+        &mut self,
+        sequences: &Sequences,
+        template: &Template,
+        waits: impl FnMut() -> bool,
+    ) -> Answer<Option<Rows<'_>>> {
         let Some(mut call) = self.lent.take() else {
             return Ok(None);
         };
         call.saved.clone_from(&self.saved);
-        let asked = self.pace.ask();
+        let asked = self.pace.ask(sequences, template);
         let Some(done) = self.caller.call(call, asked, waits)? else {
             return Ok(None);
         };

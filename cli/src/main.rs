@@ -14,6 +14,7 @@
 mod caller;
 mod caret;
 mod counted;
+mod dearest;
 mod digits;
 mod failure;
 mod folder;

@@ -1,6 +1,8 @@
 //! How much a call of the library is asked for: what takes some milliseconds
-//! at the speed of the calls before, and less where what comes could be dear.
+//! at the speed of the calls before, and never more than what takes a tenth of
+//! a second if all that comes were the dearest.
 
+use crate::dearest::Dearest;
 use crate::sequences::Sequences;
 use crate::template::Template;
 use std::time::Duration;
@@ -9,20 +11,16 @@ use std::time::Duration;
 const CALL: f64 = 0.010;
 
 /// A call makes its tables and the rows along its place anew: in most searches
-/// that takes 0.1 to 0.5 ms, by the letters of the set and of the place, and up
-/// to 2 ms where a thousand sequences have wide gaps. It is to be no more than
-/// one part in so many of what a call takes.
+/// that takes 0.05 to 0.2 ms, by the letters of the set and of the place. It is
+/// to be no more than one part in so many of what a call takes.
 const PARTS: f64 = 100.0;
 
 /// Every so many calls one is asked for a single step, to see what a start takes.
 const LOOK: u64 = 32;
 
-/// What a call may take, in nanoseconds, if all of its steps, or all of its
-/// rows, were the dearest that the set can have: a tenth of a second for both.
-/// Only where a call would then be so short that its start counts for more than
-/// it should, it may be longer: a dear step may take several hundred times what
-/// a cheap one does. A stop does not wait for such a call (`caller`).
-const MOST: f64 = 0.05e9;
+/// What a call may take, in nanoseconds, if all of its steps and rows were the
+/// dearest.
+const MOST: f64 = 0.1e9;
 
 /// What is left, after a call, of what a dear step took: so calls grow to twice
 /// their steps, and no faster, while a stretch is cheap that comes after a dear
@@ -32,6 +30,9 @@ const LEFT: f64 = 0.5;
 /// The steps of a first call, before anything is known of their speed: few, since
 /// a stop waits for it, however long it takes.
 const FIRST: u64 = 64;
+
+/// The least rows that there is room for, where none is expected.
+const FEW: u64 = 16;
 
 /// The rows that there is room for.
 pub const ROOM: u64 = 1 << 17;
@@ -47,7 +48,10 @@ pub struct Ask {
 
 /// The speed that calls are to have.
 pub struct Pace {
+    /// By the lengths of the sequences, and once that is too little, by their
+    /// letters, which takes some time to count.
     dearest: Dearest,
+    counted: bool,
     calls: u64,
     /// The steps that the speed of the calls before allows.
     wanted: u64,
@@ -63,7 +67,8 @@ pub struct Pace {
 impl Pace {
     pub fn new(sequences: &Sequences, template: &Template) -> Pace {
         Pace {
-            dearest: Dearest::of(sequences, template),
+            dearest: Dearest::of_lengths(sequences, template),
+            counted: false,
             calls: 0,
             wanted: FIRST,
             start: 0.0,
@@ -74,19 +79,39 @@ impl Pace {
     }
 
     /// What the next call is asked for.
-    pub fn ask(&self) -> Ask {
+    pub fn ask(&mut self, sequences: &Sequences, template: &Template) -> Ask {
         if self.looks() {
             return Ask { steps: 1, rows: 1 };
         }
-        let most = self.dearest.most();
-        // The steps beside which a start is little.
-        let enough = PARTS * self.start / self.cost.max(1e-9);
-        // Twice the rows that are expected in them.
-        let rows = (2.0 * self.share * enough) as u64;
-        Ask {
-            steps: self.wanted.clamp(1, most.steps.max(enough as u64)),
-            rows: most.rows.max(rows).min(ROOM),
+        let asked = self.most();
+        if self.counted || asked.steps == self.wanted {
+            return asked;
         }
+        self.dearest = Dearest::of_letters(sequences, template);
+        self.counted = true;
+        self.most()
+    }
+
+    /// As many steps as are wanted, if they take no longer than a call may.
+    fn most(&self) -> Ask {
+        let (mut fits, mut above) = (1, self.wanted + 1);
+        while above - fits > 1 {
+            let steps = fits + (above - fits) / 2;
+            if self.dearest.call(steps, self.rows(steps)) <= MOST {
+                fits = steps;
+            } else {
+                above = steps;
+            }
+        }
+        Ask {
+            steps: fits,
+            rows: self.rows(fits),
+        }
+    }
+
+    /// Room for twice the rows that are expected in so many steps.
+    fn rows(&self, steps: u64) -> u64 {
+        ((2.0 * self.share * steps as f64) as u64).clamp(FEW, ROOM)
     }
 
     /// Whether the next call is to see what a start takes.
@@ -113,68 +138,6 @@ impl Pace {
     }
 }
 
-/// The dearest candidates and rows that a set and a template can have, in
-/// nanoseconds.
-///
-/// A candidate is an AND over the words of all sequences. One that is held and
-/// ends a component has the gap behind it opened; since such a one has four
-/// longer ones at least, no more than one in four does. A row adds up counts,
-/// one for each place where its last component may stand, and the counts are
-/// made anew for the first row of each prefix before the last component.
-///
-/// The numbers were measured on sets of 65,536 letters, as one sequence, as 64
-/// and as 1,024, of one letter and of four. On a machine that is half as fast
-/// they are twice as large, and so is what a call may take.
-#[derive(Clone, Copy, Debug)]
-struct Dearest {
-    step: f64,
-    add: f64,
-    count: f64,
-}
-
-impl Dearest {
-    fn of(sequences: &Sequences, template: &Template) -> Dearest {
-        let words: u32 = sequences.lengths.iter().map(|l| l.div_ceil(64)).sum();
-        let (words, count) = (f64::from(words), sequences.count() as f64);
-        let letters = sequences.letters.len() as f64;
-        let gaps = || template.components.iter().skip(1);
-        let span: u64 = gaps().map(|c| c.high - c.low + 1).sum();
-        let opened = if gaps().count() > 0 {
-            12.0 * words + 100.0 * count
-        } else {
-            0.0
-        };
-        let last = template.components.last();
-        let ends = match last {
-            Some(last) if last.allowance == 0 => most_frequent(&sequences.letters) as f64,
-            _ => letters,
-        };
-        Dearest {
-            step: 50.0 + 3.5 * words + opened / 4.0,
-            add: 50.0 + 0.9 * ends,
-            count: 50.0 + 1.5 * letters * gaps().count() as f64 + 0.5 * count * span as f64,
-        }
-    }
-
-    /// The most that a call may be asked for.
-    fn most(&self) -> Ask {
-        let rows = MOST / (self.add + self.count);
-        Ask {
-            steps: ((MOST / self.step) as u64).max(1),
-            rows: (rows as u64).clamp(1, ROOM),
-        }
-    }
-}
-
-/// How often the most frequent letter is there.
-fn most_frequent(letters: &[u8]) -> usize {
-    let mut counts = [0; 256];
-    for letter in letters {
-        counts[usize::from(*letter)] += 1;
-    }
-    counts.into_iter().max().unwrap_or(0)
-}
-
 #[cfg(test)]
 mod tests {
     use super::{Ask, Pace, CALL, FIRST, LOOK, MOST, PARTS, ROOM};
@@ -182,92 +145,114 @@ mod tests {
     use crate::template::Template;
     use std::time::Duration;
 
-    fn pace(file: String, template: &str) -> Pace {
-        let sequences = Sequences::new("a.fa".to_string(), file.into_bytes()).expect("sequences");
-        Pace::new(&sequences, &Template::read(template, None).expect("one"))
+    /// A search's set, its template and its pace.
+    struct Case {
+        sequences: Sequences,
+        template: Template,
+        pace: Pace,
+    }
+
+    impl Case {
+        fn new(file: String, template: &str) -> Case {
+            let sequences =
+                Sequences::new("a.fa".to_string(), file.into_bytes()).expect("sequences");
+            let template = Template::read(template, None).expect("one");
+            let pace = Pace::new(&sequences, &template);
+            Case {
+                sequences,
+                template,
+                pace,
+            }
+        }
+
+        fn ask(&mut self) -> Ask {
+            self.pace.ask(&self.sequences, &self.template)
+        }
+
+        /// Calls that take so many seconds to start and for each step, with so
+        /// many rows for a step, until their length has settled: the last that
+        /// was no look at the start.
+        fn settled(&mut self, start: f64, step: f64, share: f64) -> Ask {
+            let mut last = self.ask();
+            for _ in 0..4 * LOOK {
+                let asked = self.ask();
+                let full = (asked.rows as f64 / share).min(asked.steps as f64);
+                let (steps, rows) = (full as u64, (full * share) as u64);
+                let took = Duration::from_secs_f64(start + step * full);
+                if !self.pace.looks() {
+                    last = asked;
+                }
+                self.pace.heed(asked, steps, rows, took);
+            }
+            last
+        }
     }
 
     /// Over a short set, of which no call is too long.
-    fn short() -> Pace {
-        pace(">a\nACGT\n".to_string(), "NN[0,3]N")
+    fn short() -> Case {
+        Case::new(">a\nACGT\n".to_string(), "NN[0,3]N")
     }
 
-    /// Over as many letters as there can be.
-    fn full() -> Pace {
+    /// Over as many letters as there can be, in sequences of so many.
+    fn full(letters: usize) -> Case {
         let template = "NN[0,40]NN[0,40]NN[0,40]NN[0,40]NN[200,255]NNN";
-        pace(format!(">a\n{}\n", "ACGT".repeat(16_384)), template)
-    }
-
-    /// Calls that take so many seconds to start and for each step, until their
-    /// length has settled: the last that was no look at the start.
-    fn settled(pace: &mut Pace, start: f64, step: f64, share: f64) -> Ask {
-        let mut last = pace.ask();
-        for _ in 0..4 * LOOK {
-            let asked = pace.ask();
-            let rows = ((asked.steps as f64 * share) as u64).min(asked.rows);
-            let steps = if rows == asked.rows && share > 0.0 {
-                (rows as f64 / share) as u64
-            } else {
-                asked.steps
-            };
-            let took = Duration::from_secs_f64(start + step * steps as f64);
-            if !pace.looks() {
-                last = asked;
-            }
-            pace.heed(asked, steps, rows, took);
-        }
-        last
+        let record = format!(">a\n{}\n", "ACGT".repeat(letters / 4));
+        Case::new(record.repeat(65_536 / letters), template)
     }
 
     #[test]
     fn a_call_takes_some_ten_milliseconds() {
         assert_eq!(short().ask().steps, FIRST);
         for step in [1e-7, 1e-6, 1e-4] {
-            let steps = settled(&mut short(), 1e-5, step, 0.0).steps as f64;
+            let steps = short().settled(1e-5, step, 0.0).steps as f64;
             let call = steps * step;
             assert!(call > 0.98 * CALL && call < 1.2 * CALL, "{step}: {call}");
         }
         // A step that takes longer than a call should is a call of its own.
-        assert_eq!(settled(&mut short(), 1e-5, 1.0, 0.0).steps, 1);
+        assert_eq!(short().settled(1e-5, 1.0, 0.0).steps, 1);
     }
 
     #[test]
-    fn a_start_is_little_of_a_call_also_where_all_could_be_dear() {
+    fn a_start_is_little_of_a_call() {
         for start in [2e-4, 2e-3] {
-            for (step, share) in [(5e-8, 0.0), (1.5e-7, 0.001), (2e-6, 0.7), (4e-4, 1.0)] {
-                let steps = settled(&mut full(), start, step, share).steps as f64;
-                let part = start / (steps * step);
-                assert!(part < 1.05 / PARTS, "{start}, {step}: {part}");
+            let steps = short().settled(start, 1e-6, 0.0).steps as f64;
+            let part = start / (steps * 1e-6);
+            assert!(part < 1.05 / PARTS, "{start}: {part}");
+        }
+    }
+
+    #[test]
+    fn all_of_a_call_could_be_the_dearest() {
+        for letters in [64, 128, 1_024, 65_536] {
+            for share in [0.0, 0.001, 0.7] {
+                let mut case = full(letters);
+                // So cheap that the clock would allow far more.
+                let asked = case.settled(1e-4, 1e-9, share);
+                let takes = case.pace.dearest.call(asked.steps, asked.rows);
+                assert!(
+                    takes <= MOST && takes > 0.9 * MOST,
+                    "{letters}, {share}: {takes}"
+                );
+                assert!(case.pace.counted);
             }
         }
     }
 
     #[test]
-    fn all_of_a_call_could_be_the_dearest_where_starts_are_short() {
-        let mut pace = full();
-        // So cheap that the clock would allow far more.
-        let asked = settled(&mut pace, 1e-8, 1e-9, 0.0);
-        let dearest = pace.dearest;
-        let steps = asked.steps as f64 * dearest.step;
-        let rows = asked.rows as f64 * (dearest.add + dearest.count);
-        assert!(steps <= MOST && steps > 0.9 * MOST, "{steps}");
-        assert!(rows <= MOST && rows > 0.9 * MOST, "{rows}");
-    }
-
-    #[test]
     fn calls_grow_to_twice_their_steps_after_a_dear_one() {
-        let mut pace = short();
-        pace.start = 1e-5;
-        pace.calls = 2;
+        let mut case = short();
+        case.pace.start = 1e-5;
+        case.pace.calls = 2;
         let ask = |steps| Ask { steps, rows: ROOM };
-        pace.heed(ask(8_000), 8_000, 0, Duration::from_micros(10_010));
-        assert_eq!(pace.ask().steps, 8_000);
+        let mut heed = |asked: u64, took| {
+            case.pace.heed(ask(asked), asked, 0, took);
+            case.ask().steps
+        };
+        assert_eq!(heed(8_000, Duration::from_micros(10_010)), 8_000);
         for steps in [16_000, 32_000, 64_000] {
-            pace.heed(ask(100_000), 100_000, 0, Duration::from_micros(20));
-            assert_eq!(pace.ask().steps, steps);
+            assert_eq!(heed(100_000, Duration::from_micros(20)), steps);
         }
         // Nor to more than four times, whatever the clock says.
-        pace.heed(ask(10), 10, 0, Duration::ZERO);
-        assert_eq!(pace.ask().steps, 40);
+        assert_eq!(heed(10, Duration::ZERO), 40);
     }
 }

@@ -84,10 +84,8 @@ impl Run {
         // A first one is waited for, so that a job gets on however often it is
         // stopped.
         let first = self.calls == 0;
-        let Some(rows) = self
-            .search
-            .call(|| stop.waits(&mut self.progress) || first)?
-        else {
+        let waits = || stop.waits(&mut self.progress) || first;
+        let Some(rows) = self.search.call(sequences, template, waits)? else {
             return Ok(());
         };
         let before = self.lines.len();
