@@ -7,7 +7,7 @@ cd "$(dirname "$0")/.."
 
 # The crates whose public functions may ask something of their callers, all of which are in this repository and proved to meet
 # it. What is called from outside asks nothing.
-inner=' rules checks rows matching places ways descent text stdin '
+inner=' rules checks rows matching places legs records ways descent text stdin '
 
 crates=$(sed -n 's/^\([a-z][a-z0-9_]*\) *:.*/\1/p' crates.txt | sort)
 

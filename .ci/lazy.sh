@@ -19,10 +19,10 @@ cat >"$work/page" <<'END'
 heading	The lazy programs of document 01
 intro	Those that "Why a lazy program cannot pass" names, in its order.
 row	search/refuses_all
-row	search/empty_list
-row	search/says_spent
-row	search/says_ended
-row	search/invented_steps
+row	legs/empty_list
+row	legs/says_spent
+row	legs/says_ended
+row	legs/invented_steps
 heading	Ways this goes astray
 intro	Those that document 01 names under these words, in its order.
 row	rules/gap_start_to_start
@@ -38,15 +38,17 @@ row	descent/row_listed_twice
 row	rules/power_in_64_bits
 row	rules/last_motif_refused
 row	checks/deepest_place_lost
-row	saved/deepest_places_lost
-row	saved/ended_restored_as_first
-row	search/motif_dropped
+row	records/deepest_places_lost
+row	records/ended_restored_as_first
+row	legs/motif_dropped
 crate	rules	Definitions and limits, and the letters, profiles and records that all crates share. An edit of `specs` is of a definition: a law or a table of facts is false under it.
 crate	checks	What a call refuses, and with which number and place.
 crate	search	A new search and a leg: `search::begin`, `search::leg`.
+crate	legs	A leg of a search that was checked up to 13: 13, the walk, and the rows of its tables.
 crate	rows	Rows of bits over the set, and counts beside them, of which a leg is made.
 crate	matching	The path of a leg: a candidate's support, a motif's weighted support.
 crate	places	13: whether a search passes through its place.
+crate	records	The records of a save: read and checked up to 13, and written.
 crate	saved	`saved::save` and `saved::restore`.
 crate	ways	The counts that recovery goes by.
 crate	descent	Recovery's rows, component by component.

@@ -25,7 +25,7 @@ use Rattle.rules.proofs.Tables.{put-front}
 use Rattle.rules.proofs.Sound.{search-sound}
 use Rattle.text.specs.Printed.{row, printed-page, Page}
 use Rattle.text.proofs.Line.{print-row-is}
-use Rattle.search.specs.AcceptedLeg.{room-of}
+use Rattle.legs.specs.AcceptedLeg.{room-of}
 use Rattle.motifs.specs.Pages.{print-rows, leg-page}
 
 -- what holds of a refused leg and of an accepted one holds of every leg

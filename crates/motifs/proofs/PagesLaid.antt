@@ -23,7 +23,7 @@ use Rattle.rules.proofs.Searches.{walk-pos}
 use Rattle.rules.proofs.Sound.{search-sound, search-fine}
 use Rattle.rules.proofs.Step.{at-end}
 use Rattle.rules.proofs.Whole.{listed-append}
-use Rattle.search.specs.AcceptedLeg.{room-of}
+use Rattle.legs.specs.AcceptedLeg.{room-of}
 use Rattle.motifs.specs.declared.pages.Left.{Left}
 use Rattle.motifs.specs.declared.pages.Left.the-variants as left
 use Rattle.motifs.specs.declared.pages.Way.{Way}

@@ -23,7 +23,7 @@ ghost use mathlib.Core.Path.{_≡_};
 ghost use Prim.Native.Nat.{_≤_};
 ghost use lib.ListN.{length};
 ghost use Rattle.rules.specs.Limits.{Text-BYTES};
-ghost use Rattle.search.specs.AcceptedLeg.{room-of};
+ghost use Rattle.legs.specs.AcceptedLeg.{room-of};
 ghost use Rattle.motifs.specs.Pages.{Page-ROWS, Page-BYTES, Printable};
 
 // Writes what is left, one page after another, and stops where a write failed.

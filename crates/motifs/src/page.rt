@@ -8,7 +8,7 @@ ghost use Rattle.rules.specs.Calls.{leg-rule};
 ghost use Rattle.rules.specs.Lists.{put};
 ghost use Rattle.rules.specs.Told.{toldLeg};
 ghost use Rattle.text.specs.Printed.{Line-ROOM};
-ghost use Rattle.search.specs.AcceptedLeg.{room-of};
+ghost use Rattle.legs.specs.AcceptedLeg.{room-of};
 ghost use Rattle.motifs.specs.Pages.{leg-page};
 
 // What a leg answered, and how many bytes its page has.

@@ -13,7 +13,7 @@ ghost use Prim.Native.Nat.{_+_, _^_, _≤_, _<_};
 ghost use lib.ListN.{length};
 ghost use Rattle.rules.specs.Lists.{if};
 ghost use Rattle.rules.specs.Told.{refusal-number, refusal-place, toldAnswer, toldBegun};
-ghost use Rattle.search.specs.AcceptedLeg.{room-of};
+ghost use Rattle.legs.specs.AcceptedLeg.{room-of};
 ghost use Rattle.motifs.specs.Left.{refusal, rows, nothing, more?, opening, rows-or-end};
 ghost use Rattle.motifs.specs.Pages.{Page-ROWS, Page-BYTES, ended-told?, Goes, Printable, Next};
 

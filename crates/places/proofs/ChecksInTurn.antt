@@ -1,6 +1,6 @@
 -- The checks of a search in turn: those before 13, and then 13, whose work the earlier ones make sound.
-use mathlib.Core.Path.{_≡_, sym, ap, _∙_}
-use mathlib.Core.Bool.{Bool, true, false, not, false≢true}
+use mathlib.Core.Path.{_≡_, sym, _∙_}
+use mathlib.Core.Bool.{Bool, true, not}
 use mathlib.Core.List.{List}
 use Prim.Native.Nat.{ℕ}
 use Rattle.checks.specs.CheckOrders.{template-checks, value-checks-before-13}
@@ -14,10 +14,6 @@ use Rattle.rules.specs.declared.Search.{Search}
 use Rattle.rules.proofs.EachCheck.{check23-fine}
 use Rattle.rules.proofs.Sound.{set-sound, template-sound}
 use Rattle.rules.proofs.Verdicts.{else-assoc, else-fine, else-both, none-of, all-fine}
-
--- a refusal is not fine
-pub not-fine : {n p : ℕ} → refused n p ≡ fine → ⊥
-not-fine e = false≢true (ap (λ v. elim v [ fine ↦ true | refused n p ↦ false ]) e)
 
 module _ (letters lengths : List ℕ) (s : Search) where
   -- 13 from its test

@@ -14,7 +14,7 @@ ghost use Rattle.rules.specs.Lists.{if};
 ghost use Rattle.rules.specs.Refusals.{first, check13, passes?, search-checks};
 ghost use Rattle.rules.specs.Saved.{place-rule?};
 ghost use Rattle.rules.specs.Sound.{SoundSet, SoundTemplate};
-ghost use Rattle.rules.specs.Told.{fine, toldChecked};
+ghost use Rattle.rules.specs.Told.{toldChecked};
 ghost use Rattle.matching.specs.Path.{Tables, Made};
 ghost use Rattle.places.specs.SearchOrder.{before-13};
 
@@ -84,8 +84,9 @@ fn passes(
     frequent(size, quorum, found)
 }
 
-// 13: a place that the search does not pass through.
-fn check_passes(
+// 13, of a leg: a place that the search does not pass through. Where there is a candidate, the tables have its path, on which the leg
+// goes.
+pub fn check_passes(
     letters: &[u8],
     lengths: &[u32],
     s: Search,
@@ -201,7 +202,7 @@ pub fn check_13(letters: &[u8], lengths: &[u32], s: Search) -> Checked
 }
 
 // 1 to 4, 5, 23, 6, 7, 8, 24, 12, 9: what a leg or a save checks of its search before 13.
-fn check_before_13(letters: &[u8], lengths: &[u32], s: Search) -> Checked
+pub fn check_before_13(letters: &[u8], lengths: &[u32], s: Search) -> Checked
     ensures { λ r. ⌜ toldChecked r ≡ before-13 (now (letters .entry)) (now (lengths .entry)) s ⌝ }
 {
     checks::check_set(letters, lengths).then(checks::check_value(letters, lengths, s))
@@ -215,43 +216,5 @@ pub fn check_alone(letters: &[u8], lengths: &[u32], s: Search) -> Checked
     match verdict {
         Checked::Refused(why) => Checked::Refused(why),
         Checked::Fine => check_13(letters, lengths, s),
-    }
-}
-
-// All that a leg checks of its search. The tables are for the work; where nothing is refused, they have the path of its place.
-pub fn check_search(
-    letters: &[u8],
-    lengths: &[u32],
-    s: Search,
-    inside: &mut [u8],
-    firsts: &mut [u32],
-    offsets: &mut [u32],
-    standing: &mut [u64],
-    evens: &mut [u64],
-    odds: &mut [u64],
-    work: &mut [u64],
-    spare: &mut [u64],
-) -> Checked
-    requires { ⌜ Tables (now inside) (now firsts) (now offsets) (now standing) (now evens) (now odds) (now work) (now spare) ⌝ }
-    ensures { λ r. ⌜ toldChecked r ≡ first (search-checks (now (letters .entry)) (now (lengths .entry)) s) ⌝ }
-    ensures { λ _. ⌜ Tables (now (inside .exit)) (now (firsts .exit)) (now (offsets .exit)) (now (standing .exit)) (now (evens .exit)) (now (odds .exit)) (now (work .exit)) (now (spare .exit)) ⌝ }
-    ensures { λ r. ⌜ (toldChecked r ≡ fine → 1 ≤ s .place .letters → Made (s .template) (now (lengths .entry)) (now (letters .entry)) (now (inside .exit)) (now (firsts .exit)) (now (offsets .exit)) (now (standing .exit)) (now (evens .exit)) (now (odds .exit)) (s .place .letters) (s .place .number)) ⌝ }
-{
-    let verdict = check_before_13(letters, lengths, s);
-    match verdict {
-        Checked::Refused(why) => Checked::Refused(why),
-        Checked::Fine => check_passes(
-            letters,
-            lengths,
-            s,
-            inside,
-            firsts,
-            offsets,
-            standing,
-            evens,
-            odds,
-            work,
-            spare,
-        ),
     }
 }

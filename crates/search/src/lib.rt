@@ -1,7 +1,4 @@
 // The search for frequent motifs, as a caller sees it.
-mod run;
-mod step;
-
 ghost use mathlib.Core.Path.{_≡_};
 ghost use Rattle.rules.specs.Calls.{begin-rule, leg-rule};
 ghost use Rattle.rules.specs.Told.{toldBegun, toldLeg};
@@ -54,28 +51,7 @@ pub fn leg(
     ensures { λ _. ⌜ now (supports .exit) ≡ (leg-rule (now (letters .entry)) (now (lengths .entry)) search budget (now (motifs .entry)) (now (supports .entry)) (now (weights .entry))) .supports ⌝ }
     ensures { λ _. ⌜ now (weights .exit) ≡ (leg-rule (now (letters .entry)) (now (lengths .entry)) search budget (now (motifs .entry)) (now (supports .entry)) (now (weights .entry))) .weights ⌝ }
 {
-    let mut inside = [0u8; matching::LETTERS];
-    let mut firsts = [0u32; matching::FIRSTS];
-    let mut offsets = [0u32; matching::OFFSETS];
-    let mut standing = [0u64; matching::STANDING];
-    let mut evens = [0u64; matching::SLOTS];
-    let mut odds = [0u64; matching::SLOTS];
-    let mut work = [0u64; matching::WORDS];
-    let mut spare = [0u64; matching::WORDS];
-    let mut ways = [0u64; SequenceSet::LETTERS];
-    let checked = places::check_search(
-        letters,
-        lengths,
-        search,
-        &mut inside,
-        &mut firsts,
-        &mut offsets,
-        &mut standing,
-        &mut evens,
-        &mut odds,
-        &mut work,
-        &mut spare,
-    );
+    let checked = places::check_before_13(letters, lengths, search);
     match checked {
         Checked::Refused(why) => Leg {
             answer: LegAnswer::Refused(why),
@@ -83,23 +59,6 @@ pub fn leg(
             rows: 0,
             search,
         },
-        Checked::Fine => run::run(
-            letters,
-            lengths,
-            search,
-            budget,
-            motifs,
-            supports,
-            weights,
-            &inside,
-            &firsts,
-            &offsets,
-            &standing,
-            &mut evens,
-            &mut odds,
-            &mut work,
-            &mut spare,
-            &mut ways,
-        ),
+        Checked::Fine => legs::leg(letters, lengths, search, budget, motifs, supports, weights),
     }
 }

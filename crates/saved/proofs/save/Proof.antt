@@ -1,13 +1,11 @@
 -- `save`: a refusal before 17 is told as it was found, and else 17 decides.
 use mathlib.Core.Path.{_≡_, sym, ap, _∙_}
 use Prim.Native.Nat.{ℕ}
-use lib.ListN.{length}
-use Rattle.rules.specs.Calls.{Written, on-refusal, written-unless, save-rule}
-use Rattle.rules.specs.Refusals.{check17}
-use Rattle.rules.specs.Saved.{bytes}
+use Rattle.records.specs.ReadWrite.{write-rule}
+use Rattle.rules.specs.Calls.{Written, on-refusal, save-rule}
 use Rattle.rules.specs.Told.{toldChecked, refuses}
 use Rattle.rules.proofs.Sound.{search-sound}
-use Rattle.saved.proofs.Before.{save-told}
+use Rattle.saved.proofs.RoomLast.{save-told}
 use borrow.Author.Needs.{needs}
 use Rattle.saved.proofs.save.Statement.{statement}
 use Rattle.saved.proofs.save.Tie as tie
@@ -19,14 +17,14 @@ check-alone-requires c κs = search needs
 told : (c : tie.After-check-alone) → let a = c .before .before .before .before .args in
     save-rule (a .letters .now) (a .lengths .now) (a .search) (a .out .now)
     ≡ on-refusal (toldChecked (c .check-alone .result)) (λ n p. record { told = refuses n p; out = a .out .now })
-    (written-unless (check17 (length (bytes (a .search))) (a .out .now)) (length (bytes (a .search))) (bytes (a .search)) (a .out .now))
+    (write-rule (a .search) (a .out .now))
 told c = save-told _ _ _ _ (c .check-alone .ensures)
 
 enum-told : tie.Need-enum-told
 enum-told c = search needs
 
-write-requires : tie.Need-write-requires
-write-requires c κs =
+write-search-requires : tie.Need-write-search-requires
+write-search-requires c κs =
     let f = c .before .before .before in
     let a = f .before .before .before .before .args in
     (search-sound (a .letters .now) (a .lengths .now) (a .search) (sym (f .check-alone .ensures) ∙ ap toldChecked (c .before .enum-told .given .1))) .template
@@ -41,7 +39,7 @@ returns : tie.Need-returns
 returns c =
     let w = c .before .before in
     let q = rw (w .before .before .enum-told .given .1) at (told (w .before .before .before .before)) in
-    (w .write .ensures .0 ∙ sym (ap (λ (w : Written ℕ). w .told) q), w .write .ensures .1 ∙ sym (ap (λ (w : Written ℕ). w .out) q))
+    (w .write-search .ensures .0 ∙ sym (ap (λ (w : Written ℕ). w .told) q), w .write-search .ensures .1 ∙ sym (ap (λ (w : Written ℕ). w .out) q))
 
 returns-2 : tie.Need-returns-2
 returns-2 c =
@@ -54,7 +52,7 @@ save-spec =
     (tie.spec
     check-alone-requires
     enum-told
-    write-requires
+    write-search-requires
     enum-known-found
     same-length
     returns
