@@ -4,6 +4,7 @@ pub mod Filling
 pub mod Found
 pub mod Outcomes
 pub mod Resaved
+pub mod CheckedOnce
 pub mod Shapes
 pub mod MadeOfTwo
 pub mod Zero

@@ -1,4 +1,4 @@
--- The search that a leg leaves can be saved over the bytes that it was restored from: it passes its checks, and its save is as
+-- The search that a leg leaves can be written over the bytes that it was restored from: it passes its checks, and its save is as
 -- long as they are.
 use mathlib.Core.Path.{_≡_, ap, _∙_}
 use mathlib.Core.List.{List, append-nil}
@@ -6,22 +6,20 @@ use Prim.Native.Nat.{ℕ, _+_, _*_}
 use native.Mathlib.Omega.{arith}
 use lib.ListN.{length}
 use lib.Seq.{drop-length}
-use Rattle.rules.specs.Calls.{stretch, leg-rule, save-rule, restore-rule}
+use Rattle.records.specs.ReadWrite.{write-rule}
+use Rattle.rules.specs.Calls.{stretch, leg-rule, restore-rule}
 use Rattle.rules.specs.Limits.{Record-BYTES, Record-EXTRA}
 use Rattle.rules.specs.Lists.{put}
 use Rattle.rules.specs.Refusals.{first, search-checks}
 use Rattle.rules.specs.Saved.{bytes, component-count, read-search, read-template}
-use Rattle.rules.specs.Told.{fine, gives, LegTold, toldLeg}
-use Rattle.rules.specs.declared.Leg.{Leg}
+use Rattle.rules.specs.Told.{fine, gives}
 use Rattle.rules.specs.declared.Search.{Search}
+use Rattle.rules.proofs.EachCheck.{check17-fine}
 use Rattle.rules.proofs.Places.{sound-passing, moved-sound}
 use Rattle.rules.proofs.Records.{bytes-counted, sized-says}
 use Rattle.rules.proofs.Relayed.{leg-passing}
 use Rattle.rules.proofs.Saves.{restore-exactly, restored-passes}
-use Rattle.rules.proofs.Sound.{SoundSearch, SoundBytes, search-sound, save-fine}
-use Rattle.exports.specs.Exported.{leg-of, leg-from}
-use Rattle.exports.specs.Numbers.{leg-told}
-use Rattle.exports.specs.declared.told.Stopped.{Stopped}
+use Rattle.rules.proofs.Sound.{SoundSearch, SoundBytes, search-sound}
 
 -- what is written over a list as long as itself
 put-over : (xs table : List ℕ) → length xs ≡ length table → put xs table ≡ xs
@@ -57,20 +55,8 @@ module _ (letters lengths : List ℕ) (s : Search) (budget : ℕ) (motifs suppor
         let n : after-leg .template .count ≡ read-search bs .template .count = ap (λ t. t .count) (after-template p) ∙ ap (λ r. r .template .count) (h .1) in
         omega (arith, n, sound-long letters lengths bs (h .0), bytes-counted after-leg ((after-sound p) .template .few))
 
-    -- so its save is written, and is all that the bytes hold then
-    pub resaved : (save-rule letters lengths after-leg bs) .out ≡ bytes after-leg
-    unfolding save-rule
+    -- so it is written, and is all that the bytes hold then
+    pub resaved : (write-rule after-leg bs) .out ≡ bytes after-leg
     resaved =
         let z = after-long in
-        rw (save-fine letters lengths after-leg bs (after-sound (restored-passes letters lengths bs s e)) (omega arith)) (put-over (bytes after-leg) bs z)
-
-    -- what a leg of a restored search leaves, from what leg and save promise
-    pub ran : (leg : Leg) {r : Stopped} {saved ms ss ws : List ℕ} → let l = leg-rule letters lengths s budget motifs supports weights in
-        (toldLeg leg ≡ l .told) × ((ms ≡ l .motifs) × ((ss ≡ l .supports) × (ws ≡ l .weights)))
-        → saved ≡ (save-rule letters lengths (leg .search) bs) .out → r ≡ leg-told (toldLeg leg)
-        → leg-of r saved ms ss ws ≡ leg-from letters lengths (gives s) budget bs motifs supports weights
-    unfolding leg-from
-    ran leg {r = r} {saved = saved} k w q =
-        let f : saved ≡ bytes after-leg = w ∙ ap (λ (t : LegTold). (save-rule letters lengths (t .search) bs) .out) (k .0) ∙ resaved in
-        let g : r ≡ leg-told ((leg-rule letters lengths s budget motifs supports weights) .told) = q ∙ ap leg-told (k .0) in
-        rw (f, g, k .1 .0, k .1 .1 .0, k .1 .1 .1)
+        rw (check17-fine (length (bytes after-leg)) bs .1 (omega arith)) (put-over (bytes after-leg) bs z)

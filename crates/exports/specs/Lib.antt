@@ -2,5 +2,6 @@
 pub mod Shape
 pub mod Numbers
 pub mod Exported
+pub mod Between
 pub mod ExportedLegs
 pub mod ExportedFacts

@@ -1,11 +1,13 @@
-// What goes between two public calls: a profile's number is checked before it, a new search is saved, a restored one runs a leg and is
-// saved again, and its shape and allowances are told.
+// What goes between two calls: a profile's number is checked before one, a new search is written, one that was read runs a leg and is
+// written again, and the shape and allowances of a restored one are told. Nothing is checked twice.
 use crate::shape;
 use crate::told::Stopped;
 use checks::check_count;
 use checks::check_set;
 use rules::Begun;
 use rules::Checked;
+use rules::Leg;
+use rules::LegAnswer;
 use rules::Profile;
 use rules::RecordNumber;
 use rules::Recovered;
@@ -14,10 +16,14 @@ use rules::Saved;
 use rules::Search;
 use rules::Template;
 ghost use mathlib.Core.Path.{_≡_};
-ghost use Rattle.exports.specs.Exported.{no-profile, profile-check, checked-written, save-begun, leg-of, leg-from, table-after};
+ghost use Rattle.exports.specs.Between.{write-begun, saved-after};
+ghost use Rattle.exports.specs.Exported.{no-profile, profile-check, checked-written, leg-of, leg-outcome, table-after};
 ghost use Rattle.exports.specs.Shape.{shape-of, allowances-of};
-ghost use Rattle.rules.specs.Calls.{on-refusal, begin-rule, save-rule, restore-rule, recover-rule};
-ghost use Rattle.rules.specs.Told.{gives, refuses, toldChecked, toldBegun, toldSaved, toldRecovered};
+ghost use Rattle.records.specs.ReadWrite.{read-rule};
+ghost use Rattle.rules.specs.Calls.{on-refusal, begin-rule, save-rule, recover-rule};
+ghost use Rattle.rules.specs.Sound.{SoundTemplate};
+ghost use Rattle.rules.specs.Told.{gives, refuses, toldChecked, toldBegun, toldLeg, toldSaved, toldRecovered};
+ghost use Rattle.rules.specs.declared.Search.{Search};
 
 // What a call with a number that is no profile's is refused with: that comes after the sequences and the number of components.
 fn no_profile(letters: &[u8], lengths: &[u32], template: Template) -> Checked
@@ -89,19 +95,36 @@ pub fn recover(
     }
 }
 
-// Saves a search that was begun.
-pub fn save_begun(letters: &[u8], lengths: &[u32], begun: Begun, saved: &mut [u8]) -> Saved
-    ensures { λ r. ⌜ toldSaved r ≡ (save-begun (now (letters .entry)) (now (lengths .entry)) (toldBegun begun) (now (saved .entry))) .told ⌝ }
-    ensures { λ _. ⌜ now (saved .exit) ≡ (save-begun (now (letters .entry)) (now (lengths .entry)) (toldBegun begun) (now (saved .entry))) .out ⌝ }
+// Writes a search that was begun: it was checked then.
+pub fn save_begun(begun: Begun, saved: &mut [u8]) -> Saved
+    requires { ⌜ ((s : Search) → toldBegun begun ≡ gives s → SoundTemplate (s .template)) ⌝ }
+    ensures { λ r. ⌜ toldSaved r ≡ (write-begun (toldBegun begun) (now (saved .entry))) .told ⌝ }
+    ensures { λ _. ⌜ now (saved .exit) ≡ (write-begun (toldBegun begun) (now (saved .entry))) .out ⌝ }
 {
     match begun {
-        Begun::Search(s) => saved::save(letters, lengths, s, saved),
+        Begun::Search(s) => records::write_search(s, saved),
         Begun::Refused(why) => Saved::Refused(why),
     }
 }
 
-// Runs a leg of a search that was restored from `saved`, and saves it there at its new place. That save is not refused: the
-// search passes through the place, and its save is as long as the one it was restored from.
+// Writes the search that a leg leaves, and nothing where the leg was refused.
+fn save_left(leg: Leg, saved: &mut [u8])
+    requires { ⌜ SoundTemplate (leg .search .template) ⌝ }
+    ensures { λ _. ⌜ now (saved .exit) ≡ saved-after (toldLeg leg) (now (saved .entry)) ⌝ }
+{
+    let answer = leg.answer;
+    let left = leg.search;
+    match answer {
+        LegAnswer::Refused(_) => {}
+        _ => {
+            records::write_search(left, saved);
+        }
+    }
+}
+
+// Runs a leg of the search that was read of `saved`, and writes it there at its new place. All but 13 was checked as it was read, and
+// the leg checks that. What it leaves needs no check: the search passes through the place, and its save is as long as the one that it
+// was read of.
 fn run(
     letters: &[u8],
     lengths: &[u32],
@@ -112,30 +135,29 @@ fn run(
     supports: &mut [u32],
     weights: &mut [u64],
 ) -> Stopped
-    requires { ⌜ restore-rule (now letters) (now lengths) (now saved) ≡ gives search ⌝ }
-    ensures { λ r. ⌜ leg-of r (now (saved .exit)) (now (motifs .exit)) (now (supports .exit)) (now (weights .exit)) ≡ leg-from (now (letters .entry)) (now (lengths .entry)) (gives search) budget (now (saved .entry)) (now (motifs .entry)) (now (supports .entry)) (now (weights .entry)) ⌝ }
+    requires { ⌜ gives search ≡ read-rule (now letters) (now lengths) (now saved) ⌝ }
+    ensures { λ r. ⌜ leg-of r (now (saved .exit)) (now (motifs .exit)) (now (supports .exit)) (now (weights .exit)) ≡ leg-outcome (now (letters .entry)) (now (lengths .entry)) (now (saved .entry)) budget (now (motifs .entry)) (now (supports .entry)) (now (weights .entry)) ⌝ }
 {
-    let leg = search::leg(letters, lengths, search, budget, motifs, supports, weights);
-    let left = leg.search;
-    saved::save(letters, lengths, left, saved);
+    let leg = legs::leg(letters, lengths, search, budget, motifs, supports, weights);
+    save_left(leg, saved);
     Stopped::leg(leg)
 }
 
-// Runs a leg of what a restore from `saved` answered.
+// Runs a leg of what was read of `saved`.
 pub fn leg(
     letters: &[u8],
     lengths: &[u32],
-    restored: Begun,
+    read: Begun,
     budget: u64,
     saved: &mut [u8],
     motifs: &mut [u64],
     supports: &mut [u32],
     weights: &mut [u64],
 ) -> Stopped
-    requires { ⌜ toldBegun restored ≡ restore-rule (now letters) (now lengths) (now saved) ⌝ }
-    ensures { λ r. ⌜ leg-of r (now (saved .exit)) (now (motifs .exit)) (now (supports .exit)) (now (weights .exit)) ≡ leg-from (now (letters .entry)) (now (lengths .entry)) (toldBegun restored) budget (now (saved .entry)) (now (motifs .entry)) (now (supports .entry)) (now (weights .entry)) ⌝ }
+    requires { ⌜ toldBegun read ≡ read-rule (now letters) (now lengths) (now saved) ⌝ }
+    ensures { λ r. ⌜ leg-of r (now (saved .exit)) (now (motifs .exit)) (now (supports .exit)) (now (weights .exit)) ≡ leg-outcome (now (letters .entry)) (now (lengths .entry)) (now (saved .entry)) budget (now (motifs .entry)) (now (supports .entry)) (now (weights .entry)) ⌝ }
 {
-    match restored {
+    match read {
         Begun::Search(s) => run(
             letters,
             lengths,

@@ -36,7 +36,7 @@ pub extern "C" fn tulfasheq_begin(
     let t = shape::read(profile, components, shape, allowances);
     let checked = chain::check_profile(letters, lengths, profile, t);
     let begun = chain::begin(letters, lengths, checked, t, quorum);
-    let answer = chain::save_begun(letters, lengths, begun, saved);
+    let answer = chain::save_begun(begun, saved);
     let told = Count::saved(answer);
     *place = told.place;
     *size = told.count;
@@ -61,11 +61,11 @@ pub extern "C" fn tulfasheq_leg(
 ) -> u64
     ensures { λ r. ⌜ leg-of (stopped-answer r (now (place .exit)) (now (stop .exit)) (now (steps .exit)) (now (rows .exit))) (now (saved .exit)) (now (motifs .exit)) (now (supports .exit)) (now (weights .exit)) ≡ leg-outcome (now (letters .entry)) (now (lengths .entry)) (now (saved .entry)) budget (now (motifs .entry)) (now (supports .entry)) (now (weights .entry)) ⌝ }
 {
-    let restored = saved::restore(letters, lengths, saved);
+    let read = records::read_saved(letters, lengths, saved);
     let told = chain::leg(
         letters,
         lengths,
-        restored,
+        read,
         budget,
         saved,
         motifs,

@@ -1,7 +1,9 @@
--- A new search is saved; what that tells, as numbers.
+-- A new search is written; what that tells, as numbers.
 use borrow.Author.Needs.{needs}
+use Rattle.rules.specs.Told.{toldChecked}
 use Rattle.exports.specs.Exported.{profile-check, begin-outcome}
 use Rattle.exports.specs.Shape.{shaped-template}
+use Rattle.exports.proofs.CheckedOnce.{begun-template}
 use Rattle.exports.proofs.Outcomes.{begun-outcome}
 use Rattle.exports.proofs.tulfasheq_begin.Statement.{statement}
 use Rattle.exports.proofs.tulfasheq_begin.Tie as tie
@@ -16,7 +18,10 @@ begin-requires : tie.Need-begin-requires
 begin-requires c κs = search needs
 
 save-begun-requires : tie.Need-save-begun-requires
-save-begun-requires c κs = search needs
+save-begun-requires c κs =
+    let p = c .before .before in
+    let a = p .before .before .before .before .before .before .before .args in
+    begun-template (a .letters .now) (a .lengths .now) (p .before .read .result) (a .quorum) (toldChecked (p .check-profile .result)) (c .before .begin .ensures)
 
 saved-requires : tie.Need-saved-requires
 saved-requires c κs = search needs

@@ -1,14 +1,13 @@
--- A restored search runs a leg.
+-- The search that was read runs a leg.
 use borrow.Author.Needs.{needs}
-use Rattle.exports.specs.Exported.{leg-outcome}
 use Rattle.exports.proofs.tulfasheq_leg.Statement.{statement}
 use Rattle.exports.proofs.tulfasheq_leg.Tie as tie
 
-restore-requires : tie.Need-restore-requires
-restore-requires c κs = search needs
+read-saved-requires : tie.Need-read-saved-requires
+read-saved-requires c κs = search needs
 
 leg-requires : tie.Need-leg-requires
-leg-requires c κs = c .before .before .before .before .restore .ensures
+leg-requires c κs = c .before .before .before .before .read-saved .ensures
 
 same-length : tie.Need-same-length
 same-length c = search needs
@@ -23,14 +22,13 @@ same-length-4 : tie.Need-same-length-4
 same-length-4 c = search needs
 
 returns : tie.Need-returns
-unfolding leg-outcome
-returns c = rw (← c .before .before .before .before .before .before .before .before .before .before .before .before .before .restore .ensures) (c .before .before .before .before .before .before .before .before .leg .ensures)
+returns c = c .before .before .before .before .before .before .before .before .leg .ensures
 
 pub tulfasheq-leg-spec : {M : Type 1} → statement M
 tulfasheq-leg-spec =
     tie.close
     (tie.spec
-    restore-requires
+    read-saved-requires
     leg-requires
     same-length
     same-length-2
