@@ -26,7 +26,7 @@ row	legs/invented_steps
 heading	Ways this goes astray
 intro	Those that document 01 names under these words, in its order.
 row	rules/gap_start_to_start
-row	matching/start_to_start
+row	rules/start_to_start
 row	joins/start_to_start
 row	rows/next_sequence
 row	rows/next_word

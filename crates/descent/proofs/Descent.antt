@@ -12,7 +12,7 @@ use lib.ListN.{length, take, drop, getD, set, length-set, length-drop}
 use lib.Seq.{take-suc-set, length-take-le}
 use borrow.Author.Tests.{leb-true, ltb-true}
 use Rattle.descent.specs.Buffer.{Buffer, buffer, emit, emits, with-front}
-use Rattle.descent.specs.Paths.{flag, paths, handed, listed-rows}
+use Rattle.descent.specs.Paths.{flag, paths, next-apart, handed, listed-rows}
 use Rattle.descent.specs.declared.Progress.{Progress}
 use Rattle.descent.proofs.Buffer.{emits-one, emits-full, with-front-one, with-front-more}
 use Rattle.rules.proofs.Components.{components-length, components-more, components-none}
@@ -56,27 +56,26 @@ module _ (n : ℕ) (flags row : List ℕ) (c : ℕ) where
     -- of any other component, what stands under the next starts
     module _ (t : Template) (few : t .count ≤ Template-COMPONENTS) (l : c + 1 < t .count) where
       abbrev from : ℕ
-      from = q + getD (slots t) c none .length + getD (slots t) (c + 1) none .low
+      from = q + next-apart t c .near
 
-      abbrev to : ℕ
-      to = q + getD (slots t) c none .length + getD (slots t) (c + 1) none .high
+      abbrev end : ℕ
+      end = from + next-apart t c .count
 
-      under : handed (drop (c + 1) (components t)) n flags (set longer (c + 1) q) (c + 1) from (to + 1) s
+      under : handed (drop (c + 1) (components t)) n flags (set longer (c + 1) q) (c + 1) from end s
           ≡ emits (suc (c + length (drop c (components t)))) (with-front (take (suc c) row) (paths n flags (drop c (components t)) c q)) s
       unfolding handed reach
       under =
           let x = getD (slots t) c none in
           let y = getD (slots t) (c + 1) none in
-          let k : to + 1 - from ≡ x .length + y .high + 1 - (x .length + y .low) = omega arith in
-          let f : from ≡ q + (x .length + y .low) = omega arith in
+          let k : end - from ≡ next-apart t c .count = omega arith in
           let z : drop c (components t) ≡ x ∷ drop (c + 1) (components t) = rw (add-one c) (components-more t few c (omega arith)) in
           let w : c + length (drop c (components t)) ≡ c + 1 + length (drop (c + 1) (components t)) = rw z (omega arith) in
-          rw (w, k, f, row-more longer c q h, same, paths-more n flags c q x y (drop (suc (c + 1)) (components t)) z (components-more t few (c + 1) l) flagged, with-front-more (take (suc c) row) q, add-one c)
+          rw (w, k, row-more longer c q h, same, paths-more n flags c q x y (drop (suc (c + 1)) (components t)) z (components-more t few (c + 1) l) flagged, with-front-more (take (suc c) row) q, add-one c)
 
-      pub next-turn : {a e : ℕ} {r : Buffer} → a ≡ from → e ≡ min n to + 1
+      pub next-turn : {a e : ℕ} {r : Buffer} → a ≡ from → e ≡ min (n + 1) (a + next-apart t c .count)
           → r ≡ handed (drop (c + 1) (components t)) n flags (set longer (c + 1) q) (c + 1) a e s → r ≡ handed (drop c (components t)) n flags row c q (q + 1) s
       next-turn ea ee k =
-          k ∙ rw (ea, ee) (handed-within (drop (c + 1) (components t)) n flags (set longer (c + 1) q) (c + 1) from to s ∙ under ∙ sym (handed-one (drop c (components t)) q s))
+          k ∙ rw (ee, ea) (handed-within (drop (c + 1) (components t)) n flags (set longer (c + 1) q) (c + 1) from end s ∙ under ∙ sym (handed-one (drop c (components t)) q s))
 
 -- ---- the components of a template from c on
 

@@ -16,6 +16,7 @@ use Rattle.descent.proofs.Buffer.{emits-append, with-front-none, with-f
 use Rattle.rules.specs.Limits.{SequenceSet-LETTERS}
 use Rattle.rules.specs.Lists.{run, each}
 use Rattle.rules.specs.Occurrence.{reach}
+use Rattle.rules.specs.Template.{distance}
 use Rattle.rules.specs.declared.Component.{Component}
 use Rattle.rules.proofs.Lists.{each-append, run-append}
 
@@ -49,7 +50,7 @@ module _ (n : ℕ) (flags : List ℕ) (c p : ℕ) where
   paths-last x q e = rw (q, e)
 
   pub paths-more : {xs ys : List Component} (x y : Component) (zs : List Component) → xs ≡ x ∷ ys → ys ≡ y ∷ zs → flag n flags c p ≡ true
-      → paths n flags xs c p ≡ map (λ t. p ∷ t) (each (paths n flags ys (suc c)) (reach (x .length + y .low) (x .length + y .high) p))
+      → paths n flags xs c p ≡ map (λ t. p ∷ t) (each (paths n flags ys (suc c)) (reach (distance (x .length) (y .low)) (distance (x .length) (y .high)) p))
   unfolding paths
   paths-more x y zs q r e = rw (q, r, e)
 
@@ -113,12 +114,12 @@ module _ (xs : List Component) (n : ℕ) (flags row : List ℕ) (c : ℕ) where
   handed-done q e s h = let k : e - q ≡ 0 = omega arith in rw (k, with-front-none (take (suc c) row))
 
   -- nor past the end of the sequence
-  pub handed-within : (q m : ℕ) (s : Buffer) → handed xs n flags row c q (min n m + 1) s ≡ handed xs n flags row c q (m + 1) s
+  pub handed-within : (q m : ℕ) (s : Buffer) → handed xs n flags row c q (min (n + 1) m) s ≡ handed xs n flags row c q m s
   unfolding handed
-  handed-within q m s = ap (λ l. emits (suc (c + length xs)) (with-front (take (suc c) row) l) s) (go (ltb n (q + (min n m + 1 - q))) refl)
+  handed-within q m s = ap (λ l. emits (suc (c + length xs)) (with-front (take (suc c) row) l) s) (go (ltb n (q + (min (n + 1) m - q))) refl)
     where
-      go : (b : Bool) → ltb n (q + (min n m + 1 - q)) ≡ b → each (paths n flags xs c) (run q (min n m + 1 - q)) ≡ each (paths n flags xs c) (run q (m + 1 - q))
+      go : (b : Bool) → ltb n (q + (min (n + 1) m - q)) ≡ b → each (paths n flags xs c) (run q (min (n + 1) m - q)) ≡ each (paths n flags xs c) (run q (m - q))
       go true e =
-          let k : min n m + 1 - q + (m + 1 - q - (min n m + 1 - q)) ≡ m + 1 - q = omega arith in
-          rw (← k) (each-within n flags xs c q (min n m + 1 - q) (m + 1 - q - (min n m + 1 - q)) (ltb-true n (q + (min n m + 1 - q)) e))
-      go false e = let k : min n m + 1 - q ≡ m + 1 - q = omega (arith, ltb-false) in rw k
+          let k : min (n + 1) m - q + (m - q - (min (n + 1) m - q)) ≡ m - q = omega arith in
+          rw (← k) (each-within n flags xs c q (min (n + 1) m - q) (m - q - (min (n + 1) m - q)) (ltb-true n (q + (min (n + 1) m - q)) e))
+      go false e = let k : min (n + 1) m - q ≡ m - q = omega (arith, ltb-false) in rw k

@@ -19,7 +19,7 @@ use Rattle.rules.specs.Motif.{spell}
 use Rattle.rules.specs.Occurrence.{found, reach, starts, occurrences}
 use Rattle.rules.specs.Sound.{SoundTemplate}
 use Rattle.rules.specs.Support.{parts-in, parts}
-use Rattle.rules.specs.Template.{Part, Reading, none, components, size, deal}
+use Rattle.rules.specs.Template.{Part, Reading, none, components, size, distance, deal}
 use Rattle.rules.specs.declared.Component.{Component}
 use Rattle.rules.specs.declared.Template.{Template}
 use Rattle.rules.proofs.Lists.{each-same}
@@ -33,7 +33,7 @@ abbrev Shaped : ℕ → List Component → List Part → Type 0
 Shaped n [] [] = Unit {0}
 Shaped n [] (c ∷ cs) = ⊥
 Shaped n (x ∷ xs) [] = ⊥
-Shaped n (x ∷ xs) (c ∷ cs) = (c .near ≡ n + x .low) × (c .far ≡ n + x .high) × Shaped (x .length) xs cs
+Shaped n (x ∷ xs) (c ∷ cs) = (c .near ≡ distance n (x .low)) × (c .far ≡ distance n (x .high)) × Shaped (x .length) xs cs
 
 deal-shaped : (R : Reading) (n : ℕ) (xs : List Component) (w : List ℕ) → ((i : ℕ) → i < length xs → 1 ≤ (getD xs i none) .length) → sum (map (λ c. c .length) xs) ≡ length w
     → Shaped n xs (deal R n xs w)

@@ -10,8 +10,9 @@ use Rattle.descent.specs.Buffer.{Buffer, emits, with-front}
 use Rattle.rules.specs.Limits.{SequenceSet-LETTERS}
 use Rattle.rules.specs.Lists.{run, if, each, some?}
 use Rattle.rules.specs.Occurrence.{reach, starts}
-use Rattle.rules.specs.Template.{Part, components, distance}
+use Rattle.rules.specs.Template.{Part, none, slots, components, distance, after}
 use Rattle.rules.specs.declared.Component.{Component}
+use Rattle.rules.specs.declared.Distances.{Distances}
 use Rattle.rules.specs.declared.Template.{Template}
 
 -- the flag of component c, from 0, at position p of a sequence of n letters. Each component has room for the longest sequence
@@ -28,6 +29,10 @@ paths n flags [] c p = []
 paths n flags (x ∷ []) c p = if (flag n flags c p) ((p ∷ []) ∷ []) []
 paths n flags (x ∷ y ∷ ys) c p =
     if (flag n flags c p) (map (λ t. p ∷ t) (each (paths n flags (y ∷ ys) (suc c)) (reach (distance (x .length) (y .low)) (distance (x .length) (y .high)) p))) []
+
+-- how far the start of the component after c may lie from that of c
+abbrev pub next-apart : Template → ℕ → Distances
+next-apart t c = after (getD (slots t) (c + 1) none) (getD (slots t) c none)
 
 -- a buffer after the rows whose numbers before component c stand in `row`, and whose start of c is one of those from a up to e
 unfoldable pub handed : List Component → ℕ → List ℕ → List ℕ → ℕ → ℕ → ℕ → Buffer → Buffer

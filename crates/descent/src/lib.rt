@@ -8,14 +8,14 @@ use rules::least;
 ghost use mathlib.Core.Bool.{true, _&&_};
 ghost use mathlib.Core.List.{[], _∷_, _++_};
 ghost use mathlib.Core.Path.{_≡_};
-ghost use Prim.Native.Nat.{min, _+_, _-_, _*_, _^_, _≤_, _<_};
+ghost use Prim.Native.Nat.{min, _+_, _-_, _*_, _≤_, _<_};
 ghost use lib.Dec.{leb, ltb};
 ghost use lib.ListN.{length, take, drop, getD};
 ghost use Rattle.descent.specs.Buffer.{buffer, InBuffer, emit};
-ghost use Rattle.descent.specs.Paths.{flag, Unflagged, paths, handed, listed-rows, WaysCounted};
+ghost use Rattle.descent.specs.Paths.{flag, Unflagged, paths, next-apart, handed, listed-rows, WaysCounted};
 ghost use Rattle.rules.specs.Limits.{SequenceSet-LETTERS, SequenceSet-SEQUENCES, Template-COMPONENTS};
 ghost use Rattle.rules.specs.Sound.{SoundTemplate};
-ghost use Rattle.rules.specs.Template.{components, slots, none};
+ghost use Rattle.rules.specs.Template.{components, none};
 
 // The most numbers of a row: the sequence's, and a start for each component.
 const ROW: usize = Template::COMPONENTS as usize + 1;
@@ -113,13 +113,6 @@ fn seek(flags: &[u8], component: usize, from: Position, end: Position, letters: 
     Position(q)
 }
 
-// A number of a component, for sums.
-fn wide(x: u16) -> usize
-    ensures { λ r. ⌜ (r ≡ x) × (r < 2 ^ 16) ⌝ }
-{
-    x as usize
-}
-
 // Positions from one up to another, which is not one of them.
 struct Span {
     from: Position,
@@ -128,21 +121,22 @@ struct Span {
 
 // Where the component after one may start if that starts at a position of a sequence of so many letters.
 fn next_starts(template: Template, component: usize, at: Position, letters: usize) -> Span
-    requires { ⌜ (component + 1 < Template-COMPONENTS) × (at .0 ≤ SequenceSet-LETTERS) × (letters ≤ SequenceSet-LETTERS) ⌝ }
-    ensures { λ r. ⌜ r .from .0 ≡ at .0 + getD (slots template) component none .length + getD (slots template) (component + 1) none .low ⌝ }
-    ensures { λ r. ⌜ r .end .0 ≡ min letters (at .0 + getD (slots template) component none .length + getD (slots template) (component + 1) none .high) + 1 ⌝ }
+    requires { ⌜ SoundTemplate template ⌝ }
+    requires { ⌜ (component + 1 < template .count) × (at .0 ≤ SequenceSet-LETTERS) × (letters ≤ SequenceSet-LETTERS) ⌝ }
+    ensures { λ r. ⌜ r .from .0 ≡ at .0 + next-apart template component .near ⌝ }
+    ensures { λ r. ⌜ r .end .0 ≡ min (letters + 1) (r .from .0 + next-apart template component .count) ⌝ }
 {
     let cs = template.components();
     let next = component + 1;
     let here = cs[component];
     let there = cs[next];
-    let length = wide(here.length);
-    let low = wide(there.low);
-    let high = wide(there.high);
-    let after = at.0 + length;
-    let from = Position(after + low);
-    let end = Position(least(letters, after + high) + 1);
-    Span { from, end }
+    let apart = there.after(here);
+    let from = at.0 + apart.near;
+    let end = least(letters + 1, from + apart.count);
+    Span {
+        from: Position(from),
+        end: Position(end),
+    }
 }
 
 // Hands out a row for each of some starts of the last component: the numbers before it stand in `row`.

@@ -6,12 +6,14 @@ use mathlib.Core.Bool.{Bool, true, false, _&&_}
 use mathlib.Core.List.{List, [], _∷_}
 use Prim.Native.Nat.{ℕ, zero, suc, _+_, _-_, _≤_, _<_}
 use native.Mathlib.Omega.{arith}
-use lib.Dec.{leb, ltb, eqb}
+use lib.Dec.{ltb, eqb}
 use lib.ListN.{length, getD}
-use borrow.Author.Tests.{ltb-true, ltb-false, leb-true, leb-false, eqb-false, ne-eqb}
+use borrow.Author.Tests.{ltb-true, ltb-false, eqb-false, ne-eqb}
 use Rattle.rules.specs.Join.{rising?, partners}
 use Rattle.rules.specs.Lists.{run, if, keep, some?, member?}
 use Rattle.rules.specs.Occurrence.{reach}
+use Rattle.rules.specs.Template.{distances}
+use Rattle.rules.specs.declared.Distances.{Distances}
 use Rattle.joins.specs.Pass.{LieBefore, Reached, within?, partner?}
 use Rattle.joins.proofs.Rising.{rising-order}
 
@@ -46,44 +48,47 @@ unfolding keep some?
 some-none f [] h = refl
 some-none f (x ∷ xs) h = rw (h zero (omega arith)) (some-none f xs (λ i l. h (suc i) (omega arith)))
 
--- the reach of a position: near to far positions on, and no other
-reach-in : (near far p q : ℕ) → p + near ≤ q → q ≤ p + far → member? q (reach near far p) ≡ true
-unfolding reach
-reach-in near far p q l h = run-in q (p + near) (far + 1 - near) l (omega arith)
+module _ (ys : List ℕ) (from count j : ℕ) where
+  abbrev end : ℕ
+  end = from + count
 
-reach-out : (near far p q : ℕ) → (p + near ≤ q → q ≤ p + far → ⊥) → member? q (reach near far p) ≡ false
-unfolding reach
-reach-out near far p q h = run-out q (p + near) (far + 1 - near) (λ l k. h l (omega arith))
+  abbrev within-reach : ℕ → Bool
+  within-reach q = member? q (run from count)
 
-module _ (ys : List ℕ) (head low high p j : ℕ) where
-  -- the first that is not before the reach of a position tells whether that has a partner
-  pub first-decides : rising? 0 ys ≡ true → Reached ys (p + head + low) j → partner? ys head low high p ≡ within? ys j (p + head + high)
-  unfolding partners within?
-  first-decides r t = go (ltb j (length ys)) (leb (getD ys j 0) (p + head + high)) refl refl
+  -- the first that is not before a reach tells whether one is in it
+  first-of : rising? 0 ys ≡ true → Reached ys from j → some? (keep within-reach ys) ≡ within? ys j end
+  unfolding within?
+  first-of r t = go (ltb j (length ys)) (ltb (getD ys j 0) end) refl refl
     where
-      none : ((k : ℕ) → k < length ys → p + head + low ≤ getD ys k 0 → getD ys k 0 ≤ p + head + high → ⊥) → some? (keep (λ q. member? q (reach (head + low) (head + high) p)) ys) ≡ false
-      none h = some-none _ ys (λ k l. reach-out (head + low) (head + high) p (getD ys k 0) (λ a b. h k l (omega arith) (omega arith)))
+      none : ((k : ℕ) → k < length ys → from ≤ getD ys k 0 → getD ys k 0 < end → ⊥) → some? (keep within-reach ys) ≡ false
+      none h = some-none within-reach ys (λ k l. run-out (getD ys k 0) from count (h k l))
 
-      past : (b : Bool) → (k : ℕ) → ltb k j ≡ b → p + head + high < getD ys j 0 → k < length ys → p + head + low ≤ getD ys k 0 → getD ys k 0 ≤ p + head + high → ⊥
+      past : (b : Bool) → (k : ℕ) → ltb k j ≡ b → end ≤ getD ys j 0 → k < length ys → from ≤ getD ys k 0 → getD ys k 0 < end → ⊥
       past true k e h l a b = omega (arith, t .before k (ltb-true k j e))
       past false k e h l a b = omega (arith, rising-order 0 ys r j k (ltb-false k j e) l)
 
-      go : (b c : Bool) → ltb j (length ys) ≡ b → leb (getD ys j 0) (p + head + high) ≡ c → some? (keep (λ q. member? q (reach (head + low) (head + high) p)) ys) ≡ (b && c)
+      go : (b c : Bool) → ltb j (length ys) ≡ b → ltb (getD ys j 0) end ≡ c → some? (keep within-reach ys) ≡ (b && c)
       go true true u v =
           let l = ltb-true j (length ys) u in
-          some-at _ ys j l (reach-in (head + low) (head + high) p (getD ys j 0) (omega (arith, t .next l)) (omega (arith, leb-true (getD ys j 0) (p + head + high) v)))
-      go true false u v = none (λ k l. past (ltb k j) k refl (leb-false _ _ v) l)
+          some-at within-reach ys j l (run-in (getD ys j 0) from count (t .next l) (ltb-true (getD ys j 0) end v))
+      go true false u v = none (λ k l. past (ltb k j) k refl (ltb-false (getD ys j 0) end v) l)
       go false c u v = none (λ k l a b. omega (arith, t .before k (omega (arith, ltb-false j (length ys) u))))
 
--- those of the second list up to j lie before the reach of the first list's positions from i on
-pub record PassedOver (xs : List ℕ) (i : ℕ) (ys : List ℕ) (j head low : ℕ) : Type 0 where
-  pub before : (m : ℕ) → i ≤ m → m < length xs → LieBefore ys j (getD xs m 0 + head + low)
+-- so the first that is not before the reach of a position tells whether that has a partner
+pub first-decides : (ys : List ℕ) (head low high p j : ℕ) {apart : Distances} → apart ≡ distances head low high → rising? 0 ys ≡ true → Reached ys (p + apart .near) j
+    → partner? ys head low high p ≡ within? ys j (p + apart .near + apart .count)
+unfolding partners reach
+first-decides ys head low high p j e r t = rw e (first-of ys (p + (distances head low high) .near) ((distances head low high) .count) j r (rw e at t))
 
-module _ (xs : List ℕ) (i : ℕ) (ys : List ℕ) (head low : ℕ) where
+-- those of the second list up to j lie before the reach of the first list's positions from i on
+pub record PassedOver (xs : List ℕ) (i : ℕ) (ys : List ℕ) (j near : ℕ) : Type 0 where
+  pub before : (m : ℕ) → i ≤ m → m < length xs → LieBefore ys j (getD xs m 0 + near)
+
+module _ (xs : List ℕ) (i : ℕ) (ys : List ℕ) (near : ℕ) where
   -- at first nothing was passed over
-  pub passed-none : PassedOver xs i ys 0 head low
+  pub passed-none : PassedOver xs i ys 0 near
   passed-none = record { before = λ m h l k z. absurd (omega arith) }
 
   -- what lies before the reach of one lies before that of every later one
-  pub passed-on : (j : ℕ) → rising? 0 xs ≡ true → Reached ys (getD xs i 0 + head + low) j → PassedOver xs (i + 1) ys j head low
+  pub passed-on : (j : ℕ) → rising? 0 xs ≡ true → Reached ys (getD xs i 0 + near) j → PassedOver xs (i + 1) ys j near
   passed-on j r t = record { before = λ m h l k z. omega (arith, t .before k z, rising-order 0 xs r i m (omega arith) l) }

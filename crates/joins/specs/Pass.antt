@@ -28,9 +28,9 @@ pub record Reached (ys : List ℕ) (from j : ℕ) : Type 0 where
   pub before : LieBefore ys j from
   pub next : j < length ys → from ≤ getD ys j 0
 
--- a list has a position at j, and it is at most `to`
+-- a list has a position at j, and it is before `end`
 unfoldable pub within? : List ℕ → ℕ → ℕ → Bool
-within? ys j to = ltb j (length ys) && leb (getD ys j 0) to
+within? ys j end = ltb j (length ys) && ltb (getD ys j 0) end
 
 -- a position has a partner in a list
 abbrev pub partner? : List ℕ → ℕ → ℕ → ℕ → ℕ → Bool

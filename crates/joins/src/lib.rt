@@ -1,6 +1,7 @@
 // The positional join: of two lists of positions, those of the first that have a partner in the second. `join` is the public
 // call; the others are its parts.
 use rules::Checked;
+use rules::Distances;
 use rules::Joined;
 use rules::Position;
 use rules::Refusal;
@@ -98,13 +99,13 @@ fn skip(list: &[u32], at: usize, from: Position) -> usize
     j
 }
 
-// Whether a list has a position at `at`, and it is at most `to`.
-fn within(list: &[u32], at: usize, to: Position) -> bool
-    ensures { λ r. ⌜ r ≡ within? (now (list .entry)) at (to .0) ⌝ }
+// Whether a list has a position at `at`, and it is before `end`.
+fn within(list: &[u32], at: usize, end: Position) -> bool
+    ensures { λ r. ⌜ r ≡ within? (now (list .entry)) at (end .0) ⌝ }
 {
     if at < list.len() {
         let p = list[at] as usize;
-        p <= to.0
+        p < end.0
     } else {
         false
     }
@@ -130,18 +131,18 @@ fn pass(first: &[u32], second: &[u32], head: u16, low: u16, high: u16, out: &mut
     ensures { λ r. ⌜ r ≡ length (partnered (now (first .entry)) (now (second .entry)) head low high) ⌝ }
     ensures { λ r. ⌜ now (out .exit) ≡ put (partnered (now (first .entry)) (now (second .entry)) head low high) (now (out .entry)) ⌝ }
 {
-    let letters = head as usize;
-    let least = low as usize;
-    let most = high as usize;
+    let apart = Distances::over(head, low, high);
+    let near = apart.near;
+    let count = apart.count;
     let mut n = 0;
     let mut j = 0;
     let mut i = 0;
     while i < first.len() {
         let p = first[i];
-        let start = p as usize;
-        let end = start + letters;
-        j = skip(second, j, Position(end + least));
-        n = keep(within(second, j, Position(end + most)), p, n, out);
+        let from = p as usize + near;
+        let end = from + count;
+        j = skip(second, j, Position(from));
+        n = keep(within(second, j, Position(end)), p, n, out);
         i += 1;
     }
     n

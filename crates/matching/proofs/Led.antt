@@ -10,6 +10,7 @@ use native.Mathlib.Omega.{arith}
 use lib.ListN.{length, take, drop, getD, replicate, length-replicate, getD-replicate, List·getD-eq-default}
 use lib.Pow.{pow-add}
 use borrow.Rule.Slice.PartMut.{mid-len}
+use Rattle.rules.proofs.Apart.{last-is}
 use Rattle.rules.proofs.Components.{components-length, components-some, components-sound}
 use Rattle.rules.proofs.Over.{map-agree, map-one}
 use Rattle.rules.proofs.Spelling.{length-spell}
@@ -18,7 +19,7 @@ use Rattle.rules.specs.Motif.{spell}
 use Rattle.rules.specs.Profile.{profile-of, base-of}
 use Rattle.rules.specs.Sound.{SoundSet, SoundTemplate}
 use Rattle.rules.specs.Support.{parts, parts-in}
-use Rattle.rules.specs.Template.{none, size, components}
+use Rattle.rules.specs.Template.{none, size, components, distance, after}
 use Rattle.rules.specs.declared.Component.{Component}
 use Rattle.rules.specs.declared.Template.{Template}
 use Rattle.rows.specs.Flags.{Count-MOST, reached, added, last-ways, left?, masked-at, masked}
@@ -236,10 +237,10 @@ module _ (t : Template) (sound : SoundTemplate t) where
               (le-trans (ways-bound (profile-of t .reading) t sound (spell (base-of t) (letters-before (components t) (suc c)) p) (sequence ns l k) i) (omega arith))
 
           -- FROM COMPONENT TO COMPONENT
-          module _ (g : suc c < t .count) (d n : ℕ) (near : d ≡ of c + (getD (components t) (suc c) none) .low)
-              (wide : n ≡ (getD (components t) (suc c) none) .high + 1 - (getD (components t) (suc c) none) .low) where
-            far : d + n - 1 ≡ of c + (getD (components t) (suc c) none) .high
-            far = omega (arith, near, wide, components-sound sound (suc c) (there (suc c) g) .ordered)
+          module _ (g : suc c < t .count) (d n : ℕ) (near : d ≡ after (getD (components t) (suc c) none) (getD (components t) c none) .near)
+              (wide : n ≡ after (getD (components t) (suc c) none) (getD (components t) c none) .count) where
+            far : d + n - 1 ≡ distance (of c) ((getD (components t) (suc c) none) .high)
+            far = rw (near, wide) (last-is (of c) _ _ (components-sound sound (suc c) (there (suc c) g) .ordered))
 
             led-added : (k : ℕ) → k < length ns → marked? row k ≡ true
                 → added d (d + n - 1) (begun-counts first ns row counts k) ≡ before-next added t (suc c) 0 (letters-before (components t) (suc c)) p (sequence ns l k)

@@ -8,12 +8,14 @@ use native.Mathlib.Nat.{add-zero}
 use native.Mathlib.Omega.{arith}
 use lib.ListN.{length, take, drop, getD, replicate, length-append, length-drop, length-replicate}
 use lib.Seq.{length-take-le}
+use Rattle.rules.proofs.Apart.{Apart, sound-apart}
 use Rattle.rules.proofs.Components.{components-at, components-length}
 use Rattle.rules.specs.Lists.{sum}
 use Rattle.rules.specs.Profile.{base-of}
 use Rattle.rules.specs.Sound.{SoundSet, SoundComponent, SoundTemplate}
-use Rattle.rules.specs.Template.{none, slots, size, components}
+use Rattle.rules.specs.Template.{none, slots, size, components, after}
 use Rattle.rules.specs.declared.Component.{Component}
+use Rattle.rules.specs.declared.Distances.{Distances}
 use Rattle.rules.specs.declared.Template.{Template}
 use Rattle.rows.specs.Flags.{Count-MOST, reached, added}
 use Rattle.matching.specs.Path.{Path, path-slot, prefix-starts, before-next}
@@ -75,8 +77,11 @@ module _ {t : Template} {depth : ℕ} {cs : List Component} {c n : ℕ} (turn : 
   pub behind-sound : SoundComponent behind
   behind-sound = rw (turn .is) (turn .sound .each (c - 1) (omega arith))
 
-  pub here-sound : SoundComponent here
+  here-sound : SoundComponent here
   here-sound = rw (turn .is) (turn .sound .each c (turn .less))
+
+  pub turn-apart : {apart : Distances} → apart ≡ after here behind → Apart apart
+  turn-apart e = rw e (sound-apart behind-sound here-sound)
 
   pub next-letters : next ≡ letters-before (components t) c
   next-letters =
@@ -120,39 +125,42 @@ module _ {t : Template} {depth : ℕ} {cs : List Component} {c n : ℕ} (turn : 
     pub next-small : (k : ℕ) → k < length ns → marked? row k ≡ true → (i : ℕ) → getD (begun-counts first ns row counts k) i 0 ≤ Count-MOST
     next-small = led-small t (turn .sound) l ns set (c - 1) prefix (omega arith) row row-here counts first begins-here goes-here room
 
-    abbrev d : ℕ
-    d = behind .length + here .low
+    -- by the distances of the next component
+    module _ {apart : Distances} (from : apart ≡ after here behind) where
+      abbrev d : ℕ
+      d = apart .near
 
-    abbrev w : ℕ
-    w = here .high + 1 - here .low
+      abbrev w : ℕ
+      w = apart .count
 
-    near : d ≡ (getD (components t) (c - 1) none) .length + (getD (components t) (suc (c - 1)) none) .low
-    near =
-        let z : suc (c - 1) ≡ c = omega arith in
-        rw z (omega (arith, ap (λ x. x .length) (at (c - 1) (omega arith)), ap (λ x. x .low) (at c (turn .less))))
+      same : apart ≡ after (getD (components t) (suc (c - 1)) none) (getD (components t) (c - 1) none)
+      same =
+          let z : suc (c - 1) ≡ c = omega arith in
+          from ∙ rw (z, at (c - 1) (omega arith), at c (turn .less))
 
-    wide : w ≡ (getD (components t) (suc (c - 1)) none) .high + 1 - (getD (components t) (suc (c - 1)) none) .low
-    wide =
-        let z : suc (c - 1) ≡ c = omega arith in
-        rw z (omega (arith, ap (λ x. x .high) (at c (turn .less)), ap (λ x. x .low) (at c (turn .less))))
+      near : d ≡ after (getD (components t) (suc (c - 1)) none) (getD (components t) (c - 1) none) .near
+      near = ap (λ x. x .near) same
 
-    -- where the prefix's slot has no bit there is none
-    pub next-dark : (evens odds : List ℕ) → Path t ns l evens odds depth m → (k : ℕ) → k < length ns → marked? row k ≡ true
-        → (i : ℕ) → getD (bits-at ns k (path-slot evens odds next)) i 0 ≡ 0 → getD (added d (d + w - 1) (begun-counts first ns row counts k)) i 0 ≡ 0
-    next-dark evens odds path =
-        let z : suc (c - 1) ≡ c = omega arith in
-        let some : 1 ≤ (getD (components t) c none) .length = rw (← (at c (turn .less))) (here-sound .some) in
-        let a : At (components t) next c 0 = record {
-          there = omega (arith, components-length t (turn .sound .few), turn .less);
-          inside = some;
-          counted = next-letters ∙ sym (add-zero (letters-before (components t) c));
-        } in
-        let source : Source (before-next reached t (suc (c - 1)) 0 (letters-before (components t) (suc (c - 1))) prefix) ns l (path-slot evens odds next) =
-        rw (is, z, ← next-letters) (path .held-at next c 0 next-less a) in
-        led-dark t (turn .sound) l ns set (c - 1) prefix (omega arith) row row-here counts first begins-here goes-here room (omega arith) d w near wide (path-slot evens odds next) source
+      wide : w ≡ after (getD (components t) (suc (c - 1)) none) (getD (components t) (c - 1) none) .count
+      wide = ap (λ x. x .count) same
 
-    -- and with the gap opened they are those before the next component
-    pub next-led : (opened out : List ℕ) → HoldsCounts (marked? row) (λ k. added d (d + w - 1) (begun-counts first ns row counts k)) ns opened out (length ns) → Leads-to t ns l c (m / base-of t ^ (depth - next)) out
-    next-led opened out all =
-        let z : suc (c - 1) ≡ c = omega arith in
-        rw (z, is) at (led-more t (turn .sound) l ns set (c - 1) prefix (omega arith) row row-here counts first begins-here goes-here room (omega arith) d w near wide opened out all)
+      -- where the prefix's slot has no bit there is none
+      pub next-dark : (evens odds : List ℕ) → Path t ns l evens odds depth m → (k : ℕ) → k < length ns → marked? row k ≡ true
+          → (i : ℕ) → getD (bits-at ns k (path-slot evens odds next)) i 0 ≡ 0 → getD (added d (d + w - 1) (begun-counts first ns row counts k)) i 0 ≡ 0
+      next-dark evens odds path =
+          let z : suc (c - 1) ≡ c = omega arith in
+          let some : 1 ≤ (getD (components t) c none) .length = rw (← (at c (turn .less))) (here-sound .some) in
+          let a : At (components t) next c 0 = record {
+            there = omega (arith, components-length t (turn .sound .few), turn .less);
+            inside = some;
+            counted = next-letters ∙ sym (add-zero (letters-before (components t) c));
+          } in
+          let source : Source (before-next reached t (suc (c - 1)) 0 (letters-before (components t) (suc (c - 1))) prefix) ns l (path-slot evens odds next) =
+          rw (is, z, ← next-letters) (path .held-at next c 0 next-less a) in
+          led-dark t (turn .sound) l ns set (c - 1) prefix (omega arith) row row-here counts first begins-here goes-here room (omega arith) d w near wide (path-slot evens odds next) source
+
+      -- and with the gap opened they are those before the next component
+      pub next-led : (opened out : List ℕ) → HoldsCounts (marked? row) (λ k. added d (d + w - 1) (begun-counts first ns row counts k)) ns opened out (length ns) → Leads-to t ns l c (m / base-of t ^ (depth - next)) out
+      next-led opened out all =
+          let z : suc (c - 1) ≡ c = omega arith in
+          rw (z, is) at (led-more t (turn .sound) l ns set (c - 1) prefix (omega arith) row row-here counts first begins-here goes-here room (omega arith) d w near wide opened out all)

@@ -132,10 +132,8 @@ fn open_slot(
     let components = template.components();
     let before = components[component - 1];
     let here = components[component];
-    let behind = before.length as usize;
-    let low = here.low as usize;
-    let high = here.high as usize;
-    gap::open_all(lengths, firsts, behind + low, high + 1 - low, spare, slot);
+    let apart = here.after(before);
+    gap::open_all(lengths, firsts, apart.near, apart.count, spare, slot);
 }
 
 // Makes a slot that has the row of a prefix what a further letter is added to: where that stands inside a component the row as it is, and

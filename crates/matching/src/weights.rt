@@ -305,9 +305,7 @@ fn count_ways(
     while c < count {
         let before = components[c - 1];
         let here = components[c];
-        let behind = before.length as usize;
-        let low = here.low as usize;
-        let high = here.high as usize;
+        let apart = here.after(before);
         let more = before.length as u8;
         size += more;
         let left = (depth - size) as u32;
@@ -335,8 +333,8 @@ fn count_ways(
             evens,
             odds,
             c == 1,
-            behind + low,
-            high + 1 - low,
+            apart.near,
+            apart.count,
             ways,
         );
         c += 1;

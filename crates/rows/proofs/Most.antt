@@ -6,14 +6,12 @@ use Prim.Native.Nat.{ℕ, zero, suc, _+_, _-_, _*_, _^_, _≤_, _<_}
 use native.Mathlib.Nat.{le-trans, mul-one, pow-zero, pow-suc, pow-le-pow-right, mul-le-mul-right}
 use native.Mathlib.Omega.{arith}
 use lib.Dec.{leb}
-use lib.ListN.{length, drop, getD, replicate, length-take}
-use lib.Seq.{getD-take}
-use Rattle.rules.proofs.Bound.{Near}
+use lib.ListN.{length, getD, replicate, length-take}
+use Rattle.rules.proofs.Bound.{Near, deal-few, dealt-near}
 use Rattle.rules.specs.Lists.{if, run, sum}
 use Rattle.rules.specs.Occurrence.{stands-by}
 use Rattle.rules.specs.Sound.{SoundTemplate}
-use Rattle.rules.specs.Template.{Part, Reading, none, span, slots, components, deal}
-use Rattle.rules.specs.declared.Component.{Component}
+use Rattle.rules.specs.Template.{Part, Reading, span, slots, components, deal}
 use Rattle.rules.specs.declared.Template.{Template}
 use Rattle.rows.specs.Flags.{kept-at, kept-flags, matched, ago, recent, around, added, following, last-by, last-ways}
 
@@ -76,36 +74,12 @@ module _ (g : ℕ) where
       (rw (mul-one (g ^ length cs)) at (most-following 1 cs s (matched (c .fits) (c .word) 0 s (replicate (length s) 1)) (λ i k. l (suc i) (omega arith)) (most-matched 1 (c .fits) (c .word) 0 s (replicate (length s) 1) (most-ones (length s))) o))
       (pow-le-pow-right {n = g} some {i = length cs} {j = k} (omega arith))
 
--- ---- the parts of a prefix
-
--- no prefix has more than there are components
-deal-few : (R : Reading) (n : ℕ) (cs : List Component) (w : List ℕ) → length (deal R n cs w) ≤ length cs
-unfolding deal
-deal-few R n [] w = omega arith
-deal-few R n (c ∷ cs) [] = omega arith
-deal-few R n (c ∷ cs) (x ∷ w) = omega (arith, deal-few R (c .length) cs (drop (c .length) (x ∷ w)))
-
--- a part has as many distances as its component's range
-deal-near : (R : Reading) (b n : ℕ) (cs : List Component) (w : List ℕ) → ((i : ℕ) → i < length cs → span ((getD cs i none) .low) ((getD cs i none) .high) ≤ b) → Near b (deal R n cs w)
-unfolding deal
-deal-near R b n [] w h i l = absurd (omega arith)
-deal-near R b n (c ∷ cs) [] h i l = absurd (omega arith)
-deal-near R b n (c ∷ cs) (x ∷ w) h zero l = omega (arith, h 0 (omega arith))
-deal-near R b n (c ∷ cs) (x ∷ w) h (suc i) l = deal-near R b (c .length) cs (drop (c .length) (x ∷ w)) (λ i k. h (suc i) (omega arith)) i (omega arith)
-
 -- ---- of a sound template
 
 module _ (R : Reading) (t : Template) (sound : SoundTemplate t) where
   few : length (components t) ≤ t .count
   unfolding components
   few = omega (arith, length-take (t .count) (slots t))
-
-  spans : (i : ℕ) → i < t .count → span ((getD (components t) i none) .low) ((getD (components t) i none) .high) ≤ 256
-  unfolding components
-  spans i l = rw (getD-take (t .count) (slots t) i none l) (omega (arith, sound .each i l .near))
-
-  near : (w : List ℕ) → Near 256 (deal R 0 (components t) w)
-  near w = deal-near R 256 0 (components t) w (λ i l. spans i (omega (arith, few)))
 
   -- before the first letter of component k, each gap has been opened
   power : (k : ℕ) → k ≤ 5 → 256 ^ k ≤ 2 ^ 40
@@ -114,4 +88,4 @@ module _ (R : Reading) (t : Template) (sound : SoundTemplate t) where
   -- THE BOUND
   pub ways-bound : (w s : List ℕ) (o : ℕ) → getD (last-ways (deal R 0 (components t) w) s) o 0 ≤ 2 ^ 40
   ways-bound w s o =
-      le-trans (most-last 256 (deal R 0 (components t) w) s 5 (omega arith) (near w) (omega (arith, deal-few R 0 (components t) w, few, sound .few)) o) (power 5 (omega arith))
+      le-trans (most-last 256 (deal R 0 (components t) w) s 5 (omega arith) (dealt-near R t sound w) (omega (arith, deal-few R 0 (components t) w, few, sound .few)) o) (power 5 (omega arith))

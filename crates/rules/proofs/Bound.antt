@@ -17,9 +17,10 @@ use Rattle.rules.specs.Recovery.{whole-list}
 use Rattle.rules.specs.Sequences.{split, sequences}
 use Rattle.rules.specs.Sound.{SoundSet, SoundTemplate}
 use Rattle.rules.specs.Support.{rows-from, occurrence-rows, parts, parts-in}
-use Rattle.rules.specs.Template.{Part, Reading, none, slots, components, size, deal}
+use Rattle.rules.specs.Template.{Part, Reading, none, span, slots, components, size, deal}
 use Rattle.rules.specs.declared.Component.{Component}
 use Rattle.rules.specs.declared.Template.{Template}
+use Rattle.rules.proofs.Apart.{count-is}
 use Rattle.rules.proofs.Lengths.{each-run}
 
 -- ---- under one start
@@ -50,7 +51,7 @@ starts-most b c (d ∷ ds) s h p = go (found c s p) (starts-most b d ds s (λ i 
 
 -- ---- the parts of a motif
 
-deal-few : (R : Reading) (n : ℕ) (cs : List Component) (w : List ℕ) → length (deal R n cs w) ≤ length cs
+pub deal-few : (R : Reading) (n : ℕ) (cs : List Component) (w : List ℕ) → length (deal R n cs w) ≤ length cs
 unfolding deal
 deal-few R n [] w = omega arith
 deal-few R n (c ∷ cs) [] = omega arith
@@ -65,20 +66,24 @@ pub parts-few : (t : Template) (j m : ℕ) → length (parts t j m) ≤ t .count
 parts-few t = parts-in-few (profile-of t) t
 
 -- a part has as many as its component's range
-deal-near : (R : Reading) (b n : ℕ) (cs : List Component) (w : List ℕ) → ((i : ℕ) → i < length cs → (getD cs i none) .high + 1 - (getD cs i none) .low ≤ b) → Near b (deal R n cs w)
+deal-near : (R : Reading) (b n : ℕ) (cs : List Component) (w : List ℕ) → ((i : ℕ) → i < length cs → span ((getD cs i none) .low) ((getD cs i none) .high) ≤ b) → Near b (deal R n cs w)
 unfolding deal
 deal-near R b n [] w h i l = absurd (omega arith)
 deal-near R b n (c ∷ cs) [] h i l = absurd (omega arith)
-deal-near R b n (c ∷ cs) (x ∷ w) h zero l = omega (arith, h 0 (omega arith))
+deal-near R b n (c ∷ cs) (x ∷ w) h zero l = omega (arith, h 0 (omega arith), count-is n (c .low) (c .high))
 deal-near R b n (c ∷ cs) (x ∷ w) h (suc i) l = deal-near R b (c .length) cs (drop (c .length) (x ∷ w)) (λ i k. h (suc i) (omega arith)) i (omega arith)
 
 -- and so at most 256 positions
-pub parts-in-near : (P : Profile) (t : Template) → SoundTemplate t → (j m : ℕ) → Near 256 (parts-in P t j m)
-unfolding parts-in components
-parts-in-near P t sound j m = deal-near (P .reading) 256 0 (take (t .count) (slots t)) (spell (P .base) j m) span
+pub dealt-near : (R : Reading) (t : Template) → SoundTemplate t → (w : List ℕ) → Near 256 (deal R 0 (components t) w)
+unfolding components
+dealt-near R t sound w = deal-near R 256 0 (take (t .count) (slots t)) w few
   where
-    span : (i : ℕ) → i < length (take (t .count) (slots t)) → (getD (take (t .count) (slots t)) i none) .high + 1 - (getD (take (t .count) (slots t)) i none) .low ≤ 256
-    span i l = let k : i < t .count = omega (arith, length-take (t .count) (slots t)) in rw (getD-take (t .count) (slots t) i none k) (omega (arith, sound .each i k .near))
+    few : (i : ℕ) → i < length (take (t .count) (slots t)) → span ((getD (take (t .count) (slots t)) i none) .low) ((getD (take (t .count) (slots t)) i none) .high) ≤ 256
+    few i l = let k : i < t .count = omega (arith, length-take (t .count) (slots t)) in rw (getD-take (t .count) (slots t) i none k) (omega (arith, sound .each i k .near))
+
+pub parts-in-near : (P : Profile) (t : Template) → SoundTemplate t → (j m : ℕ) → Near 256 (parts-in P t j m)
+unfolding parts-in
+parts-in-near P t sound j m = dealt-near (P .reading) t sound (spell (P .base) j m)
 
 pub parts-near : (t : Template) → SoundTemplate t → (j m : ℕ) → Near 256 (parts t j m)
 parts-near t = parts-in-near (profile-of t) t

@@ -6,6 +6,7 @@ pub mod Tables
 pub mod Over
 pub mod Members
 pub mod Stands
+pub mod Apart
 pub mod Occurs
 pub mod Sentence
 pub mod OccurrenceOrder

@@ -16,9 +16,10 @@ use Rattle.rules.specs.Occurrence.{spare, front-by, stands-by, found, re
 use Rattle.rules.specs.Profile.{to-come}
 use Rattle.rules.specs.Sound.{SoundComponent, SoundTemplate}
 use Rattle.rules.specs.Support.{support, weight}
-use Rattle.rules.specs.Template.{Part, Reading, none, part-of, slots, components, size, deal}
+use Rattle.rules.specs.Template.{Part, Reading, none, distance, span, part-of, slots, components, size, deal}
 use Rattle.rules.specs.declared.Component.{Component}
 use Rattle.rules.specs.declared.Template.{Template}
+use Rattle.rules.proofs.Apart.{count-is}
 use Rattle.rules.proofs.Lists.{keep-wider}
 use Rattle.rules.proofs.Spelling.{spell-more, length-spell}
 use Rattle.rules.proofs.Ways.{occurrences-count, weight-count, support-sequences}
@@ -102,20 +103,20 @@ module _ (R : Reading) (s : List ℕ) where
       b : Part
       b = part-of R n c (y ∷ [])
 
-      later : List ℕ
-      later = run (p + (n + c .low)) (n + c .high + 1 - (n + c .low))
+      count : ℕ
+      count = span (distance n (c .low)) (distance n (c .high))
 
-      most : sum (map (ways (b ∷ []) s) later) * to-come cs [] ≤ (n + c .high + 1 - (n + c .low)) * to-come cs []
-      most = sum-run (ways (part-of R n c (y ∷ []) ∷ []) s) (to-come cs []) (to-come cs []) (λ q. le q) (p + (n + c .low)) (n + c .high + 1 - (n + c .low))
+      later : List ℕ
+      later = run (p + distance n (c .low)) count
+
+      most : sum (map (ways (b ∷ []) s) later) * to-come cs [] ≤ count * to-come cs []
+      most = sum-run (ways (part-of R n c (y ∷ []) ∷ []) s) (to-come cs []) (to-come cs []) (λ q. le q) (p + distance n (c .low)) count
         where
           le : (q : ℕ) → ways (part-of R n c (y ∷ []) ∷ []) s q * to-come cs [] ≤ to-come cs []
           le q = omega (arith, times _ 1 (to-come cs []) (at-most-one (part-of R n c (y ∷ [])) q))
 
-      span : n + c .high + 1 - (n + c .low) ≡ c .high + 1 - c .low
-      span = omega arith
-
-      go : (x : Bool) → if x (sum (map (ways (b ∷ []) s) later)) 0 * to-come cs [] ≤ if x 1 0 * ((c .high + 1 - c .low) * to-come cs [])
-      go true = omega (arith, most, ap (λ k. k * to-come cs []) span)
+      go : (x : Bool) → if x (sum (map (ways (b ∷ []) s) later)) 0 * to-come cs [] ≤ if x 1 0 * (span (c .low) (c .high) * to-come cs [])
+      go true = omega (arith, most, ap (λ k. k * to-come cs []) (count-is n (c .low) (c .high)))
       go false = omega arith
 
   -- with a first part more
@@ -123,7 +124,7 @@ module _ (R : Reading) (s : List ℕ) where
       → ((p : ℕ) → ways (deal R n (d ∷ ds) (x ∷ w ++ (y ∷ []))) s p * to-come (d ∷ ds) (x ∷ w ++ (y ∷ [])) ≤ ways (deal R n (d ∷ ds) (x ∷ w)) s p * to-come (d ∷ ds) (x ∷ w))
       → (p : ℕ) → ways (a ∷ deal R n (d ∷ ds) (x ∷ w ++ (y ∷ []))) s p * to-come (d ∷ ds) (x ∷ w ++ (y ∷ [])) ≤ ways (a ∷ deal R n (d ∷ ds) (x ∷ w)) s p * to-come (d ∷ ds) (x ∷ w)
   unfolding deal ways
-  with-first a n d ds x w y h p = if-times (found a s p) _ _ _ _ (sum-times _ _ _ _ h (reach (n + d .low) (n + d .high) p))
+  with-first a n d ds x w y h p = if-times (found a s p) _ _ _ _ (sum-times _ _ _ _ h (reach (distance n (d .low)) (distance n (d .high)) p))
 
   -- a letter taken from what follows the first part
   less-after : (a : Part) (n : ℕ) (cs : List Component) (v : List ℕ) (y : ℕ) → AllSound cs

@@ -9,14 +9,15 @@ use native.Mathlib.Omega.{arith}
 use lib.ListN.{length, drop, getD}
 use borrow.Author.Tests.{eqb-true, eq-eqb}
 use Rattle.rules.specs.Occurrence.{nth, Found, Follows, Occurs, Stands, Gap, OccursBy, OccursExactly}
-use Rattle.rules.specs.Template.{Reading, literal, none, deal, cut-after, cut}
+use Rattle.rules.specs.Template.{Reading, literal, none, distance, deal, cut-after, cut}
 use Rattle.rules.specs.declared.Component.{Component}
+use Rattle.rules.proofs.Apart.{follows-range}
 use Rattle.rules.proofs.Stands.{stands-fitting}
 
 -- the distances of a component's part, if the one before has n letters
 record Distances (n : ℕ) (c : Component) (near far : ℕ) : Type 0 where
-  least : near ≡ n + c .low
-  most : far ≡ n + c .high
+  least : near ≡ distance n (c .low)
+  most : far ≡ distance n (c .high)
 
 first-distances : (R : Reading) (n : ℕ) (cs : List Component) (w : List ℕ) → 0 < length (deal R n cs w)
     → Distances n (getD cs 0 none) (nth (deal R n cs w) 0 .near) (nth (deal R n cs w) 0 .far)
@@ -39,10 +40,8 @@ pub follows-gap : (R : Reading) (n : ℕ) (cs : List Component) (w : List ℕ) (
     → Follows (nth (deal R n cs w) (suc i) .near) (nth (deal R n cs w) (suc i) .far) p q
     ↔ Gap (getD cs i none .length) (getD cs (suc i) none .low) (getD cs (suc i) none .high) p q
 follows-gap R n cs w i p q l =
-    let d = distances R n cs w i l in (
-      λ f. record { least = omega (arith, d .least, f .least); most = omega (arith, d .most, f .most) },
-      λ g. record { least = omega (arith, d .least, g .least); most = omega (arith, d .most, g .most) },
-    )
+    let d = distances R n cs w i l in
+    rw (d .least, d .most) (follows-range (getD cs i none .length) (getD cs (suc i) none .low) (getD cs (suc i) none .high) p q)
 
 -- so many parts, with the same letters, however they are read
 deal-long : (R : Reading) (n : ℕ) (cs : List Component) (w : List ℕ) → length (deal R n cs w) ≡ length (cut-after n cs w)

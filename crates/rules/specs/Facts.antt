@@ -18,7 +18,7 @@ use Rattle.rules.specs.Relay.{Lent, relay}
 use Rattle.rules.specs.Saved.{low-first, read-low, size-record, component-record, place-record, component-records, records, bytes, record-at, field, record-count, component-count, read-profile, read-component, read-place, read-template, read-search, sized?, blank?, size-kind?, component-kind?, place-kind?, size-blank?, component-blank?, place-blank?, saved-records, kind?, unnamed-blank?, sums?, place-rule?}
 use Rattle.rules.specs.Sequences.{split, sequences}
 use Rattle.rules.specs.Support.{marks, support, rows-from, occurrence-rows, weight, allowed-in, parts-in, measure, reaches}
-use Rattle.rules.specs.Template.{Part, component, none, components, size, trimmed, deal, cut}
+use Rattle.rules.specs.Template.{Part, component, none, components, size, trimmed, distance, deal, cut}
 use Rattle.rules.specs.Text as text
 use Rattle.rules.specs.Told.{Told, gives, refuses, Counts}
 use Rattle.rules.specs.Walk.{place, first-place, ended-place, walk-in, walk-over, children, later, under, onward, from, up, next, start, motif, listed, spelled, candidate}
@@ -184,5 +184,5 @@ facts =
     ∷ []
 
 the-facts : map (λ f. f .computed) facts ≡ map (λ f. f .paper) facts
-unfolding facts letters lengths pair AA AG CG GT AT in-E AA-starts table-one CCG-TA-GAAC search-told counts-told answer-told at run-leg whole save saved moved-to-CA in-legs input printout run keep each joined some? all? member? sum put value letter? letter split sequences components size trimmed deal number spell front-by stands-by reach starts occurrences marks support rows-from occurrence-rows weight allowed to-come exactly profile-by allowed-in parts-in measure reaches walk-in children later under onward from up next start motif listed spelled candidate leg low-first read-low size-record component-record place-record component-records records bytes record-at field record-count component-count read-profile read-component read-place read-template read-search sized? blank? size-kind? component-kind? place-kind? size-blank? component-blank? place-blank? saved-records kind? unnamed-blank? sums? place-rule? partners partnered rising? whole-list page _else_ first first-bad check1 check2 check3 check4 check5 check6 check7 check8 check9 check10 check11 check12 passes? check13 check14 check15 check6-head check8-range check16 check17 check21 check22 check23 check24 new-checks restore-checks search-checks save-checks recover-checks join-checks begun begin-rule stretch supports-of weights-of leg-rule save-rule restore-rule recover-rule join-rule relay text.pieces text.number? text.digits text.parse-number text.run? text.parse-component text.parse-first text.parse-rest text.parse-components text.template-of text.but-last text.last text.lines text.unended text.text-checks text.parse-template text.parse-quorum text.parse-letters text.parse-lengths text.digits-of text.decimal text.shape-rest text.shape text.print-motif text.print-row text.print-end text.print-refused text.print-search text.print-rule
+unfolding facts letters lengths pair AA AG CG GT AT in-E AA-starts table-one CCG-TA-GAAC search-told counts-told answer-told at run-leg whole save saved moved-to-CA in-legs input printout run keep each joined some? all? member? sum put value letter? letter split sequences components size trimmed distance deal number spell front-by stands-by reach starts occurrences marks support rows-from occurrence-rows weight allowed to-come exactly profile-by allowed-in parts-in measure reaches walk-in children later under onward from up next start motif listed spelled candidate leg low-first read-low size-record component-record place-record component-records records bytes record-at field record-count component-count read-profile read-component read-place read-template read-search sized? blank? size-kind? component-kind? place-kind? size-blank? component-blank? place-blank? saved-records kind? unnamed-blank? sums? place-rule? partners partnered rising? whole-list page _else_ first first-bad check1 check2 check3 check4 check5 check6 check7 check8 check9 check10 check11 check12 passes? check13 check14 check15 check6-head check8-range check16 check17 check21 check22 check23 check24 new-checks restore-checks search-checks save-checks recover-checks join-checks begun begin-rule stretch supports-of weights-of leg-rule save-rule restore-rule recover-rule join-rule relay text.pieces text.number? text.digits text.parse-number text.run? text.parse-component text.parse-first text.parse-rest text.parse-components text.template-of text.but-last text.last text.lines text.unended text.text-checks text.parse-template text.parse-quorum text.parse-letters text.parse-lengths text.digits-of text.decimal text.shape-rest text.shape text.print-motif text.print-row text.print-end text.print-refused text.print-search text.print-rule
 the-facts = refl

@@ -19,7 +19,7 @@ use Rattle.rules.specs.Relay.{Lent, relay}
 use Rattle.rules.specs.Saved.{low-first, read-low, size-record, component-record, place-record, component-records, records, bytes, record-at, field, record-count, component-count, read-profile, read-component, read-place, read-template, read-search, sized?, blank?, size-kind?, component-kind?, place-kind?, size-blank?, component-blank?, place-blank?, saved-records, kind?, unnamed-blank?, sums?, place-rule?}
 use Rattle.rules.specs.Sequences.{split, sequences}
 use Rattle.rules.specs.Support.{marks, support, rows-from, occurrence-rows, weight, allowed-in, valid-in, parts-in, measure, reaches}
-use Rattle.rules.specs.Template.{component, allowing, none, components, size, trimmed, deal}
+use Rattle.rules.specs.Template.{component, allowing, none, components, size, trimmed, distance, deal}
 use Rattle.rules.specs.Told.{Told, gives, refuses, LegTold}
 use Rattle.rules.specs.Walk.{Walk, place, walk-in, children, later, under, onward, from, up, next, start, motif, listed, spelled, candidate}
 use Rattle.rules.specs.declared.Component.{Component}
@@ -103,7 +103,7 @@ kinds =
     ∷ []
 
 the-kinds : map (λ f. f .computed) kinds ≡ map (λ f. f .paper) kinds
-unfolding kinds meanings counted-several has-several E AAA two double triple second-one each-one letters lengths pair whole-walk run keep each some? all? member? sum spell value split sequences front-by stands-by reach starts occurrences allowed to-come reaches allowed-in parts-in measure walk-in repeated substituted bases stands-for several within mixed marks support rows-from occurrence-rows weight components size deal children later under onward from up next start motif listed
+unfolding kinds meanings counted-several has-several E AAA two double triple second-one each-one letters lengths pair whole-walk run keep each some? all? member? sum spell value split sequences front-by stands-by reach starts occurrences allowed to-come reaches allowed-in parts-in measure walk-in repeated substituted bases stands-for several within mixed marks support rows-from occurrence-rows weight components size distance deal children later under onward from up next start motif listed
 the-kinds = refl
 
 -- A MIXED SEARCH THROUGH THE CALLS: N[0,1]N over E with an allowance of one letter in the second component
@@ -189,5 +189,5 @@ mixed-calls =
     ∷ []
 
 the-mixed-calls : map (λ f. f .computed) mixed-calls ≡ map (λ f. f .paper) mixed-calls
-unfolding mixed-calls one-mixed twelve-and too-many begins mixed-at leg-numbers leg-at in-one-leg mixed-in-legs recovered recovered-rows search-told counts-told letters lengths value letter? run keep each joined some? all? member? sum put split sequences components size trimmed deal spell front-by stands-by reach starts occurrences marks support rows-from occurrence-rows weight allowed to-come exactly bases stands-for several within mixed profile-by allowed-in parts-in measure reaches walk-in children later under onward from up next start motif listed spelled candidate leg low-first read-low size-record component-record place-record component-records records bytes record-at field record-count component-count read-profile read-component read-place read-template read-search sized? blank? size-kind? component-kind? place-kind? size-blank? component-blank? place-blank? saved-records kind? unnamed-blank? sums? place-rule? whole-list page _else_ first first-bad check1 check2 check3 check4 check5 check6 check7 check8 check9 check10 check11 check12 passes? check13 check14 check15 check17 check21 check22 check23 check24 new-checks restore-checks search-checks save-checks recover-checks begun begin-rule stretch supports-of weights-of leg-rule save-rule restore-rule recover-rule relay
+unfolding mixed-calls one-mixed twelve-and too-many begins mixed-at leg-numbers leg-at in-one-leg mixed-in-legs recovered recovered-rows search-told counts-told letters lengths value letter? run keep each joined some? all? member? sum put split sequences components size trimmed distance deal spell front-by stands-by reach starts occurrences marks support rows-from occurrence-rows weight allowed to-come exactly bases stands-for several within mixed profile-by allowed-in parts-in measure reaches walk-in children later under onward from up next start motif listed spelled candidate leg low-first read-low size-record component-record place-record component-records records bytes record-at field record-count component-count read-profile read-component read-place read-template read-search sized? blank? size-kind? component-kind? place-kind? size-blank? component-blank? place-blank? saved-records kind? unnamed-blank? sums? place-rule? whole-list page _else_ first first-bad check1 check2 check3 check4 check5 check6 check7 check8 check9 check10 check11 check12 passes? check13 check14 check15 check17 check21 check22 check23 check24 new-checks restore-checks search-checks save-checks recover-checks begun begin-rule stretch supports-of weights-of leg-rule save-rule restore-rule recover-rule relay
 the-mixed-calls = refl

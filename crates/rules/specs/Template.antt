@@ -6,6 +6,7 @@ use lib.Dec.{leb, eqb}
 use lib.ListN.{length, take, drop}
 use Rattle.rules.specs.Lists.{if, sum}
 use Rattle.rules.specs.declared.Component.{Component}
+use Rattle.rules.specs.declared.Distances.{Distances}
 use Rattle.rules.specs.declared.Profile as declared
 use Rattle.rules.specs.declared.Profile.the-variants.{Exact, Mixed}
 use Rattle.rules.specs.declared.Template.{Template}
@@ -76,12 +77,21 @@ abbrev pub literal : Reading
 literal = record { fits = eqb; slack = λ c. 0 }
 
 -- how far one start lies from the next, over n letters and a gap
-abbrev pub distance : ℕ → ℕ → ℕ
+unfoldable pub distance : ℕ → ℕ → ℕ
 distance n gap = n + gap
 
 -- how many positions the range from low to high has
 abbrev pub span : ℕ → ℕ → ℕ
 span low high = high + 1 - low
+
+-- how far the start of a component may lie from that of the one before, which has n letters, if the gap between has low to high: the
+-- least distance, and how many there are
+abbrev pub distances : ℕ → ℕ → ℕ → Distances
+distances n low high = record { near = distance n low; count = span (distance n low) (distance n high) }
+
+-- those of the component c after b
+abbrev pub after : Component → Component → Distances
+after c b = distances (b .length) (c .low) (c .high)
 
 -- a component's part with the letters w, after a component of n letters
 abbrev pub part-of : Reading → ℕ → Component → List ℕ → Part

@@ -45,6 +45,12 @@ pub struct Component {
     pub allowance: u16,
 }
 
+// How far the start of a component may lie from that of the one before it: the least distance, and how many there are from that on.
+pub struct Distances {
+    pub near: usize,
+    pub count: usize,
+}
+
 // A template: the kind of search, how many components there are, and a slot for each that there may be.
 pub struct Template {
     pub profile: Profile,

@@ -4,9 +4,10 @@ ghost use Prim.Native.Nat.{min, _-_, _≤_};
 ghost use lib.ListN.{length, take, drop};
 ghost use Rattle.rules.specs.Limits.{Template-COMPONENTS};
 ghost use Rattle.rules.specs.Sequences.{set-of};
-ghost use Rattle.rules.specs.Template.{slots, component, allowing, allowance-in, none, kept, trimmed, size, with-slots};
+ghost use Rattle.rules.specs.Template.{slots, component, allowing, allowance-in, none, kept, trimmed, size, with-slots, distances, after};
 ghost use Rattle.rules.specs.Walk.{place, first-place, ended-place};
 use crate::Component;
+use crate::Distances;
 use crate::Offset;
 use crate::Place;
 use crate::Profile;
@@ -50,6 +51,13 @@ impl Component {
         }
     }
 
+    // How far its start may lie from that of the component before it.
+    pub fn after(self, before: Component) -> Distances
+        ensures { λ r. ⌜ r ≡ after self before ⌝ }
+    {
+        Distances::over(before.length, self.low, self.high)
+    }
+
     // Its allowance, by the kind of search: an exact one has none, whatever stands there.
     pub fn allowance_in(self, profile: Profile) -> u16
         ensures { λ r. ⌜ r ≡ allowance-in profile self ⌝ }
@@ -66,6 +74,19 @@ impl Component {
     {
         let used = self.allowing(self.allowance_in(profile));
         if i <= n { used } else { Component::none() }
+    }
+}
+
+impl Distances {
+    // After a component of so many letters and a gap of `low` to `high`. Nothing else computes a distance from a gap.
+    pub fn over(letters: u16, low: u16, high: u16) -> Distances
+        ensures { λ r. ⌜ r ≡ distances letters low high ⌝ }
+    {
+        let behind = letters as usize;
+        let least = behind + low as usize;
+        let most = behind + high as usize;
+        let count = if least <= most { most + 1 - least } else { 0 };
+        Distances { near: least, count }
     }
 }
 

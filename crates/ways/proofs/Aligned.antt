@@ -1,19 +1,20 @@
 -- The parts that components are over the last letters of a word: each next one to the front takes the letters just before
 -- those of the later ones, and a pass of it turns their counts into its own.
-use mathlib.Core.Path.{_≡_, refl, sym, ap, _∙_}
+use mathlib.Core.Path.{_≡_, refl, sym, _∙_}
 use mathlib.Core.List.{List, [], _∷_, map}
 use Prim.Native.Nat.{ℕ, zero, suc, _+_, _-_, _^_, _≤_, _<_}
 use native.Mathlib.Nat.{le-trans, add-zero, pow-zero, pow-succ', pow-le-pow-right}
 use native.Mathlib.Omega.{arith}
 use lib.ListN.{length, take, drop, getD, length-take, length-drop, drop-of-length-le}
 use lib.Seq.{drop-cons, drop-drop, getD-take}
-use Rattle.rules.specs.Limits.{Template-COMPONENTS, Template-LENGTH, Template-GAP}
+use Rattle.rules.specs.Limits.{Template-COMPONENTS, Template-GAP}
 use Rattle.rules.specs.Lists.{run, sum}
 use Rattle.rules.specs.Sound.{SoundComponent, SoundTemplate}
-use Rattle.rules.specs.Template.{Part, Reading, none, slots, components, size, part-of, deal}
+use Rattle.rules.specs.Template.{Part, Reading, none, slots, components, size, after, part-of, deal}
 use Rattle.rules.specs.declared.Component.{Component}
 use Rattle.rules.specs.declared.Template.{Template}
 use Rattle.ways.specs.Counts.{counts, most-ways, at-position, ending, leading, letters-taken, by-bases, aligned}
+use Rattle.rules.proofs.Apart.{Apart, sound-apart}
 use Rattle.ways.proofs.Counting.{counts-after, ending-counts, ending-most, leading-counts, leading-most}
 
 -- ---- dealing out the letters
@@ -86,10 +87,6 @@ module _ {t : Template} {cs : List Component} {w : List ℕ} (held : Held t cs w
     own-length : length own ≡ (getD cs c none) .length
     own-length = simp (length-take, length-drop) (omega (arith, own-ends))
 
-    -- they are no more than a component may have, and at least one
-    pub own-short : length own ≤ Template-LENGTH
-    own-short = rw own-length (component-sound c within .short)
-
     -- its part after a component of n letters, and the parts from it on
     own-part : ℕ → Part
     own-part n = part-of by-bases n (getD cs c none) own
@@ -112,21 +109,23 @@ module _ {t : Template} {cs : List Component} {w : List ℕ} (held : Held t cs w
     unfolding deal own-part
     last-made s h e = e ∙ rw (aligned-dealt, own-dealt 0, onward-end (suc c) (omega arith)) (ending-counts 0 (getD cs c none) own s)
 
+  -- how far the start of component d may lie from that of c
+  pub next-near : (c d : ℕ) → c < t .count → d < t .count → Apart (after (getD cs d none) (getD cs c none))
+  next-near c d h l = sound-apart (component-sound c h) (component-sound d l)
+
   -- the pass of a component c before others, d the next
-  pub next-made : (s : List ℕ) (c d b : ℕ) (after : d ≡ suc c) (h : d < t .count) (k : c < t .count) (e : b + letters-taken (onward cs (t .count) c) ≡ length w) → {x y : List ℕ}
+  pub next-made : (s : List ℕ) (c d b : ℕ) (follows : d ≡ suc c) (h : d < t .count) (k : c < t .count) (e : b + letters-taken (onward cs (t .count) c) ≡ length w) → {x y : List ℕ}
       → x ≡ counts (aligned (onward cs (t .count) d) w) s
-      → y ≡ map (leading (own c b k e) ((getD cs d none) .low) ((getD cs d none) .high) s x) (run 1 (length s))
+      → y ≡ map (leading (own c b k e) (after (getD cs d none) (getD cs c none)) s x) (run 1 (length s))
       → y ≡ counts (aligned (onward cs (t .count) c) w) s
   unfolding own-part
-  next-made s c d b after h k e {x} {y} ex ey =
+  next-made s c d b follows h k e {x} {y} ex ey =
       let n = (getD cs c none) .length in
-      let l : onward cs (t .count) (suc c) ≡ onward cs (t .count) d = rw after in
-      let e′ : b + n + letters-taken (onward cs (t .count) d) ≡ length w = rw after (omega (arith, letters-step c k)) in
+      let l : onward cs (t .count) (suc c) ≡ onward cs (t .count) d = rw follows in
+      let e′ : b + n + letters-taken (onward cs (t .count) d) ≡ length w = rw follows (omega (arith, letters-step c k)) in
       let some : 0 < length (own d (b + n) h e′) = rw (own-length d (b + n) h e′) (component-sound d h .some) in
       let later : x ≡ counts (deal by-bases n (onward cs (t .count) d) (drop (b + n) w)) s = ex ∙ rw (aligned-dealt d (b + n) h e′) (counts-after by-bases 0 n (onward cs (t .count) d) (drop (b + n) w) s) in
-      let near = ap (λ n. n + (getD cs d none) .low) (sym (own-length c b k e)) in
-      let far = ap (λ n. n + (getD cs d none) .high) (sym (own-length c b k e)) in
-      ey ∙ rw (later, aligned-dealt c b k e, own-dealt c b k e 0, l, own-dealt d (b + n) h e′ n) (leading-counts 0 (getD cs c none) (own c b k e) s (own-part d (b + n) h e′ n) _ _ _ near far some)
+      ey ∙ rw (later, aligned-dealt c b k e, own-dealt c b k e 0, l, own-dealt d (b + n) h e′ n) (leading-counts 0 (getD cs c none) (own c b k e) s (own-part d (b + n) h e′ n) _ some)
 
   -- no count is too large: k components follow, each at one of so many distances
   counts-most : (s : List ℕ) (k c : ℕ) → suc (c + k) ≡ t .count → (p : ℕ) → at-position (counts (aligned (onward cs (t .count) c) w) s) p ≤ (Template-GAP + 1) ^ k
@@ -136,7 +135,7 @@ module _ {t : Template} {cs : List Component} {w : List ℕ} (held : Held t cs w
   counts-most s (suc k) c h p =
       let e : length w - letters-taken (onward cs (t .count) c) + letters-taken (onward cs (t .count) c) ≡ length w = omega (arith, letters-fit c) in
       let next : suc c < t .count = omega arith in
-      rw pow-succ' (leading-most _ _ _ s _ _ (length s) (component-sound (suc c) next .near) (counts-most s k (suc c) (omega arith)) (sym (next-made s c (suc c) _ refl next (omega arith) e refl refl)) p)
+      rw pow-succ' (leading-most _ _ s _ _ (length s) (next-near c (suc c) (omega arith) next .few) (counts-most s k (suc c) (omega arith)) (sym (next-made s c (suc c) _ refl next (omega arith) e refl refl)) p)
 
   pub counts-small : (s : List ℕ) (c : ℕ) → c < t .count → {y : List ℕ} → y ≡ counts (aligned (onward cs (t .count) c) w) s → (p : ℕ) → at-position y p ≤ most-ways
   counts-small s c h e p =

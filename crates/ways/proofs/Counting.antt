@@ -12,8 +12,9 @@ use lib.ListN.{length, getD, List·getD-eq-default}
 use Rattle.rules.specs.Limits.{Template-GAP}
 use Rattle.rules.specs.Lists.{run, if, sum}
 use Rattle.rules.specs.Occurrence.{stands-by, reach, ways}
-use Rattle.rules.specs.Template.{Part, Reading, part-of, deal}
+use Rattle.rules.specs.Template.{Part, Reading, span, part-of, deal}
 use Rattle.rules.specs.declared.Component.{Component}
+use Rattle.rules.specs.declared.Distances.{Distances}
 use Rattle.ways.specs.Counts.{stands-in-bytes, counts, at-position, cell, ending, leading, by-bases}
 use Rattle.ways.proofs.LetterByLetter.{stands-by-short}
 use Rattle.rules.proofs.Over.{length-map-run, getD-map-run}
@@ -73,22 +74,20 @@ module _ (n : ℕ) (c : Component) (w s : List ℕ) where
   unfolding counts ending cell ways
   ending-counts = refl
 
-  -- the pass of a part before others, the next of them after a gap of low to high
-  pub leading-counts : (d : Part) (ds : List Part) (low high : ℕ) → d .near ≡ length w + low → d .far ≡ length w + high → 0 < length (d .word)
-      → map (leading w low high s (counts (d ∷ ds) s)) (run 1 (length s)) ≡ counts (part-of by-bases n c w ∷ d ∷ ds) s
-  unfolding counts leading cell ways
-  leading-counts d ds low high near far some =
-      map-same (leading w low high s (counts (d ∷ ds) s)) (ways (part-of by-bases n c w ∷ d ∷ ds) s)
-      (λ p. rw (← near, ← far, map-same (at-position (counts (d ∷ ds) s)) (ways (d ∷ ds) s) (counts-at d ds s some) (reach (d .near) (d .far) p)))
+  -- the pass of a part before others, at the distances of the next of them
+  pub leading-counts : (d : Part) (ds : List Part) → 0 < length (d .word)
+      → map (leading w (record { near = d .near; count = span (d .near) (d .far) }) s (counts (d ∷ ds) s)) (run 1 (length s)) ≡ counts (part-of by-bases n c w ∷ d ∷ ds) s
+  unfolding counts leading cell ways reach
+  leading-counts d ds some =
+      map-same (leading w (record { near = d .near; count = span (d .near) (d .far) }) s (counts (d ∷ ds) s)) (ways (part-of by-bases n c w ∷ d ∷ ds) s)
+      (λ p. rw (map-same (at-position (counts (d ∷ ds) s)) (ways (d ∷ ds) s) (counts-at d ds s some) (run (p + d .near) (span (d .near) (d .far)))))
       (run 1 (length s))
 
 -- what a sliding sum has at an offset goes into the cell there
-pub leading-at : (w : List ℕ) (low high : ℕ) (s later : List ℕ) (o : ℕ) {t v : ℕ}
-    → t ≡ sum (map (at-position later) (run (suc (o + (length w + low))) (high + 1 - low))) → v ≡ cell w s (suc o) t → v ≡ leading w low high s later (suc o)
-unfolding leading reach
-leading-at w low high s later o et ev =
-    let span : length w + high + 1 - (length w + low) ≡ high + 1 - low = omega arith in
-    ev ∙ ap (cell w s (suc o)) (et ∙ rw (suc-add o (length w + low), span))
+pub leading-at : (w : List ℕ) (apart : Distances) (s later : List ℕ) (o : ℕ) {t v : ℕ}
+    → t ≡ sum (map (at-position later) (run (suc (o + apart .near)) (apart .count))) → v ≡ cell w s (suc o) t → v ≡ leading w apart s later (suc o)
+unfolding leading
+leading-at w apart s later o et ev = ev ∙ ap (cell w s (suc o)) (et ∙ rw (suc-add o (apart .near)))
 
 -- ---- no count is too large
 
@@ -102,13 +101,11 @@ unfolding ending
 ending-most w s n e = over-most (ending w s) 1 (λ p. cell-most w s p 1) n e
 
 -- a pass multiplies by no more than the distances at which the next part may start
-pub leading-most : (w : List ℕ) (low high : ℕ) (s later : List ℕ) (b n : ℕ) → high ≤ Template-GAP → ((p : ℕ) → at-position later p ≤ b)
-    → {y : List ℕ} → y ≡ map (leading w low high s later) (run 1 n) → (p : ℕ) → at-position y p ≤ (Template-GAP + 1) * b
-unfolding leading reach
-leading-most w low high s later b n near h e =
-    over-most (leading w low high s later) ((Template-GAP + 1) * b)
-    (λ p.
-    le-trans (cell-most w s p _)
-    (le-trans (window-most (at-position later) b h (p + (length w + low)) (length w + high + 1 - (length w + low))) (mul-le-mul-right b (omega arith))))
+pub leading-most : (w : List ℕ) (apart : Distances) (s later : List ℕ) (b n : ℕ) → apart .count ≤ Template-GAP + 1 → ((p : ℕ) → at-position later p ≤ b)
+    → {y : List ℕ} → y ≡ map (leading w apart s later) (run 1 n) → (p : ℕ) → at-position y p ≤ (Template-GAP + 1) * b
+unfolding leading
+leading-most w apart s later b n few h e =
+    over-most (leading w apart s later) ((Template-GAP + 1) * b)
+    (λ p. le-trans (cell-most w s p _) (le-trans (window-most (at-position later) b h (p + apart .near) (apart .count)) (mul-le-mul-right b few)))
     n
     e

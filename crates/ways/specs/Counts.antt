@@ -6,10 +6,11 @@ use lib.ListN.{length, drop, getD}
 use Rattle.rules.specs.Limits.{Template-COMPONENTS, Template-GAP}
 use Rattle.rules.specs.Lists.{run, if, sum}
 use Rattle.rules.specs.Letters.{value}
-use Rattle.rules.specs.Occurrence.{stands-by, reach, ways}
+use Rattle.rules.specs.Occurrence.{stands-by, ways}
 use Rattle.rules.specs.Profile.{has-base}
-use Rattle.rules.specs.Template.{Part, Reading, deal, distance}
+use Rattle.rules.specs.Template.{Part, Reading, deal}
 use Rattle.rules.specs.declared.Component.{Component}
+use Rattle.rules.specs.declared.Distances.{Distances}
 
 -- THE COUNTS. For each position of s, the number of occurrences of the parts that start there: those of
 -- A, then A after a gap of 0 to 1, in AAA are 2, 1, 0
@@ -41,8 +42,8 @@ unfoldable pub ending : List ℕ → List ℕ → ℕ → ℕ
 ending w s p = cell w s p 1
 
 -- the ways of a part and those after it, from the counts of those: the sum over all positions where the next may start
-unfoldable pub leading : List ℕ → ℕ → ℕ → List ℕ → List ℕ → ℕ → ℕ
-leading w low high s later p = cell w s p (sum (map (at-position later) (reach (distance (length w) low) (distance (length w) high) p)))
+unfoldable pub leading : List ℕ → Distances → List ℕ → List ℕ → ℕ → ℕ
+leading w apart s later p = cell w s p (sum (map (at-position later) (run (p + apart .near) (apart .count))))
 
 -- THE LETTERS. How many letters some components take
 unfoldable pub letters-taken : List Component → ℕ

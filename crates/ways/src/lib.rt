@@ -1,6 +1,6 @@
 // How many occurrences a motif has in one sequence, from each position: what recovery goes by. An inner crate: its functions require
 // what the checks show of the sequences and the template.
-use rules::Component;
+use rules::Distances;
 use rules::Letter;
 use rules::Template;
 ghost use mathlib.Core.Path.{_≡_};
@@ -9,7 +9,7 @@ ghost use Prim.Native.Nat.{ℕ, suc, _+_, _^_, _≤_, _<_};
 ghost use lib.ListN.{length, drop};
 ghost use Rattle.rules.specs.Limits.{Template-LENGTH, Template-GAP};
 ghost use Rattle.rules.specs.Lists.{run, sum};
-ghost use Rattle.rules.specs.Sound.{SoundComponent, SoundTemplate};
+ghost use Rattle.rules.specs.Sound.{SoundTemplate};
 ghost use Rattle.rules.specs.Template.{size, components};
 ghost use Rattle.ways.specs.Counts.{stands-in-bytes, counts, most-ways, at-position, cell, ending, leading, letters-taken, aligned};
 
@@ -76,22 +76,19 @@ fn last(word: &[u8], s: &[u8], ways: &mut [u64])
     }
 }
 
-// The ways of a component and those after it, from the ways of those: `next` has the gap range between. One sum slides
-// along, so a wide range costs no more than a narrow one, and no place is read once it is written.
-fn pass(word: &[u8], next: Component, s: &[u8], ways: &mut [u64])
-    requires { ⌜ (length (now ways) ≡ length (now s)) × (length (now word) ≤ Template-LENGTH) × ((p : ℕ) → at-position (now ways) p ≤ most-ways) ⌝ }
-    requires { ⌜ SoundComponent next ⌝ }
-    ensures { λ _. ⌜ now (ways .exit) ≡ map (leading (now (word .entry)) (next .low) (next .high) (now (s .entry)) (now (ways .entry))) (run 1 (length (now (s .entry)))) ⌝ }
+// The ways of a component and those after it, from the ways of those: the next one starts at one of some distances. One sum
+// slides along, so many distances cost no more than a few, and no place is read once it is written.
+fn pass(word: &[u8], apart: Distances, s: &[u8], ways: &mut [u64])
+    requires { ⌜ (length (now ways) ≡ length (now s)) × (apart .near ≤ Template-LENGTH + Template-GAP) × (apart .count ≤ Template-GAP + 1) × ((p : ℕ) → at-position (now ways) p ≤ most-ways) ⌝ }
+    ensures { λ _. ⌜ now (ways .exit) ≡ map (leading (now (word .entry)) apart (now (s .entry)) (now (ways .entry))) (run 1 (length (now (s .entry)))) ⌝ }
 {
-    let low = next.low as usize;
-    let high = next.high as usize;
-    let distance = word.len() + low;
-    let count = high + 1 - low;
-    let mut total = window(ways, distance, count);
+    let near = apart.near;
+    let count = apart.count;
+    let mut total = window(ways, near, count);
     let mut o = 0;
     while o < ways.len() {
         let v = cell(word, s, o, total);
-        total = total + at(ways, o + distance + count) - at(ways, o + distance);
+        total = total + at(ways, o + near + count) - at(ways, o + near);
         ways[o] = v;
         o += 1;
     }
@@ -135,7 +132,8 @@ pub fn step(sequence: &[u8], template: Template, word: &[u8], component: usize, 
         return;
     }
     let later = components[next];
-    pass(&word[begin..end], later, sequence, ways);
+    let apart = later.after(here);
+    pass(&word[begin..end], apart, sequence, ways);
 }
 
 // The sum of some counts. Of a sequence's ways from its first component on, it is the number of occurrences.

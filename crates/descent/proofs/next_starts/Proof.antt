@@ -1,7 +1,21 @@
--- `next_starts`: the sums are small, and the range is that of the slots.
+-- `next_starts`: the distances are those of the slots, which are small in a sound template.
 use borrow.Author.Needs.{needs}
+use mathlib.Core.Path.{_≡_, _∙_}
+use Prim.Native.Nat.{_+_}
+use native.Mathlib.Omega.{arith}
+use Rattle.rules.proofs.Apart.{Apart, sound-apart}
+use Rattle.descent.specs.Paths.{next-apart}
 use Rattle.descent.proofs.next_starts.Statement.{statement}
 use Rattle.descent.proofs.next_starts.Tie as tie
+
+module _ (c : tie.After-after) where
+  apart-is : c .after .result ≡ next-apart (c .before .before .before .before .args .template) (c .before .before .before .before .args .component)
+  apart-is = c .after .ensures ∙ rw (c .before .before .before .components .ensures)
+
+  small : Apart (c .after .result)
+  small =
+      let b = c .before .before .before .before in
+      rw apart-is (sound-apart (b .pre .0 .each (b .args .component) (omega (arith, b .pre .1 .0))) (b .pre .0 .each (b .args .component + 1) (b .pre .1 .0)))
 
 components-requires : tie.Need-components-requires
 components-requires c κs = search needs
@@ -21,37 +35,25 @@ mul-there c = search needs
 array-copy-out-there : tie.Need-array-copy-out-there
 array-copy-out-there c = search needs
 
-wide-requires : tie.Need-wide-requires
-wide-requires c κs = search needs
+after-requires : tie.Need-after-requires
+after-requires c κs = search needs
 
-wide-requires-2 : tie.Need-wide-requires-2
-wide-requires-2 c κs = search needs
-
-wide-requires-3 : tie.Need-wide-requires-3
-wide-requires-3 c κs = search needs
-
-add-after : tie.Need-add-after
-add-after c = search needs
-
-add-t16 : tie.Need-add-t16
-add-t16 c = search needs
+add-from : tie.Need-add-from
+add-from c = omega (arith, small (c .before .before) .near)
 
 add-least : tie.Need-add-least
 add-least c = search needs
 
+add-least-2 : tie.Need-add-least-2
+add-least-2 c = omega (arith, small (c .before .before .before) .near, small (c .before .before .before) .few)
+
 least-requires : tie.Need-least-requires
 least-requires c κs = search needs
 
-add-t23 : tie.Need-add-t23
-add-t23 c = search needs
-
 returns : tie.Need-returns
 returns c =
-    let e = c .before .before .before .before .before .before .before .components .ensures in
-    let n = c .before .before .before .before .wide .ensures .0 in
-    let l = c .before .before .before .wide2 .ensures .0 in
-    let u = c .before .before .wide3 .ensures .0 in
-    (rw (n, l, e), rw (c .least .ensures, n, u, e))
+    let e = apart-is (c .before .before .before .before) in
+    (rw e, c .least .ensures ∙ rw e)
 
 pub next-starts-spec : {M : Type 1} → statement M
 next-starts-spec =
@@ -63,12 +65,9 @@ next-starts-spec =
     array-copy-out-here
     mul-there
     array-copy-out-there
-    wide-requires
-    wide-requires-2
-    wide-requires-3
-    add-after
-    add-t16
+    after-requires
+    add-from
     add-least
+    add-least-2
     least-requires
-    add-t23
     returns)

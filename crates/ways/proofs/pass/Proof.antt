@@ -16,25 +16,25 @@ use Rattle.ways.proofs.pass.Statement.{statement}
 use Rattle.ways.proofs.pass.Tie as tie
 
 abbrev Inv-loop : tie.InvT-loop
-Inv-loop word s ways₀ low high distance count total₀ o₀ ways total o =
+Inv-loop word s ways₀ near count total₀ o₀ ways total o =
     (o ≤ length ways₀)
     × (length ways ≡ length ways₀)
-    × (ways ≡ over (by-offset (leading word low high s ways₀)) o ways₀)
-    × (total ≡ sum (map (at-position ways₀) (run (suc (o + distance)) count)))
+    × (ways ≡ over (by-offset (leading word (record { near = near; count = count }) s ways₀)) o ways₀)
+    × (total ≡ sum (map (at-position ways₀) (run (suc (o + near)) count)))
 
 abbrev μ-loop : tie.MeasureT-loop
-μ-loop word s ways₀ low high distance count total₀ o₀ ways total o = length ways₀ - o
+μ-loop word s ways₀ near count total₀ o₀ ways total o = length ways₀ - o
 
 -- at the loop's head: the ways of the later components, the offset at which the sum begins, and how many numbers it has
 module _ (l : tie.At-loop Inv-loop μ-loop) where
   abbrev later : List ℕ
-  later = l .before .before .before .before .before .before .before .before .args .ways .now
+  later = l .before .before .before .before .before .before .args .ways .now
 
   abbrev from : ℕ
-  from = l .loop .o + (length (l .before .before .before .before .before .before .before .before .args .word .now) + l .before .before .before .before .before .before .before .before .args .next .low)
+  from = l .loop .o + l .before .before .before .before .before .before .args .apart .near
 
   abbrev span : ℕ
-  span = l .before .before .before .before .before .before .before .before .args .next .high + 1 - l .before .before .before .before .before .before .before .before .args .next .low
+  span = l .before .before .before .before .before .before .args .apart .count
 
 -- the number that comes into the sum, and the one that goes out: both are still as they were
 comes-in : (c : tie.After-at Inv-loop μ-loop) → c .at .result ≡ at-position (later (c .before .before .before .before)) (suc (from (c .before .before .before .before) + span (c .before .before .before .before)))
@@ -47,23 +47,8 @@ slides : (c : tie.After-at2 Inv-loop μ-loop)
     → c .before .before .before .before .before .before .loop .total + c .before .before .at .result ≡ c .at2 .result + sum (map (at-position (later (c .before .before .before .before .before .before))) (run (suc (from (c .before .before .before .before .before .before) + 1)) (span (c .before .before .before .before .before .before))))
 slides c = omega (arith, comes-in (c .before .before), goes-out c, c .before .before .before .before .before .before .loop .inv .3, window-slide (at-position (later (c .before .before .before .before .before .before))) (from (c .before .before .before .before .before .before)) (span (c .before .before .before .before .before .before)))
 
-cast-low : tie.Need-cast-low Inv-loop μ-loop
-cast-low c = search needs
-
-cast-high : tie.Need-cast-high Inv-loop μ-loop
-cast-high c = search needs
-
-add-distance : tie.Need-add-distance Inv-loop μ-loop
-add-distance c = search needs
-
-add-count : tie.Need-add-count Inv-loop μ-loop
-add-count c = search needs
-
-sub-count : tie.Need-sub-count Inv-loop μ-loop
-sub-count c = search needs
-
 window-requires : tie.Need-window-requires Inv-loop μ-loop
-window-requires c κs = (search needs, search needs, c .before .before .before .before .before .before .pre .0 .2)
+window-requires c κs = (search needs, search needs, c .before .before .before .before .pre .3)
 
 loop-holds : tie.Need-loop-holds Inv-loop μ-loop
 loop-holds c = (search needs, search needs, over-none _ 0 _, c .window .ensures ∙ simp zero-add)
@@ -83,7 +68,7 @@ at-requires c κs = search needs
 add-total : tie.Need-add-total Inv-loop μ-loop
 add-total c =
     let l = c .before .before .before .before in
-    let b = l .before .before .before .before .before .before .before .before .pre .0 .2 in
+    let b = l .before .before .before .before .before .before .pre .3 in
     omega (arith, comes-in c, l .loop .inv .3, window-most (at-position (later l)) most-ways b (suc (from l)) (span l), b (suc (from l + span l)))
 
 add-at-3 : tie.Need-add-at-3 Inv-loop μ-loop
@@ -111,10 +96,10 @@ loop-again : tie.Need-loop-again Inv-loop μ-loop
 unfolding by-offset
 loop-again c =
     let l = c .before .before .before .before .before .before in
-    let on : l .loop .o + 1 + (length (l .before .before .before .before .before .before .before .before .args .word .now) + l .before .before .before .before .before .before .before .before .args .next .low) ≡ from l + 1 = omega arith in (
+    let on : l .loop .o + 1 + l .before .before .before .before .before .before .args .apart .near ≡ from l + 1 = omega arith in (
       search needs,
       search needs,
-      over-put _ _ _ (l .loop .inv .2) (leading-at _ _ _ _ _ _ (l .loop .inv .3) (c .before .before .before .before .cell .ensures)) (search needs),
+      over-put _ _ _ (l .loop .inv .2) (leading-at _ _ _ _ _ (l .loop .inv .3) (c .before .before .before .before .cell .ensures)) (search needs),
       rw on (omega (arith, slides c)),
     )
 
@@ -130,11 +115,6 @@ pass-spec =
     (tie.spec
     Inv-loop
     μ-loop
-    cast-low
-    cast-high
-    add-distance
-    add-count
-    sub-count
     window-requires
     loop-holds
     cell-requires

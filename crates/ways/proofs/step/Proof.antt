@@ -8,7 +8,7 @@ use native.Mathlib.Omega.{arith}
 use lib.ListN.{length}
 use Rattle.rules.specs.Template as template
 use Rattle.ways.specs.Counts.{counts, letters-taken, aligned}
-use Rattle.ways.proofs.Aligned.{Held, onward, component-sound, own-ends, own-short, last-made, next-made, counts-small}
+use Rattle.ways.proofs.Aligned.{Held, onward, own-ends, last-made, next-near, next-made, counts-small}
 use Rattle.ways.proofs.step.Statement.{statement}
 use Rattle.ways.proofs.step.Tie as tie
 
@@ -82,6 +82,9 @@ mul-later c = search needs
 array-copy-out-later : tie.Need-array-copy-out-later
 array-copy-out-later c = search needs
 
+after-requires : tie.Need-after-requires
+after-requires c κs = search needs
+
 sub-pass : tie.Need-sub-pass
 sub-pass c = search needs
 
@@ -89,14 +92,16 @@ part-pass-start : tie.Need-part-pass-start
 part-pass-start c = search needs
 
 part-pass-end : tie.Need-part-pass-end
-part-pass-end c = own-ends (held (c .before .before)) _ _ (c .before .before .before .before .before .before .before .before .before .before .pre .1 .0 .0) (begun (c .before .before))
+part-pass-end c = own-ends (held (c .before .before .before)) _ _ (c .before .before .before .before .before .before .before .before .before .before .before .pre .1 .0 .0) (begun (c .before .before .before))
 
 pass-requires : tie.Need-pass-requires
 pass-requires c κs =
-    let b = c .before .before .before .before in
-    let l = c .before .before .before in
-    let a = c .before .before .before .before .before .before .before .before .before .before .before .before in
-    ((a .pre .1 .0 .2, own-short (held b) _ _ (a .pre .1 .0 .0) (begun b), counts-small (held b) (a .args .sequence .now) _ (follows l) (theirs l)), component-sound (held b) _ (follows l))
+    let b = c .before .before .before .before .before in
+    let l = c .before .before .before .before in
+    let a = c .before .before .before .before .before .before .before .before .before .before .before .before .before in
+    let n = next-near (held b) _ _ (a .pre .1 .0 .0) (follows l) in
+    let e = c .before .before .after .ensures in
+    (a .pre .1 .0 .2, rw e (n .near), rw e (n .few), counts-small (held b) (a .args .sequence .now) _ (follows l) (theirs l))
 
 same-length-2 : tie.Need-same-length-2
 same-length-2 c = search needs
@@ -104,10 +109,11 @@ same-length-2 c = search needs
 returns-2 : tie.Need-returns-2
 unfolding template.components
 returns-2 c =
-    let b = c .before .before .before .before .before .before .before in
-    let l = c .before .before .before .before .before .before in
-    let a = c .before .before .before .before .before .before .before .before .before .before .before .before .before .before .before in
-    rw (b .before .before .before .before .components .ensures) at (next-made (held b) (a .args .sequence .now) _ _ _ (add-one (a .args .component)) (follows l) (a .pre .1 .0 .0) (begun b) (theirs l) (c .before .before .pass .ensures))
+    let b = c .before .before .before .before .before .before .before .before in
+    let l = c .before .before .before .before .before .before .before in
+    let a = c .before .before .before .before .before .before .before .before .before .before .before .before .before .before .before .before in
+    let made = rw (c .before .before .before .before .before .after .ensures) at (c .before .before .pass .ensures) in
+    rw (b .before .before .before .before .components .ensures) at (next-made (held b) (a .args .sequence .now) _ _ _ (add-one (a .args .component)) (follows l) (a .pre .1 .0 .0) (begun b) (theirs l) made)
 
 pub step-spec : {M : Type 1} → statement M
 step-spec =
@@ -129,6 +135,7 @@ step-spec =
     returns
     mul-later
     array-copy-out-later
+    after-requires
     sub-pass
     part-pass-start
     part-pass-end

@@ -17,7 +17,7 @@ use Rattle.rules.specs.declared.Component.{Component}
 use Rattle.rows.specs.NextLetter.{letters-before}
 use Rattle.rows.proofs.ByFlags.{row-bounded}
 use Rattle.matching.specs.Weights.{Leads-to}
-use Rattle.matching.proofs.OneMoreComponent.{Turn, begin-letters, begin-part, begin-long, only-led, end-led, behind-sound, here-sound, next-letters, next-some, next-deep, next-less, next-path, next-small, next-dark, next-led}
+use Rattle.matching.proofs.OneMoreComponent.{Turn, begin-letters, begin-part, begin-long, only-led, end-led, behind-sound, turn-apart, next-letters, next-some, next-deep, next-less, next-path, next-small, next-dark, next-led}
 use Rattle.matching.proofs.Slots.{enough}
 use Rattle.matching.proofs.Steps.{prefix-long}
 use Rattle.matching.proofs.weights.count_ways.Statement.{statement}
@@ -115,33 +115,27 @@ mul-here c = search needs
 array-copy-out-here : tie.Need-array-copy-out-here Inv-loop μ-loop
 array-copy-out-here c = omega (arith, turn (c .before) .less, turn (c .before) .sound .few)
 
-cast-behind : tie.Need-cast-behind Inv-loop μ-loop
-cast-behind c = search needs
-
-cast-low : tie.Need-cast-low Inv-loop μ-loop
-cast-low c = search needs
-
-cast-high : tie.Need-cast-high Inv-loop μ-loop
-cast-high c = search needs
+after-requires : tie.Need-after-requires Inv-loop μ-loop
+after-requires c κs = search needs
 
 cast-more : tie.Need-cast-more Inv-loop μ-loop
-cast-more c = omega (arith, behind-sound (turn (c .before .before .before .before .before .before)) .short)
+cast-more c = omega (arith, behind-sound (turn (c .before .before .before .before)) .short)
 
 add-size : tie.Need-add-size Inv-loop μ-loop
-add-size c = omega (arith, next-deep (turn (c .before .before .before .before .before .before)), turn (c .before .before .before .before .before .before) .whole, turn (c .before .before .before .before .before .before) .sound .deep)
+add-size c = omega (arith, next-deep (turn (c .before .before .before .before)), turn (c .before .before .before .before) .whole, turn (c .before .before .before .before) .sound .deep)
 
 sub-left : tie.Need-sub-left Inv-loop μ-loop
-sub-left c = next-deep (turn (c .before .before .before .before .before .before))
+sub-left c = next-deep (turn (c .before .before .before .before))
 
 cast-left : tie.Need-cast-left Inv-loop μ-loop
-cast-left c = let t = turn (c .before .before .before .before .before .before) in omega (arith, t .whole, t .sound .deep)
+cast-left c = let t = turn (c .before .before .before .before) in omega (arith, t .whole, t .sound .deep)
 
 prefix-requires : tie.Need-prefix-requires Inv-loop μ-loop
 prefix-requires c κs = search needs
 
 support-requires : tie.Need-support-requires Inv-loop μ-loop
 support-requires c κs =
-    let q = c .before .before .before .before .before .before .before .before in
+    let q = c .before .before .before .before .before .before in
     let s = start q in
     let p = s .pre in
     let t = turn q in
@@ -163,31 +157,22 @@ support-requires c κs =
     )
 
 cast-lead-slot : tie.Need-cast-lead-slot Inv-loop μ-loop
-cast-lead-slot c = let t = turn (c .before .before .before .before .before .before .before .before .before .before .before) in omega (arith, next-deep t, t .whole, t .sound .deep)
-
-add-lead-slot : tie.Need-add-lead-slot Inv-loop μ-loop
-add-lead-slot c = search needs
-
-add-lead-slot-2 : tie.Need-add-lead-slot-2 Inv-loop μ-loop
-add-lead-slot-2 c = search needs
-
-sub-lead-slot : tie.Need-sub-lead-slot Inv-loop μ-loop
-sub-lead-slot c = omega (arith, here-sound (turn (c .before .before .before .before .before .before .before .before .before .before .before .before)) .ordered)
+cast-lead-slot c = let t = turn (c .before .before .before .before .before .before .before .before .before) in omega (arith, next-deep t, t .whole, t .sound .deep)
 
 lead-slot-requires : tie.Need-lead-slot-requires Inv-loop μ-loop
 lead-slot-requires c κs =
-    let q = c .before .before .before .before .before .before .before .before .before .before .before .before .before in
+    let q = c .before .before .before .before .before .before .before .before .before .before .before in
     let s = start q in
     let p = s .pre in
     let t = turn q in
-    let b = behind-sound t in
-    let h = here-sound t in
+    let apart = c .before .before .before .before .before .before .before .before .after .ensures in
+    let z = turn-apart t apart in
     let o = p .1 .1 .1 .1 .1 .1 in
     let r = c .before .before .before .before .support .ensures in
     let is = r .1 .1 .0 (omega arith) in (
       (omega (arith, next-less t, t .whole, t .sound .deep), o .0, o .1, omega (arith, r .1 .1 .1, q .before .loop .inv .3, o .2)),
       (
-        (p .1 .0 .few, omega (arith, b .some), omega (arith, b .short, h .ordered, h .near), omega (arith, h .ordered), omega (arith, h .near)),
+        (p .1 .0 .few, z .some, z .near, z .any, z .few),
         (
           p .1 .1 .1 .0 .laid,
           (
@@ -198,7 +183,7 @@ lead-slot-requires c κs =
                 (omega (arith, enough _ _ (p .1 .0)), room q),
                 (
                   next-small t _ _ (p .1 .0) (s .args .motif) _ _ (eqb (at-c q) 1) (begins q) (goes q) (room q) _ (c .before .before .before .before .before .before .prefix .ensures) is,
-                  next-dark t _ _ (p .1 .0) (s .args .motif) _ _ (eqb (at-c q) 1) (begins q) (goes q) (room q) _ (c .before .before .before .before .before .before .prefix .ensures) is _ _ (p .1 .1 .1 .1 .1 .0),
+                  next-dark t _ _ (p .1 .0) (s .args .motif) _ _ (eqb (at-c q) 1) (begins q) (goes q) (room q) _ (c .before .before .before .before .before .before .prefix .ensures) is apart _ _ (p .1 .1 .1 .1 .1 .0),
                 ),
               ),
             ),
@@ -208,14 +193,14 @@ lead-slot-requires c κs =
     )
 
 add-c : tie.Need-add-c Inv-loop μ-loop
-add-c c = omega (arith, turn (c .before .before .before .before .before .before .before .before .before .before .before .before .before .before .before .before) .less, turn (c .before .before .before .before .before .before .before .before .before .before .before .before .before .before .before .before) .sound .few)
+add-c c = omega (arith, turn (c .before .before .before .before .before .before .before .before .before .before .before .before .before .before) .less, turn (c .before .before .before .before .before .before .before .before .before .before .before .before .before .before) .sound .few)
 
 loop-less : tie.Need-loop-less Inv-loop μ-loop
-loop-less c = omega (arith, turn (c .before .before .before .before .before .before .before .before .before .before .before .before .before .before .before .before) .less)
+loop-less c = omega (arith, turn (c .before .before .before .before .before .before .before .before .before .before .before .before .before .before) .less)
 
 loop-again : tie.Need-loop-again Inv-loop μ-loop
 loop-again c =
-    let q = c .before .before .before .before .before .before .before .before .before .before .before .before .before .before .before .before in
+    let q = c .before .before .before .before .before .before .before .before .before .before .before .before .before .before in
     let s = start q in
     let p = s .pre in
     let t = turn q in
@@ -227,7 +212,7 @@ loop-again c =
       rw z (next-letters t),
       n .1 .1 .1 ∙ q .before .loop .inv .3,
       r .1 ∙ q .before .loop .inv .4,
-      (λ _. rw z (next-led t _ _ (p .1 .0) (s .args .motif) _ _ (eqb (at-c q) 1) (begins q) (goes q) (room q) _ (c .before .before .before .before .before .before .before .before .before .prefix .ensures) (n .1 .1 .0 (omega arith)) _ _ (r .0))),
+      (λ _. rw z (next-led t _ _ (p .1 .0) (s .args .motif) _ _ (eqb (at-c q) 1) (begins q) (goes q) (room q) _ (c .before .before .before .before .before .before .before .before .before .prefix .ensures) (n .1 .1 .0 (omega arith)) (c .before .before .before .before .before .before .before .before .before .before .before .after .ensures) _ _ (r .0))),
     )
 
 same-length-2 : tie.Need-same-length-2 Inv-loop μ-loop
@@ -263,9 +248,7 @@ count-ways-spec =
     array-copy-out-before
     mul-here
     array-copy-out-here
-    cast-behind
-    cast-low
-    cast-high
+    after-requires
     cast-more
     add-size
     sub-left
@@ -273,9 +256,6 @@ count-ways-spec =
     prefix-requires
     support-requires
     cast-lead-slot
-    add-lead-slot
-    add-lead-slot-2
-    sub-lead-slot
     lead-slot-requires
     add-c
     loop-less
