@@ -14,7 +14,7 @@ use Rattle.rules.specs.Calls.{unless, on-refusal, begin-rule, leg-rule, restore
 use Rattle.rules.specs.Refusals.{first, set-checks, search-checks}
 use Rattle.rules.specs.Saved.{bytes, read-search}
 use Rattle.rules.specs.Sound.{SoundTemplate}
-use Rattle.rules.specs.Told.{Verdict, fine, refused, Told, gives, refuses, LegTold, toldLeg}
+use Rattle.rules.specs.Told.{Verdict, fine, refused, Told, gives, refuses, LegTold, toldAnswer, toldLeg}
 use Rattle.rules.specs.declared.Leg.{Leg}
 use Rattle.rules.specs.declared.Search.{Search}
 use Rattle.rules.specs.declared.Template.{Template}
@@ -78,23 +78,23 @@ module _ (letters lengths bs : List ℕ) (s : Search) (e : gives s ≡ read-rule
 
     -- where the leg is not refused, what it leaves is written,
     wrote : first (search-checks letters lengths s) ≡ fine → let l = (leg-rule letters lengths s budget motifs supports weights) .told in
-        saved-after l bs ≡ (write-rule (l .search) bs) .out
+        saved-after (l .answer) (l .search) bs ≡ (write-rule (l .search) bs) .out
     unfolding leg-rule
     wrote q = rw q
 
     left-saved : first (search-checks letters lengths s) ≡ fine → let l = (leg-rule letters lengths s budget motifs supports weights) .told in
-        saved-after l bs ≡ bytes (l .search)
+        saved-after (l .answer) (l .search) bs ≡ bytes (l .search)
     left-saved q = wrote q ∙ resaved letters lengths s budget motifs supports weights bs (restores-by ∙ ap (λ v. unless v s) q)
 
     -- and where it is, all stays
     stayed : {n p : ℕ} → first (search-checks letters lengths s) ≡ refused n p → let l = leg-rule letters lengths s budget motifs supports weights in
-        leg-of (leg-told (l .told)) (saved-after (l .told) bs) (l .motifs) (l .supports) (l .weights) ≡ leg-of (stopped-answer n p 0 0 0) bs motifs supports weights
+        leg-of (leg-told (l .told)) (saved-after (l .told .answer) (l .told .search) bs) (l .motifs) (l .supports) (l .weights) ≡ leg-of (stopped-answer n p 0 0 0) bs motifs supports weights
     unfolding leg-rule leg-told
     stayed q = rw q
 
     -- so that the leg and what is written come to the rule
     once : (v : Verdict) → first (search-checks letters lengths s) ≡ v → let l = leg-rule letters lengths s budget motifs supports weights in
-        leg-of (leg-told (l .told)) (saved-after (l .told) bs) (l .motifs) (l .supports) (l .weights) ≡ leg-from letters lengths (unless v s) budget bs motifs supports weights
+        leg-of (leg-told (l .told)) (saved-after (l .told .answer) (l .told .search) bs) (l .motifs) (l .supports) (l .weights) ≡ leg-from letters lengths (unless v s) budget bs motifs supports weights
     unfolding leg-from
     once fine q = rw (left-saved q)
     once (refused n p) q = stayed q
@@ -102,11 +102,11 @@ module _ (letters lengths bs : List ℕ) (s : Search) (e : gives s ≡ read-rule
     -- what a leg of a search that was read leaves, from what the leg and the writing promise
     pub ran : (leg : Leg) {r : Stopped} {saved ms ss ws : List ℕ} → let l = leg-rule letters lengths s budget motifs supports weights in
         (toldLeg leg ≡ l .told) × ((ms ≡ l .motifs) × ((ss ≡ l .supports) × (ws ≡ l .weights)))
-        → saved ≡ saved-after (toldLeg leg) bs → r ≡ leg-told (toldLeg leg)
+        → saved ≡ saved-after (toldAnswer (leg .answer)) (leg .search) bs → r ≡ leg-told (toldLeg leg)
         → leg-of r saved ms ss ws ≡ leg-outcome letters lengths bs budget motifs supports weights
     unfolding leg-outcome
     ran leg {r = r} {saved = saved} k w q =
         let l = leg-rule letters lengths s budget motifs supports weights in
-        let f : saved ≡ saved-after (l .told) bs = w ∙ ap (λ (t : LegTold). saved-after t bs) (k .0) in
+        let f : saved ≡ saved-after (l .told .answer) (l .told .search) bs = w ∙ ap (λ (t : LegTold). saved-after (t .answer) (t .search) bs) (k .0) in
         let g : r ≡ leg-told (l .told) = q ∙ ap leg-told (k .0) in
         rw (f, g, k .1 .0, k .1 .1 .0, k .1 .1 .1) (rw restores-by (once (first (search-checks letters lengths s)) refl))

@@ -15,7 +15,7 @@ use Rattle.rules.specs.Refusals.{_else_, first, first-bad, check1, check2, chec
 use Rattle.rules.specs.Saved.{low-first, read-low, size-record, component-record, place-record, component-records, records, bytes, record-at, field, record-count, component-count, read-profile, read-component, read-place, read-template, read-search, sized?, blank?, size-kind?, component-kind?, place-kind?, size-blank?, component-blank?, place-blank?, saved-records, kind?, unnamed-blank?, sums?, place-rule?}
 use Rattle.rules.specs.Sequences.{split, sequences}
 use Rattle.rules.specs.Support.{marks, support, rows-from, occurrence-rows, weight, allowed-in, parts-in, measure, reaches}
-use Rattle.rules.specs.Template.{components, size, trimmed, deal}
+use Rattle.rules.specs.Template.{components, size, trimmed, distance, deal}
 use Rattle.rules.specs.Walk.{walk-in, children, later, under, onward, from, up, next, start, motif, listed, spelled, candidate}
 use Rattle.exports.specs.Exported.{LegOutcome, search-of, no-profile, profile-check, save-begun, begin-outcome, leg-from, leg-outcome, save-outcome, recover-outcome}
 use Rattle.exports.specs.ExportedLegs.{Asked, legs-run, steps-in, rows-in, legs-asked}
@@ -65,5 +65,5 @@ exported-facts =
     ∷ []
 
 the-exported-facts : map (λ f. f .computed) exported-facts ≡ map (λ f. f .paper) exported-facts
-unfolding exported-facts asked-pair legs-of-pair third-profile legs-run steps-in rows-in no-profile profile-check save-begun begin-outcome save-outcome recover-outcome leg-from leg-outcome count-told page-told leg-told slot-at shaped-template letters lengths run keep each joined some? all? member? sum put value letter? letter split sequences components size trimmed deal number spell front-by stands-by reach starts occurrences marks support rows-from occurrence-rows weight allowed to-come exactly profile-by allowed-in parts-in measure reaches walk-in children later under onward from up next start motif listed spelled candidate leg low-first read-low size-record component-record place-record component-records records bytes record-at field record-count component-count read-profile read-component read-place read-template read-search sized? blank? size-kind? component-kind? place-kind? size-blank? component-blank? place-blank? saved-records kind? unnamed-blank? sums? place-rule? _else_ first first-bad check1 check2 check3 check4 check5 check6 check7 check8 check9 check10 check11 check12 passes? check13 check17 check21 check22 check23 check24 new-checks restore-checks search-checks save-checks begun begin-rule stretch supports-of weights-of leg-rule save-rule restore-rule
+unfolding exported-facts asked-pair legs-of-pair third-profile legs-run steps-in rows-in no-profile profile-check save-begun begin-outcome save-outcome recover-outcome leg-from leg-outcome count-told page-told leg-told slot-at shaped-template letters lengths run keep each joined some? all? member? sum put value letter? letter split sequences components size trimmed distance deal number spell front-by stands-by reach starts occurrences marks support rows-from occurrence-rows weight allowed to-come exactly profile-by allowed-in parts-in measure reaches walk-in children later under onward from up next start motif listed spelled candidate leg low-first read-low size-record component-record place-record component-records records bytes record-at field record-count component-count read-profile read-component read-place read-template read-search sized? blank? size-kind? component-kind? place-kind? size-blank? component-blank? place-blank? saved-records kind? unnamed-blank? sums? place-rule? _else_ first first-bad check1 check2 check3 check4 check5 check6 check7 check8 check9 check10 check11 check12 passes? check13 check17 check21 check22 check23 check24 new-checks restore-checks search-checks save-checks begun begin-rule stretch supports-of weights-of leg-rule save-rule restore-rule
 the-exported-facts = refl

@@ -6,7 +6,6 @@ use checks::check_count;
 use checks::check_set;
 use rules::Begun;
 use rules::Checked;
-use rules::Leg;
 use rules::LegAnswer;
 use rules::Profile;
 use rules::RecordNumber;
@@ -22,7 +21,7 @@ ghost use Rattle.exports.specs.Shape.{shape-of, allowances-of};
 ghost use Rattle.records.specs.ReadWrite.{read-rule};
 ghost use Rattle.rules.specs.Calls.{on-refusal, begin-rule, save-rule, recover-rule};
 ghost use Rattle.rules.specs.Sound.{SoundTemplate};
-ghost use Rattle.rules.specs.Told.{gives, refuses, toldChecked, toldBegun, toldLeg, toldSaved, toldRecovered};
+ghost use Rattle.rules.specs.Told.{gives, refuses, toldChecked, toldAnswer, toldBegun, toldSaved, toldRecovered};
 ghost use Rattle.rules.specs.declared.Search.{Search};
 
 // What a call with a number that is no profile's is refused with: that comes after the sequences and the number of components.
@@ -108,12 +107,10 @@ pub fn save_begun(begun: Begun, saved: &mut [u8]) -> Saved
 }
 
 // Writes the search that a leg leaves, and nothing where the leg was refused.
-fn save_left(leg: Leg, saved: &mut [u8])
-    requires { ⌜ SoundTemplate (leg .search .template) ⌝ }
-    ensures { λ _. ⌜ now (saved .exit) ≡ saved-after (toldLeg leg) (now (saved .entry)) ⌝ }
+fn save_left(answer: LegAnswer, left: Search, saved: &mut [u8])
+    requires { ⌜ SoundTemplate (left .template) ⌝ }
+    ensures { λ _. ⌜ now (saved .exit) ≡ saved-after (toldAnswer answer) left (now (saved .entry)) ⌝ }
 {
-    let answer = leg.answer;
-    let left = leg.search;
     match answer {
         LegAnswer::Refused(_) => {}
         _ => {
@@ -139,7 +136,9 @@ fn run(
     ensures { λ r. ⌜ leg-of r (now (saved .exit)) (now (motifs .exit)) (now (supports .exit)) (now (weights .exit)) ≡ leg-outcome (now (letters .entry)) (now (lengths .entry)) (now (saved .entry)) budget (now (motifs .entry)) (now (supports .entry)) (now (weights .entry)) ⌝ }
 {
     let leg = legs::leg(letters, lengths, search, budget, motifs, supports, weights);
-    save_left(leg, saved);
+    let answer = leg.answer;
+    let left = leg.search;
+    save_left(answer, left, saved);
     Stopped::leg(leg)
 }
 

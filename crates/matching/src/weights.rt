@@ -89,11 +89,11 @@ fn lead_sequences(
     ensures { λ _. ⌜ ((k : ℕ) → w * 64 + 64 ≤ k → k < length (now (lengths .entry)) → counts-at (now (lengths .entry)) k (now (counts .exit)) ≡ counts-at (now (lengths .entry)) k (now (counts .entry))) ⌝ }
     ensures { λ _. ⌜ length (now (counts .exit)) ≡ length (now (counts .entry)) ⌝ }
 {
+    let base = w * BITS;
     let mut rest = row[w];
-    let mut k = BITS * w;
     while rest != 0 {
         let zeros = u64::trailing_zeros(rest);
-        let at = k + zeros as usize;
+        let at = base + zeros as usize;
         let from = firsts[at] as usize;
         let to = firsts[at + 1] as usize;
         let a = offsets[at] as usize;
@@ -110,8 +110,7 @@ fn lead_sequences(
             n,
             counts,
         );
-        rest = (rest >> zeros) >> 1;
-        k = at + 1;
+        rest = rest & (rest - 1);
     }
 }
 
@@ -227,19 +226,18 @@ fn add_sequences(
     requires { ⌜ lists.sum (map (weight-at (now lengths) (now row) (now counts)) (lists.run (w * 64) 64)) < 2 ^ 64 ⌝ }
     ensures { λ r. ⌜ r ≡ lists.sum (map (weight-at (now (lengths .entry)) (now (row .entry)) (now (counts .entry))) (lists.run (w * 64) 64)) ⌝ }
 {
+    let base = w * BITS;
     let mut total: u64 = 0;
     let mut rest = row[w];
-    let mut k = BITS * w;
     while rest != 0 {
         let zeros = u64::trailing_zeros(rest);
-        let at = k + zeros as usize;
+        let at = base + zeros as usize;
         let from = firsts[at] as usize;
         let to = firsts[at + 1] as usize;
         let a = offsets[at] as usize;
         let e = offsets[at + 1] as usize;
         total += counts::add(&row[from..to], &counts[a..e]);
-        rest = (rest >> zeros) >> 1;
-        k = at + 1;
+        rest = rest & (rest - 1);
     }
     total
 }

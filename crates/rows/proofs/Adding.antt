@@ -1,4 +1,4 @@
--- The counts at which a word has a bit, added: a jump over trailing zeros passes only places that add nothing. And those of a row: what a
+-- The counts at which a word has a bit, added: the places up to its lowest bit add nothing. And those of a row: what a
 -- part of it adds, one word or a stretch of them, and what comes after it add up to the whole; a stretch of empty words adds nothing.
 use mathlib.Core.Bool.{true, not}
 use mathlib.Core.List.{List, [], _∷_, map}
@@ -10,7 +10,7 @@ use native.Mathlib.Omega.{arith}
 use lib.Count.{trailingZeros}
 use lib.ListN.{length, take, drop, getD, length-drop, List·getD-eq-default}
 use lib.Seq.{length-take-le, getD-take, getD-drop}
-use lib.Pow.{pow-pos, pow-mono, shr-shr, shr-le, shr-lt}
+use lib.Pow.{pow-pos, pow-mono, shr-lt}
 use borrow.Author.Tests.{not-true}
 use Rattle.rules.proofs.Tables.{sum-append}
 use Rattle.rules.specs.Lists.{run, sum}
@@ -19,9 +19,9 @@ use Rattle.rows.specs.Flags.{left?, masked-at, masked}
 use Rattle.rows.proofs.Back.{map-split}
 use Rattle.rows.proofs.Bits.{getD-held, held-at, digit-none}
 use Rattle.rows.proofs.Dark.{none-set}
-use Rattle.rows.proofs.Digits.{digit, digit-shr, digit-past}
+use Rattle.rows.proofs.Digits.{digit, digit-past}
 use Rattle.rows.proofs.Held.{length-held}
-use Rattle.rows.proofs.Zeros.{zeros-below, zeros-at}
+use Rattle.rows.proofs.Lowest.{Rest, none-left, lowest-late, lowest-set, lowest-first}
 
 -- SUMS over a run of places
 module _ (f : ℕ → ℕ) where
@@ -63,58 +63,35 @@ module _ (word : ℕ) (counts : List ℕ) where
   unfolding left-from masked
   left-all = rw (sub-zero, zero-add)
 
-  -- the next to add stands z places on
-  left-jump : (o z : ℕ) → length counts ≤ 64 → o + z < length counts → ((i : ℕ) → i < z → digit word (o + i) ≡ 0) → digit word (o + z) ≡ 1
-      → left-from o ≡ getD counts (o + z) 0 + left-from (o + z + 1)
+  -- the next to add stands at `at`
+  left-jump : (o at : ℕ) → length counts ≤ 64 → o ≤ at → at < length counts → ((i : ℕ) → o ≤ i → i < at → digit word i ≡ 0) → digit word at ≡ 1
+      → left-from o ≡ getD counts at 0 + left-from (at + 1)
   unfolding left-from
-  left-jump o z few h off on =
-      let q : length counts - o ≡ z + suc (length counts - (o + z + 1)) = omega arith in
-      let jump = run-jump (masked-at (held (word ∷ [])) counts) o z (length counts - (o + z + 1)) (λ i k l.
-      let p : i ≡ o + (i - o) = omega arith in
-      masked-off i (omega arith) (ap (digit word) p ∙ off (i - o) (omega arith))) in
-      ap (λ (n : ℕ). sum (map (masked-at (held (word ∷ [])) counts) (run o n))) q ∙ jump ∙ rw (masked-on (o + z) (omega arith) on)
+  left-jump o at few up h off on =
+      let p : o + (at - o) ≡ at = omega arith in
+      let q : length counts - o ≡ at - o + suc (length counts - (at + 1)) = omega arith in
+      let jump = run-jump (masked-at (held (word ∷ [])) counts) o (at - o) (length counts - (at + 1)) (λ i k l. masked-off i (omega arith) (off i k (omega arith))) in
+      ap (λ (n : ℕ). sum (map (masked-at (held (word ∷ [])) counts) (run o n))) q ∙ rw p at jump ∙ rw (masked-on at (omega arith) on)
 
-  shr-more : (o z : ℕ) → word / 2 ^ o / 2 ^ z / 2 ≡ word / 2 ^ (o + z + 1)
-  shr-more o z = ap (λ (x : ℕ). x / 2) (shr-shr word o z) ∙ shr-shr word (o + z) 1
-
-  -- the rest of the word at place o, and as long as it is not 0
-  module _ (few : length counts ≤ 64) (inside : word < 2 ^ length counts) (o : ℕ) {rest : ℕ} (e : rest ≡ word / 2 ^ o) where
-    pub rest-fits : rest < 2 ^ 64
-    rest-fits = let p : 2 ^ length counts ≤ 2 ^ 64 = pow-mono few in omega (arith, shr-le word o)
-
-    digit-on : (i : ℕ) → digit rest i ≡ digit word (o + i)
-    digit-on i = rw e (digit-shr word o i)
-
-    -- no bit is left
+  -- what is left of the word past its first o digits
+  module _ (few : length counts ≤ 64) (inside : word < 2 ^ length counts) {o rest : ℕ} (r : Rest word o rest) where
+    -- no bit is
     pub left-end : rest ≡ 0 → left-from o ≡ 0
     unfolding left-from
-    left-end z =
-        run-zeros (masked-at (held (word ∷ [])) counts) o (length counts - o) (λ i k l.
-        let p : i ≡ o + (i - o) = omega arith in
-        masked-off i (omega arith) (ap (digit word) p ∙ sym (digit-on (i - o)) ∙ rw z (digit-none (i - o))))
+    left-end z = run-zeros (masked-at (held (word ∷ [])) counts) o (length counts - o) (λ i k l. masked-off i (omega arith) (none-left r z i k))
 
     module _ (some : 0 < rest) where
-      bit-on : digit word (o + trailingZeros 64 rest) ≡ 1
-      bit-on = sym (digit-on (trailingZeros 64 rest)) ∙ zeros-at rest some rest-fits
-
       -- its lowest bit is for a count that there is
-      pub next-inside : o + trailingZeros 64 rest < length counts
-      next-inside = go (decLt (o + trailingZeros 64 rest) (length counts))
+      pub next-inside : trailingZeros 64 rest < length counts
+      next-inside = go (decLt (trailingZeros 64 rest) (length counts))
         where
-          go : Dec (o + trailingZeros 64 rest < length counts) → o + trailingZeros 64 rest < length counts
+          go : Dec (trailingZeros 64 rest < length counts) → trailingZeros 64 rest < length counts
           go (yes l) = l
-          go (no n) =
-              let p : length counts ≤ o + trailingZeros 64 rest = omega arith in
-              absurd (omega (arith, bit-on, digit-past (length counts) word (o + trailingZeros 64 rest) inside p))
+          go (no n) = absurd (omega (arith, lowest-set r some, digit-past (length counts) word (trailingZeros 64 rest) inside (omega arith)))
 
       -- which is the next to add
-      pub left-next : left-from o ≡ getD counts (o + trailingZeros 64 rest) 0 + left-from (o + trailingZeros 64 rest + 1)
-      left-next =
-          left-jump o (trailingZeros 64 rest) few next-inside (λ i h. sym (digit-on i) ∙ zeros-below rest i h) bit-on
-
-      -- and past it the rest of the word
-      pub rest-next : rest / 2 ^ trailingZeros 64 rest / 2 ≡ word / 2 ^ (o + trailingZeros 64 rest + 1)
-      rest-next = ap (λ (x : ℕ). x / 2 ^ trailingZeros 64 rest / 2) e ∙ shr-more o (trailingZeros 64 rest)
+      pub left-next : left-from o ≡ getD counts (trailingZeros 64 rest) 0 + left-from (trailingZeros 64 rest + 1)
+      left-next = left-jump o (trailingZeros 64 rest) few (lowest-late r some) next-inside (lowest-first r some) (lowest-set r some)
 
 -- A ROW, part by part: what is left to add from word q on
 unfoldable pub row-left : List ℕ → List ℕ → ℕ → ℕ

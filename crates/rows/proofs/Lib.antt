@@ -21,6 +21,7 @@ pub mod Paper
 pub mod Masked
 pub mod Most
 pub mod Zeros
+pub mod Lowest
 pub mod Masks
 pub mod Gathered
 pub mod Planes
@@ -31,7 +32,6 @@ pub mod Leading
 pub mod Ones
 pub mod MarksWalk
 pub mod Tally
-pub mod Lowest
 pub mod Kept
 pub mod Possible
 pub mod Cleared

@@ -1,19 +1,13 @@
--- A walk over the set digits of a word of marks that takes the lowest one off in each turn: what is left has those from some place on, so
--- the sequences up to its lowest set digit have no mark, and the one there has.
-use mathlib.Core.Bool.{true, false}
-use mathlib.Core.List.{List}
+-- A walk over the set digits of a word that takes the lowest one off in each turn: what is left has those from some place on, so the digits
+-- from there up to its lowest are not set, and that one is.
 use mathlib.Core.Path.{_≡_, refl, sym, ap, _∙_}
-use Prim.Native.Nat.{ℕ, _+_, _-_, _*_, _^_, _≤_, _<_}
+use Prim.Native.Nat.{ℕ, _+_, _-_, _^_, _≤_, _<_}
 use native.Mathlib.Decide.{decLt}
 use native.Mathlib.Omega.{arith}
 use lib.Bits.{bitAnd}
 use lib.Count.{trailingZeros}
-use lib.Dec.{eqb}
-use lib.ListN.{length, getD}
-use Rattle.rows.specs.Set.{Row-MARKS, marked?, Bounded, Firsts}
 use Rattle.rows.proofs.Digits.{digit}
 use Rattle.rows.proofs.Bits.{digit-none}
-use Rattle.rows.proofs.MarksWalk.{Next, mark-digit, clash}
 use Rattle.rows.proofs.Zeros.{zeros-below, zeros-at, zeros-least, cleared-to, cleared-past, cleared-less}
 
 -- what is left of a word once its first e digits are gone
@@ -26,15 +20,10 @@ pub record Rest (word e rest : ℕ) : Type 0 where
 pub rest-all : (word : ℕ) → word < 2 ^ 64 → Rest word 0 word
 rest-all word h = record { gone = λ b l. absurd (omega arith); stays = λ b l. refl; fits = h }
 
-module _ (row : List ℕ) (w : ℕ) (fits : getD row w 0 < 2 ^ 64) (e rest : ℕ) (r : Rest (getD row w 0) e rest) where
-  mark-of : (m : ℕ) → w * 64 + e ≤ m → m < w * 64 + 64 → marked? row m ≡ eqb (digit rest (m - w * 64)) 1
-  mark-of m l u =
-      let q : m ≡ w * 64 + (m - w * 64) = omega arith in
-      ap (marked? row) q ∙ mark-digit row w fits (m - w * 64) (omega arith) ∙ ap (λ (d : ℕ). eqb d 1) (sym (r .stays (m - w * 64) (omega arith)))
-
-  -- nothing is left: no mark is
-  pub no-rest : rest ≡ 0 → (m : ℕ) → w * 64 + e ≤ m → m < w * 64 + 64 → marked? row m ≡ false
-  no-rest z m l u = mark-of m l u ∙ ap (λ (d : ℕ). eqb d 1) (ap (λ (x : ℕ). digit x (m - w * 64)) z ∙ digit-none (m - w * 64))
+module _ {word e rest : ℕ} (r : Rest word e rest) where
+  -- nothing is left: no digit is set any more
+  pub none-left : rest ≡ 0 → (b : ℕ) → e ≤ b → digit word b ≡ 0
+  none-left z b l = sym (r .stays b l) ∙ ap (λ (x : ℕ). digit x b) z ∙ digit-none b
 
   module _ (some : 0 < rest) where
     -- the lowest digit that is left stands past those that are gone
@@ -48,37 +37,15 @@ module _ (row : List ℕ) (w : ℕ) (fits : getD row w 0 < 2 ^ 64) (e rest : ℕ
     pub lowest-in : trailingZeros 64 rest < 64
     lowest-in = zeros-least rest some (r .fits)
 
-    marked : marked? row (w * 64 + trailingZeros 64 rest) ≡ true
-    marked =
-        let q : w * 64 + trailingZeros 64 rest - w * 64 ≡ trailingZeros 64 rest = omega arith in
-        mark-of (w * 64 + trailingZeros 64 rest) (omega (arith, lowest-late)) (omega (arith, lowest-in))
-        ∙ ap (λ (d : ℕ). eqb d 1) (ap (digit rest) q ∙ zeros-at rest some (r .fits))
+    -- it is set, and none between
+    pub lowest-set : digit word (trailingZeros 64 rest) ≡ 1
+    lowest-set = sym (r .stays (trailingZeros 64 rest) lowest-late) ∙ zeros-at rest some (r .fits)
 
-    skips : (m : ℕ) → w * 64 + e ≤ m → m < w * 64 + trailingZeros 64 rest → marked? row m ≡ false
-    skips m l u = mark-of m l (omega (arith, lowest-in)) ∙ ap (λ (d : ℕ). eqb d 1) (zeros-below rest (m - w * 64) (omega arith))
+    pub lowest-first : (b : ℕ) → e ≤ b → b < trailingZeros 64 rest → digit word b ≡ 0
+    lowest-first b l u = sym (r .stays b l) ∙ zeros-below rest b u
 
-    inside : (ns : List ℕ) → Bounded ns row → w < Row-MARKS → w * 64 + trailingZeros 64 rest < length ns
-    inside ns bounded h =
-        elim (decLt (w * 64 + trailingZeros 64 rest) (length ns)) [
-          | yes l ↦ l
-          | no l ↦ clash (bounded .none (w * 64 + trailingZeros 64 rest) (omega arith) (omega (arith, lowest-in))) marked
-        ]
-
-    -- there is a next mark
-    pub lowest : (ns firsts : List ℕ) → Bounded ns row → Firsts ns firsts → w < Row-MARKS → Next ns firsts row w (w * 64 + e) (w * 64 + trailingZeros 64 rest)
-    lowest ns firsts bounded t h =
-        let l : w * 64 + trailingZeros 64 rest < length ns = inside ns bounded h in record {
-          later = omega (arith, lowest-late);
-          in-word = omega (arith, lowest-in);
-          inside = l;
-          marked = marked;
-          skips = skips;
-          begins = t .same (w * 64 + trailingZeros 64 rest) (omega arith);
-          ends = t .same (w * 64 + trailingZeros 64 rest + 1) (omega arith);
-        }
-
-    -- and what is left without it, which is less
-    pub lowest-off : Rest (getD row w 0) (trailingZeros 64 rest + 1) (bitAnd rest (rest - 1))
+    -- what is left without it, which is less
+    pub lowest-off : Rest word (trailingZeros 64 rest + 1) (bitAnd rest (rest - 1))
     lowest-off = record {
       gone = λ b l. cleared-to rest some (r .fits) b (omega arith);
       stays = λ b l. cleared-past rest some (r .fits) b (omega arith) ∙ r .stays b (omega (arith, lowest-late));
@@ -87,3 +54,21 @@ module _ (row : List ℕ) (w : ℕ) (fits : getD row w 0 < 2 ^ 64) (e rest : ℕ
 
     pub lowest-less : bitAnd rest (rest - 1) < rest
     lowest-less = cleared-less rest some (r .fits)
+
+-- HOW FAR A WALK HAS COME: what is left of the word, and what is done for the digits that are gone
+pub record Walk (done : ℕ → Type 0) (word rest : ℕ) : Type 0 where
+  pub upto : ℕ
+  pub high : upto ≤ 64
+  pub rests : Rest word upto rest
+  pub so-far : done upto
+
+pub walk-begin : (done : ℕ → Type 0) (word : ℕ) → word < 2 ^ 64 → done 0 → Walk done word word
+walk-begin done word h d = record { upto = 0; high = omega arith; rests = rest-all word h; so-far = d }
+
+pub walk-turn : (done before : ℕ → Type 0) {word rest : ℕ} → Walk before word rest → 0 < rest → done (trailingZeros 64 rest + 1) → Walk done word (bitAnd rest (rest - 1))
+walk-turn done before {word} {rest} g some d = record {
+  upto = trailingZeros 64 rest + 1;
+  high = omega (arith, lowest-in (g .rests) some);
+  rests = lowest-off (g .rests) some;
+  so-far = d;
+}

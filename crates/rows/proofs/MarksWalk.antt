@@ -1,23 +1,22 @@
--- A walk over the set digits of a word of marks: what is left of the word is the word shifted down to the next sequence, so the sequences
--- up to its lowest set digit have no mark and are passed over, and the one there has.
+-- A walk over the set digits of a word of marks, from the lowest on: the sequences up to the lowest that is left have no mark and are passed
+-- over, and the one there has.
 use mathlib.Core.Bool.{Bool, true, false, false≢true}
 use mathlib.Core.List.{List, [], _∷_}
 use mathlib.Core.Path.{_≡_, refl, sym, ap, _∙_}
-use Prim.Native.Nat.{ℕ, _+_, _-_, _*_, _/_, _%_, _^_, _≤_, _<_, min}
+use Prim.Native.Nat.{ℕ, _+_, _-_, _*_, _%_, _^_, _≤_, _<_, min}
 use native.Mathlib.Decide.{decLt}
-use native.Mathlib.Nat.{max-zero, zero-max, div-le-self, div-one}
+use native.Mathlib.Nat.{max-zero, zero-max}
 use native.Mathlib.Omega.{arith}
 use lib.Bits.{bitOr}
 use lib.Count.{trailingZeros}
 use lib.Dec.{eqb}
 use lib.ListN.{length, take, getD}
-use lib.Pow.{shr-shr}
 use Rattle.rows.specs.Bits.{held}
 use Rattle.rows.specs.Flags.{bit, left?}
 use Rattle.rows.specs.Set.{Row-MARKS, first-word, bits-at, marked?, Bounded, Firsts, words-of, extended-marked?, extended-at}
-use Rattle.rows.proofs.Digits.{digit, digit-or, digit-mod, digit-past, digit-shl-in, digit-shl-out, digit-shr}
+use Rattle.rows.proofs.Digits.{digit, digit-or, digit-mod, digit-past, digit-shl-in, digit-shl-out}
 use Rattle.rows.proofs.Bits.{getD-held, digit-none, bit-most}
-use Rattle.rows.proofs.Zeros.{zeros-below, zeros-at}
+use Rattle.rows.proofs.Lowest.{Rest, none-left, lowest-late, lowest-in, lowest-set, lowest-first}
 use Rattle.rows.proofs.Sets.{first-least, first-most, between-kept, take-less}
 
 -- the sequences from a up to k written as far as they are on, and the words before them as they were
@@ -124,86 +123,46 @@ module _ (h : ℕ → Bool) (a k l : ℕ) (before : Left h a k l) (at : ℕ) (sk
     unfolding placed
     left-turn b shifted = rw shifted more
 
+-- a mark is a digit of its word
+pub mark-digit : (row : List ℕ) (w b : ℕ) → b < 64 → marked? row (w * 64 + b) ≡ eqb (digit (getD row w 0) b) 1
+unfolding marked?
+mark-digit row w b s = rw (getD-held row w b s)
+
 -- WHAT IS LEFT OF THE WORD
-module _ (row : List ℕ) (w : ℕ) (fits : getD row w 0 < 2 ^ 64) where
-  -- a mark is a digit of its word
-  pub mark-digit : (b : ℕ) → b < 64 → marked? row (w * 64 + b) ≡ eqb (digit (getD row w 0) b) 1
-  unfolding marked?
-  mark-digit b s = rw (getD-held row w b s)
+module _ (row : List ℕ) (w : ℕ) {e rest : ℕ} (r : Rest (getD row w 0) e rest) where
+  mark-at : (m : ℕ) → w * 64 ≤ m → m < w * 64 + 64 → marked? row m ≡ eqb (digit (getD row w 0) (m - w * 64)) 1
+  mark-at m l u = let q : m ≡ w * 64 + (m - w * 64) = omega arith in ap (marked? row) q ∙ mark-digit row w (m - w * 64) (omega arith)
 
-  mark-digit-at : (m : ℕ) → w * 64 ≤ m → m < w * 64 + 64 → marked? row m ≡ eqb (digit (getD row w 0) (m - w * 64)) 1
-  mark-digit-at m l u = let e : m ≡ w * 64 + (m - w * 64) = omega arith in ap (marked? row) e ∙ mark-digit (m - w * 64) (omega arith)
+  -- nothing is left: no mark is
+  pub no-rest : rest ≡ 0 → (m : ℕ) → w * 64 + e ≤ m → m < w * 64 + 64 → marked? row m ≡ false
+  no-rest z m l u = mark-at m (omega arith) u ∙ ap (λ (d : ℕ). eqb d 1) (none-left r z (m - w * 64) (omega arith))
 
-  module _ (k rest : ℕ) (low : w * 64 ≤ k) (is : rest ≡ getD row w 0 / 2 ^ (k - w * 64)) where
-    rest-digit : (b : ℕ) → digit rest b ≡ digit (getD row w 0) (k - w * 64 + b)
-    rest-digit b = ap (λ (x : ℕ). digit x b) is ∙ digit-shr (getD row w 0) (k - w * 64) b
+  module _ (some : 0 < rest) where
+    marked : marked? row (w * 64 + trailingZeros 64 rest) ≡ true
+    marked = mark-digit row w (trailingZeros 64 rest) (lowest-in r some) ∙ ap (λ (d : ℕ). eqb d 1) (lowest-set r some)
 
-    -- nothing is left: no mark is
-    pub rest-none : rest ≡ 0 → (m : ℕ) → k ≤ m → m < w * 64 + 64 → marked? row m ≡ false
-    rest-none z m l u =
-        let e : k - w * 64 + (m - k) ≡ m - w * 64 = omega arith in
-        mark-digit-at m (omega arith) u ∙ ap (λ (d : ℕ). eqb d 1) (ap (digit (getD row w 0)) (sym e) ∙ sym (rest-digit (m - k)) ∙ ap (λ (x : ℕ). digit x (m - k)) z ∙ digit-none (m - k))
+    skips : (m : ℕ) → w * 64 + e ≤ m → m < w * 64 + trailingZeros 64 rest → marked? row m ≡ false
+    skips m l u = mark-at m (omega arith) (omega (arith, lowest-in r some)) ∙ ap (λ (d : ℕ). eqb d 1) (lowest-first r some (m - w * 64) (omega arith) (omega arith))
 
-    rest-fits : rest < 2 ^ 64
-    rest-fits = omega (arith, is, div-le-self (getD row w 0) (2 ^ (k - w * 64)))
+    inside : (ns : List ℕ) → Bounded ns row → w < Row-MARKS → w * 64 + trailingZeros 64 rest < length ns
+    inside ns bounded h =
+        elim (decLt (w * 64 + trailingZeros 64 rest) (length ns)) [
+          | yes l ↦ l
+          | no l ↦ clash (bounded .none (w * 64 + trailingZeros 64 rest) (omega arith) (omega (arith, lowest-in r some))) marked
+        ]
 
-    module _ (some : 0 < rest) where
-      lowest : digit (getD row w 0) (k - w * 64 + trailingZeros 64 rest) ≡ 1
-      lowest = sym (rest-digit (trailingZeros 64 rest)) ∙ zeros-at rest some rest-fits
-
-      in-word : k + trailingZeros 64 rest < w * 64 + 64
-      in-word =
-          elim (decLt (k + trailingZeros 64 rest) (w * 64 + 64)) [
-            | yes l ↦ l
-            | no l ↦ (let z : digit (getD row w 0) (k - w * 64 + trailingZeros 64 rest) ≡ 0 =
-                digit-past 64 (getD row w 0) (k - w * 64 + trailingZeros 64 rest) fits (omega arith) in
-                absurd (omega (arith, z, lowest)))
-          ]
-
-      marked : marked? row (k + trailingZeros 64 rest) ≡ true
-      marked =
-          let e : k + trailingZeros 64 rest - w * 64 ≡ k - w * 64 + trailingZeros 64 rest = omega arith in
-          mark-digit-at (k + trailingZeros 64 rest) (omega arith) in-word ∙ ap (λ (d : ℕ). eqb d 1) (ap (digit (getD row w 0)) e ∙ lowest)
-
-      skips : (m : ℕ) → k ≤ m → m < k + trailingZeros 64 rest → marked? row m ≡ false
-      skips m l u =
-          let e : k - w * 64 + (m - k) ≡ m - w * 64 = omega arith in
-          mark-digit-at m (omega arith) (omega (arith, in-word))
-          ∙ ap (λ (d : ℕ). eqb d 1) (ap (digit (getD row w 0)) (sym e) ∙ sym (rest-digit (m - k)) ∙ zeros-below rest (m - k) (omega arith))
-
-      inside : (ns : List ℕ) → Bounded ns row → w < Row-MARKS → k + trailingZeros 64 rest < length ns
-      inside ns bounded h =
-          elim (decLt (k + trailingZeros 64 rest) (length ns)) [
-            | yes l ↦ l
-            | no l ↦ clash (bounded .none (k + trailingZeros 64 rest) (omega arith) (omega (arith, in-word))) marked
-          ]
-
-      -- some is left: there is a next mark
-      pub next : (ns firsts : List ℕ) → Bounded ns row → Firsts ns firsts → w < Row-MARKS → Next ns firsts row w k (k + trailingZeros 64 rest)
-      next ns firsts bounded t h =
-          let l : k + trailingZeros 64 rest < length ns = inside ns bounded h in record {
-            later = omega arith;
-            in-word = in-word;
-            inside = l;
-            marked = marked;
-            skips = skips;
-            begins = t .same (k + trailingZeros 64 rest) (omega arith);
-            ends = t .same (k + trailingZeros 64 rest + 1) (omega arith);
-          }
-
-      -- and that is left then, which is less
-      pub next-rest : rest / 2 ^ trailingZeros 64 rest / 2 ^ 1 ≡ getD row w 0 / 2 ^ (k + trailingZeros 64 rest + 1 - w * 64)
-      next-rest =
-          let e : k - w * 64 + (trailingZeros 64 rest + 1) ≡ k + trailingZeros 64 rest + 1 - w * 64 = omega arith in
-          shr-shr rest (trailingZeros 64 rest) 1 ∙ ap (λ (x : ℕ). x / 2 ^ (trailingZeros 64 rest + 1)) is
-          ∙ shr-shr (getD row w 0) (k - w * 64) (trailingZeros 64 rest + 1) ∙ ap (λ (x : ℕ). getD row w 0 / 2 ^ x) e
-
-      pub next-less : rest / 2 ^ trailingZeros 64 rest / 2 ^ 1 < rest
-      next-less = omega (arith, div-le-self rest (2 ^ trailingZeros 64 rest))
-
--- at first the whole word is left
-pub all-left : (row : List ℕ) (w : ℕ) {k : ℕ} → k ≡ w * 64 → getD row w 0 ≡ getD row w 0 / 2 ^ (k - w * 64)
-all-left row w {k} e = let z : k - w * 64 ≡ 0 = omega arith in rw (z, div-one)
+    -- some is left: there is a next mark
+    pub next : (ns firsts : List ℕ) → Bounded ns row → Firsts ns firsts → w < Row-MARKS → Next ns firsts row w (w * 64 + e) (w * 64 + trailingZeros 64 rest)
+    next ns firsts bounded t h =
+        let l : w * 64 + trailingZeros 64 rest < length ns = inside ns bounded h in record {
+          later = omega (arith, lowest-late r some);
+          in-word = omega (arith, lowest-in r some);
+          inside = l;
+          marked = marked;
+          skips = skips;
+          begins = t .same (w * 64 + trailingZeros 64 rest) (omega arith);
+          ends = t .same (w * 64 + trailingZeros 64 rest + 1) (omega arith);
+        }
 
 -- A NEW MARK: only of a sequence that had one, and there where a bit is left
 module _ (i : ℕ) (ns ls ws : List ℕ) (k : ℕ) where

@@ -76,7 +76,7 @@ module _ (i : ℕ) (ns ls ws : List ℕ) where
         word-tally gone 64 (w * 64) (bitXor (getD ws w 0) left) (xor-lt 64 (getD ws w 0) left f s) (λ b l.
         ap (λ (d : ℕ). eqb d 1) (digit-xor (getD ws w 0) left b)
         ∙ lost-digit (digit (getD ws w 0) b) (digit left b) (small (getD ws w 0) b) (small left b) (marked? ws (w * 64 + b)) (extended-marked? i ns ls ws (w * 64 + b))
-        (sym (mark-digit ws w f b l)) (ap (λ (d : ℕ). eqb d 1) (sym (word-bit left b l)) ∙ lefts b l) (mark-none i ns ls ws (w * 64 + b)))
+        (sym (mark-digit ws w b l)) (ap (λ (d : ℕ). eqb d 1) (sym (word-bit left b l)) ∙ lefts b l) (mark-none i ns ls ws (w * 64 + b)))
 
     pub ones-lost : tally (extended-marked? i ns ls ws) (w * 64) 64 + ones (bitXor (getD ws w 0) left) ≤ tally (marked? ws) (w * 64) 64
     unfolding gone

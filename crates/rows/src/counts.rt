@@ -205,13 +205,10 @@ fn add_word(word: u64, counts: &[u64]) -> u64
 {
     let mut total: u64 = 0;
     let mut rest = word;
-    let mut o = 0;
     while rest != 0 {
-        let zeros = u64::trailing_zeros(rest);
-        let at = o + zeros as usize;
+        let at = u64::trailing_zeros(rest) as usize;
         total += counts[at];
-        rest = (rest >> zeros) >> 1;
-        o = at + 1;
+        rest = rest & (rest - 1);
     }
     total
 }

@@ -78,16 +78,15 @@ fn open_sequences(
     ensures { λ _. ⌜ (length (now (row .exit)) ≡ length (now (row .entry))) × (length (now (spare .exit)) ≡ length (now (spare .entry))) ⌝ }
     ensures { λ _. ⌜ ((k : ℕ) → w * 64 ≤ k → k < w * 64 + 64 → marked? (now (row .entry)) k ≡ true → bits-at (now (lengths .entry)) k (now (row .exit)) ≡ window-at d count (now (lengths .entry)) (now (row .entry)) k) ⌝ }
 {
+    let base = w * BITS;
     let mut rest = row[w];
-    let mut k = BITS * w;
     while rest != 0 {
         let zeros = u64::trailing_zeros(rest);
-        let at = k + zeros as usize;
+        let at = base + zeros as usize;
         let from = firsts[at] as usize;
         let to = firsts[at + 1] as usize;
         open_sequence(from, to, d, count, spare, row);
-        rest = (rest >> zeros) >> 1;
-        k = at + 1;
+        rest = rest & (rest - 1);
     }
 }
 

@@ -39,7 +39,7 @@ same-length c = search needs
 returns-2 : tie.Need-returns-2
 returns-2 c =
     let m = c .before .before .before .before in
-    c .before .before .write-search .ensures .1 ∙ stands (m .before .before .before .args .leg .answer) _ _ (m .match .keys2)
+    c .before .before .write-search .ensures .1 ∙ stands (m .before .before .args .answer) _ _ (m .match .keys2)
 
 pub save-left-spec : {M : Type 1} → statement M
 save-left-spec = tie.close (tie.spec enum-told write-search-requires returns same-length returns-2)

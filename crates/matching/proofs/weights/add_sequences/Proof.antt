@@ -1,9 +1,9 @@
--- The loop's invariant: `rest` is the word of marks from sequence `k` on, and the sum so far with the weights of the word's sequences that are
--- left is that of all of them. So no sum on the way is larger than the last.
+-- The loop's invariant: what is left of the word of marks, and the sum so far with the weights of the word's sequences that are left is that
+-- of all of them. So no sum on the way is larger than the last.
 use borrow.Author.Needs.{needs}
 use mathlib.Core.List.{List, map}
-use mathlib.Core.Path.{_≡_}
-use Prim.Native.Nat.{ℕ, _+_, _-_, _*_, _/_, _^_, _≤_, _<_}
+use mathlib.Core.Path.{_≡_, ap}
+use Prim.Native.Nat.{ℕ, _+_, _-_, _*_, _≤_, _<_}
 use native.Mathlib.Omega.{arith}
 use lib.Count.{trailingZeros}
 use lib.ListN.{length, take, getD}
@@ -15,18 +15,20 @@ use Rattle.matching.specs.Weights.{kept-counts, weight-at}
 use Rattle.matching.proofs.Leads.{counts-lie}
 use Rattle.rows.proofs.Sets.{turn-lies}
 use Rattle.matching.proofs.Totals.{weights-up, weights-next, weights-none, weights-word, words-cover, dark-past, own-sum}
-use Rattle.rows.proofs.MarksWalk.{Next, all-left, rest-none, next, next-rest, next-less}
+use Rattle.rows.proofs.Lowest.{Walk, walk-begin, walk-turn, lowest-less}
+use Rattle.rows.proofs.MarksWalk.{Next, no-rest, next}
 use Rattle.matching.proofs.weights.add_sequences.Statement.{statement}
 use Rattle.matching.proofs.weights.add_sequences.Tie as tie
 
+-- the sum so far, when the sequences of the first e marks of word w are added
+abbrev Added-to : ℕ → List ℕ → List ℕ → List ℕ → ℕ → ℕ → Type 0
+Added-to w ns row counts total e = total + weights-up ns row counts (w * 64 + 64) (w * 64 + e) ≡ sum (map (weight-at ns row counts) (run (w * 64) 64))
+
 abbrev Inv-loop : tie.InvT-loop
-Inv-loop w lengths firsts offsets row counts total₀ rest₀ k₀ total rest k =
-    (w * 64 ≤ k)
-    × (rest ≡ getD row w 0 / 2 ^ (k - w * 64))
-    × (total + weights-up lengths row counts (w * 64 + 64) k ≡ sum (map (weight-at lengths row counts) (run (w * 64) 64)))
+Inv-loop w lengths firsts offsets row counts base total₀ rest₀ total rest = Walk (Added-to w lengths row counts total) (getD row w 0) rest
 
 abbrev μ-loop : tie.MeasureT-loop
-μ-loop w lengths firsts offsets row counts total₀ rest₀ k₀ total rest k = rest
+μ-loop w lengths firsts offsets row counts base total₀ rest₀ total rest = rest
 
 -- at a turn there is a next mark
 module _ (t : tie.In-loop Inv-loop μ-loop) where
@@ -49,25 +51,21 @@ module _ (t : tie.In-loop Inv-loop μ-loop) where
   w = t .before .before .before .before .before .before .before .before .args .w
 
   abbrev k : ℕ
-  k = t .before .loop .k
+  k = w * 64 + t .before .loop .inv .upto
 
   abbrev rest : ℕ
   rest = t .before .loop .rest
 
   abbrev at : ℕ
-  at = k + trailingZeros 64 rest
+  at = w * 64 + trailingZeros 64 rest
 
   some : 0 < rest
   some = omega (arith, t .loop-test .taken)
 
-  fits : getD row w 0 < 2 ^ 64
-  fits = t .before .before .shared-slice-known6 .given w .fits
-
   found : Next ns firsts row w k at
   found =
       let p = t .before .before .before .before .before .before .before .before .pre in
-      let i = t .before .loop .inv in
-      next row w fits k rest (i .0) (i .1) some ns _ (p .1 .1 .1 .0) (p .1 .0) (p .0 .0)
+      next row w (t .before .loop .inv .rests) some ns _ (p .1 .1 .1 .0) (p .1 .0) (p .0 .0)
 
   high : at < w * 64 + 64
   high = found .in-word
@@ -106,19 +104,19 @@ module _ (t : tie.After-add-arg2 Inv-loop μ-loop) where
       (midOf (getD (offsets here) (at here) 0) (getD (offsets here) (at here + 1) 0 - getD (offsets here) (at here) 0) (counts here))) ≡ sum (kept-counts (ns here) (row here) (counts here) (at here))
   own = own-sum _ _ _ _ (inside here) (begins here) (ends here) (found here .begins) (found here .ends) (words here .1) (places here .1)
 
+mul-base : tie.Need-mul-base Inv-loop μ-loop
+mul-base c = search needs
+
 mul-rest : tie.Need-mul-rest Inv-loop μ-loop
 mul-rest c = search needs
 
 shared-slice-read-rest : tie.Need-shared-slice-read-rest Inv-loop μ-loop
 shared-slice-read-rest c = omega (arith, c .before .before .before .before .before .before .pre .0, c .before .before .before .before .before .before .pre .1 .1 .1 .1 .0)
 
-mul-k : tie.Need-mul-k Inv-loop μ-loop
-mul-k c = search needs
-
 loop-holds : tie.Need-loop-holds Inv-loop μ-loop
 loop-holds c =
     let a = c .before .before .before .before .before .before .args in
-    (omega arith, all-left (a .row .now) (a .w) (omega arith), omega (arith, weights-word (a .lengths .now) (a .row .now) (a .counts .now) (a .w) (64 * a .w) (omega arith)))
+    walk-begin _ _ (c .shared-slice-known6 .given (a .w) .fits) (omega (arith, weights-word (a .lengths .now) (a .row .now) (a .counts .now) (a .w) (a .w * 64 + 0) (omega arith)))
 
 cast-at : tie.Need-cast-at Inv-loop μ-loop
 cast-at c = omega (arith, few c)
@@ -200,43 +198,35 @@ add-requires c κs =
       words-cover _ (row t) (counts t) _ (n .inside) (begins t) (ends t) (n .begins) (n .ends) (words t .1) (places t .1),
       (
         dark-past _ (row t) (counts t) _ (n .inside) (begins t) (ends t) (n .begins) (n .ends) (words t .1) (places t .1) (s .pre .1 .1 .1 .1 .1 .0 (at t) (n .inside) (n .marked)),
-        omega (arith, own c, left t, t .before .loop .inv .2, s .pre .1 .1 .1 .1 .1 .1),
+        omega (arith, own c, left t, t .before .loop .inv .so-far, s .pre .1 .1 .1 .1 .1 .1),
       ),
     )
 
 add-total : tie.Need-add-total Inv-loop μ-loop
 add-total c =
-    omega (arith, c .add .ensures, own (c .before), left (here (c .before)), c .before .before .before .before .before .before .before .before .loop .inv .2, c .before .before .before .before .before .before .before .before .before .before .before .before .before .before .before .pre .1 .1 .1 .1 .1 .1)
+    omega (arith, c .add .ensures, own (c .before), left (here (c .before)), c .before .before .before .before .before .before .before .before .loop .inv .so-far, c .before .before .before .before .before .before .before .before .before .before .before .before .before .before .before .pre .1 .1 .1 .1 .1 .1)
 
-cast-rest : tie.Need-cast-rest Inv-loop μ-loop
-cast-rest c = omega (arith, high (c .before .before .before .before .before .before .before), c .before .before .before .before .before .before .before .before .loop .inv .0)
-
-shr-rest : tie.Need-shr-rest Inv-loop μ-loop
-shr-rest c = omega (arith, high (c .before .before .before .before .before .before .before), c .before .before .before .before .before .before .before .before .loop .inv .0)
-
-add-k : tie.Need-add-k Inv-loop μ-loop
-add-k c = omega (arith, few (c .before .before .before .before .before .before .before))
+sub-rest : tie.Need-sub-rest Inv-loop μ-loop
+sub-rest c = search needs
 
 loop-less : tie.Need-loop-less Inv-loop μ-loop
-loop-less c =
-    let t = c .before .before .before .before .before .before .before in
-    next-less (row t) (w t) (fits t) (k t) (rest t) (t .before .loop .inv .0) (t .before .loop .inv .1) (some t)
+loop-less c = let t = c .before .before .before .before .before .before .before in lowest-less (t .before .loop .inv .rests) (some t)
 
 loop-again : tie.Need-loop-again Inv-loop μ-loop
 loop-again c =
     let t = c .before .before .before .before .before .before .before in
-    let l = c .before .before .before .before .before .before .before .before .loop in (
-      omega (arith, l .inv .0),
-      next-rest (row t) (w t) (fits t) (k t) (rest t) (l .inv .0) (l .inv .1) (some t),
-      omega (arith, c .add .ensures, own (c .before), left t, l .inv .2),
-    )
+    let g = t .before .loop .inv in
+    let next : at t + 1 ≡ w t * 64 + (trailingZeros 64 (rest t) + 1) = omega arith in
+    let up = ap (weights-up (ns t) (row t) (counts t) (w t * 64 + 64)) next in
+    walk-turn _ _ g (some t) (omega (arith, c .add .ensures, own (c .before), left t, g .so-far, up))
 
 returns : tie.Need-returns Inv-loop μ-loop
 returns c =
     let s = c .before .before .before .before .before .before .before .before in
     let l = c .before .loop in
-    let none = rest-none (s .args .row .now) (s .args .w) (c .before .before .shared-slice-known6 .given (s .args .w) .fits) (l .k) (l .rest) (l .inv .0) (l .inv .1) (search needs) in
-    omega (arith, weights-none (s .args .lengths .now) (s .args .row .now) (s .args .counts .now) (s .args .w * 64 + 64) (l .k) none)
+    let g = l .inv in
+    let none = no-rest (s .args .row .now) (s .args .w) (g .rests) (omega (arith, c .loop-test .left)) in
+    omega (arith, weights-none (s .args .lengths .now) (s .args .row .now) (s .args .counts .now) (s .args .w * 64 + 64) (s .args .w * 64 + g .upto) none, g .so-far)
 
 pub add-sequences-spec : {M : Type 1} → statement M
 add-sequences-spec =
@@ -244,9 +234,9 @@ add-sequences-spec =
     (tie.spec
     Inv-loop
     μ-loop
+    mul-base
     mul-rest
     shared-slice-read-rest
-    mul-k
     loop-holds
     cast-at
     add-at
@@ -274,9 +264,7 @@ add-sequences-spec =
     part-add-end-2
     add-requires
     add-total
-    cast-rest
-    shr-rest
-    add-k
+    sub-rest
     loop-less
     loop-again
     returns)

@@ -1,8 +1,9 @@
 -- The sequences up to the next mark have none and are passed over; the one there gets its counts, and all others keep theirs.
 use borrow.Author.Needs.{needs}
+use mathlib.Core.Bool.{Bool}
 use mathlib.Core.List.{List}
 use mathlib.Core.Path.{_≡_, refl, sym, ap, _∙_}
-use Prim.Native.Nat.{ℕ, _+_, _-_, _*_, _/_, _^_, _≤_, _<_}
+use Prim.Native.Nat.{ℕ, _+_, _*_, _≤_, _<_}
 use native.Mathlib.Omega.{arith}
 use lib.Count.{trailingZeros}
 use lib.ListN.{length, take, getD}
@@ -13,20 +14,21 @@ use Rattle.rows.specs.Set.{between, marked?}
 use Rattle.matching.specs.Weights.{counted-from, begun-counts}
 use Rattle.matching.proofs.Leads.{led-at, Led, led-none, led-end, led-turn, begun-are-at, begun-same, counts-lie, counts-room}
 use Rattle.rows.proofs.Sets.{bits-are-at, turn-lies}
-use Rattle.rows.proofs.MarksWalk.{Next, all-left, rest-none, next, next-rest, next-less}
+use Rattle.rows.proofs.Lowest.{Walk, walk-begin, walk-turn, lowest-less}
+use Rattle.rows.proofs.MarksWalk.{Next, no-rest, next}
 use Rattle.matching.proofs.weights.lead_sequences.Statement.{statement}
 use Rattle.matching.proofs.weights.lead_sequences.Tie as tie
 
+-- the sequences of the first e marks of word w led on
+abbrev Led-to : ℕ → List ℕ → List ℕ → List ℕ → Bool → ℕ → ℕ → List ℕ → List ℕ → ℕ → Type 0
+Led-to w ns row opened first d n x y e = Led (marked? row) (led-at first d n ns row x) ns opened (w * 64) (w * 64 + e) x y
+
 abbrev Inv-loop : tie.InvT-loop
-Inv-loop w lengths firsts offsets row opened first d n counts₀ rest₀ k₀ counts rest k =
-    (w * 64 ≤ k)
-    × (length counts ≡ length counts₀)
-    × (rest ≡ getD row w 0 / 2 ^ (k - w * 64))
-    × (Led (marked? row) (led-at first d n lengths row counts₀) lengths opened (w * 64) k counts₀ counts)
-    × (k ≤ w * 64 + 64)
+Inv-loop w lengths firsts offsets row opened first d n counts₀ base rest₀ counts rest =
+    (length counts ≡ length counts₀) × (Walk (Led-to w lengths row opened first d n counts₀ counts) (getD row w 0) rest)
 
 abbrev μ-loop : tie.MeasureT-loop
-μ-loop w lengths firsts offsets row opened first d n counts₀ rest₀ k₀ counts rest k = rest
+μ-loop w lengths firsts offsets row opened first d n counts₀ base rest₀ counts rest = rest
 
 -- at a turn there is a next mark
 module _ (t : tie.In-loop Inv-loop μ-loop) where
@@ -46,25 +48,21 @@ module _ (t : tie.In-loop Inv-loop μ-loop) where
   w = t .before .before .before .before .before .before .before .before .before .args .w
 
   abbrev k : ℕ
-  k = t .before .loop .k
+  k = w * 64 + t .before .loop .inv .1 .upto
 
   abbrev rest : ℕ
   rest = t .before .loop .rest
 
   abbrev at : ℕ
-  at = k + trailingZeros 64 rest
+  at = w * 64 + trailingZeros 64 rest
 
   some : 0 < rest
   some = omega (arith, t .loop-test .taken)
 
-  fits : getD row w 0 < 2 ^ 64
-  fits = t .before .before .shared-slice-known6 .given w .fits
-
   found : Next ns firsts row w k at
   found =
       let p = t .before .before .before .before .before .before .before .before .before .pre in
-      let i = t .before .loop .inv in
-      next row w fits k rest (i .0) (i .2) some ns _ (p .1 .1 .1 .0) (p .1 .0) (p .0 .0)
+      next row w (t .before .loop .inv .1 .rests) some ns _ (p .1 .1 .1 .0) (p .1 .0) (p .0 .0)
 
   high : at < w * 64 + 64
   high = found .in-word
@@ -86,7 +84,10 @@ module _ (t : tie.In-loop Inv-loop μ-loop) where
       ≡ begun-counts (t .before .before .before .before .before .before .before .before .before .args .first) ns row (t .before .before .before .before .before .before .before .before .before .args .counts .now) at
   own =
       begun-are-at ns at inside begins ends (t .before .before .before .before .before .before .before .before .before .args .first) (found .begins) (found .ends) row (t .before .loop .counts)
-      ∙ begun-same (t .before .before .before .before .before .before .before .before .before .args .first) ns row (t .before .before .before .before .before .before .before .before .before .args .counts .now) (t .before .loop .counts) at (t .before .loop .inv .3 .later at (found .later) inside)
+      ∙ begun-same (t .before .before .before .before .before .before .before .before .before .args .first) ns row (t .before .before .before .before .before .before .before .before .before .args .counts .now) (t .before .loop .counts) at (t .before .loop .inv .1 .so-far .later at (found .later) inside)
+
+mul-base : tie.Need-mul-base Inv-loop μ-loop
+mul-base c = search needs
 
 mul-rest : tie.Need-mul-rest Inv-loop μ-loop
 mul-rest c = search needs
@@ -94,13 +95,10 @@ mul-rest c = search needs
 shared-slice-read-rest : tie.Need-shared-slice-read-rest Inv-loop μ-loop
 shared-slice-read-rest c = omega (arith, c .before .before .before .before .before .before .before .pre .0, c .before .before .before .before .before .before .before .pre .1 .1 .1 .1 .0)
 
-mul-k : tie.Need-mul-k Inv-loop μ-loop
-mul-k c = search needs
-
 loop-holds : tie.Need-loop-holds Inv-loop μ-loop
 loop-holds c =
     let a = c .before .before .before .before .before .before .before .args in
-    (omega arith, refl, all-left (a .row .now) (a .w) (omega arith), led-none _ _ _ _ _ _ _ (omega arith), omega arith)
+    (refl, walk-begin _ _ (c .shared-slice-known6 .given (a .w) .fits) (led-none _ _ _ _ _ _ _ (omega arith)))
 
 cast-at : tie.Need-cast-at Inv-loop μ-loop
 cast-at c = omega (arith, few c)
@@ -161,8 +159,8 @@ lead-between-requires c κs =
     let m = counts-room _ _ (n .inside) (begins t) (ends t) (n .begins) (n .ends) in
     let o = s .pre .1 .1 .1 .1 .0 in
     let q = s .pre .1 .1 .1 .1 .1 in
-    let low : w t * 64 ≤ at t = omega (arith, n .later, l .inv .0) in (
-      (u .0, omega (arith, u .1, o), omega (arith, u .1, o), v .0, omega (arith, v .1, o, l .inv .1), m),
+    let low : w t * 64 ≤ at t = omega arith in (
+      (u .0, omega (arith, u .1, o), omega (arith, u .1, o), v .0, omega (arith, v .1, o, l .inv .0), m),
       (
         (s .pre .0 .2, s .pre .0 .3, s .pre .0 .4, s .pre .0 .5),
         (
@@ -172,31 +170,22 @@ lead-between-requires c κs =
       ),
     )
 
-cast-rest : tie.Need-cast-rest Inv-loop μ-loop
-cast-rest c = omega (arith, high (c .before .before .before .before .before .before .before .before), c .before .before .before .before .before .before .before .before .before .loop .inv .0)
-
-shr-rest : tie.Need-shr-rest Inv-loop μ-loop
-shr-rest c = omega (arith, high (c .before .before .before .before .before .before .before .before), c .before .before .before .before .before .before .before .before .before .loop .inv .0)
-
-add-k : tie.Need-add-k Inv-loop μ-loop
-add-k c = omega (arith, few (c .before .before .before .before .before .before .before .before))
+sub-rest : tie.Need-sub-rest Inv-loop μ-loop
+sub-rest c = search needs
 
 loop-less : tie.Need-loop-less Inv-loop μ-loop
-loop-less c =
-    let t = c .before .before .before .before .before .before .before .before in
-    next-less (row t) (w t) (fits t) (k t) (rest t) (t .before .loop .inv .0) (t .before .loop .inv .2) (some t)
+loop-less c = let t = c .before .before .before .before .before .before .before .before in lowest-less (t .before .loop .inv .1 .rests) (some t)
 
 loop-again : tie.Need-loop-again Inv-loop μ-loop
 loop-again c =
     let t = c .before .before .before .before .before .before .before .before in
-    let l = c .before .before .before .before .before .before .before .before .before .loop in
+    let l = t .before .loop in
+    let g = l .inv .1 in
     let n = found t in
-    let e = c .before .before .lead-between .ensures in (
-      omega (arith, l .inv .0),
-      e .0 .2 ∙ l .inv .1,
-      next-rest (row t) (w t) (fits t) (k t) (rest t) (l .inv .0) (l .inv .2) (some t),
-      led-turn _ _ _ _ _ _ _ _ (l .inv .3) _ (n .skips) _ (omega (arith, l .inv .0, n .later)) (n .later) (n .inside) (begins t) (ends t) (e .0 .0) (e .0 .1) (n .begins) (n .ends) (e .1 ∙ ap (added _ _) (own t)),
-      omega (arith, n .in-word),
+    let e = c .before .before .lead-between .ensures in
+    let next : at t + 1 ≡ w t * 64 + (trailingZeros 64 (rest t) + 1) = omega arith in (
+      e .0 .2 ∙ l .inv .0,
+      walk-turn _ _ g (some t) (rw next at (led-turn _ _ _ _ _ _ _ _ (g .so-far) _ (n .skips) _ (omega arith) (n .later) (n .inside) (begins t) (ends t) (e .0 .0) (e .0 .1) (n .begins) (n .ends) (e .1 ∙ ap (added _ _) (own t)))),
     )
 
 same-length : tie.Need-same-length Inv-loop μ-loop
@@ -206,8 +195,9 @@ returns : tie.Need-returns Inv-loop μ-loop
 returns c =
     let s = c .before .before .before .before .before .before .before .before .before in
     let l = c .before .loop in
-    let none = rest-none (s .args .row .now) (s .args .w) (c .before .before .shared-slice-known6 .given (s .args .w) .fits) (l .k) (l .rest) (l .inv .0) (l .inv .2) (search needs) in
-    (led-end _ _ _ _ _ _ _ _ (l .inv .3) (s .args .w * 64 + 64) none, (l .inv .3 .earlier, (λ m h u. l .inv .3 .later m (omega (arith, l .inv .4)) u, l .inv .1)))
+    let g = l .inv .1 in
+    let none = no-rest (s .args .row .now) (s .args .w) (g .rests) (omega (arith, c .loop-test .left)) in
+    (led-end _ _ _ _ _ _ _ _ (g .so-far) (s .args .w * 64 + 64) none, (g .so-far .earlier, (λ m h u. g .so-far .later m (omega (arith, g .high)) u, l .inv .0)))
 
 pub lead-sequences-spec : {M : Type 1} → statement M
 lead-sequences-spec =
@@ -215,9 +205,9 @@ lead-sequences-spec =
     (tie.spec
     Inv-loop
     μ-loop
+    mul-base
     mul-rest
     shared-slice-read-rest
-    mul-k
     loop-holds
     cast-at
     add-at
@@ -236,9 +226,7 @@ lead-sequences-spec =
     shared-slice-read-e
     cast-e
     lead-between-requires
-    cast-rest
-    shr-rest
-    add-k
+    sub-rest
     loop-less
     loop-again
     same-length

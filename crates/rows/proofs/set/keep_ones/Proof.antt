@@ -44,7 +44,7 @@ module _ (t : tie.In-loop Inv-loop μ-loop) where
   fits = t .before .before .shared-slice-known5 .given w .fits
 
   low : trailingZeros 64 rest < 64
-  low = lowest-in row w fits _ rest (t .before .loop .inv .1 .going .rests) some
+  low = lowest-in (t .before .loop .inv .1 .going .rests) some
 
   inside : at < length row
   inside =
@@ -112,7 +112,7 @@ sub-rest c = search needs
 loop-less : tie.Need-loop-less Inv-loop μ-loop
 loop-less c =
     let t = c .before .before .before in
-    lowest-less (row t) (w t) (fits t) _ (rest t) (t .before .loop .inv .1 .going .rests) (some t)
+    lowest-less (t .before .loop .inv .1 .going .rests) (some t)
 
 loop-again : tie.Need-loop-again Inv-loop μ-loop
 loop-again c =
@@ -133,7 +133,7 @@ returns c =
     let l = c .before .loop in
     let g = l .inv .1 .going in
     let fits = c .before .before .shared-slice-known5 .given (s .args .w) .fits in
-    (end-left (s .args .i) (s .args .lengths .now) (s .args .letter .now) (s .args .row .now) (s .args .w) fits (s .args .out .now) (l .out) (l .rest) (l .marks) _ g (omega (arith, c .loop-test .left)), ((g .walked .kept, l .inv .0), end-walked (s .args .i) (s .args .lengths .now) (s .args .letter .now) (s .args .row .now) (s .args .w) fits (s .args .out .now) (l .out) (l .rest) (l .marks) _ g (omega (arith, c .loop-test .left))))
+    (end-left (s .args .i) (s .args .lengths .now) (s .args .letter .now) (s .args .row .now) (s .args .w) fits (s .args .out .now) (l .out) (l .rest) (l .marks) _ g (omega (arith, c .loop-test .left)), ((g .so-far .walked .kept, l .inv .0), end-walked (s .args .i) (s .args .lengths .now) (s .args .letter .now) (s .args .row .now) (s .args .w) fits (s .args .out .now) (l .out) (l .rest) (l .marks) _ g (omega (arith, c .loop-test .left))))
 
 pub keep-ones-spec : {M : Type 1} → statement M
 keep-ones-spec =

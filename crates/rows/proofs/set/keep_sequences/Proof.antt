@@ -50,7 +50,7 @@ returns c =
     let l = c .before .before .loop in
     let fits = c .before .before .before .shared-slice-known5 .given (s .args .w) .fits in
     let over = c .if1 .taken in
-    (going-most (s .args .i) (s .args .lengths .now) (s .args .letter .now) (s .args .row .now) (s .args .w) fits (s .args .out .now) (l .out) (l .rest) (l .left) (l .lost) (l .inv .1), ((λ h. absurd (omega (arith, h, over))), ((l .inv .1 .walked .kept, l .inv .0), ((λ h. absurd (omega (arith, h, over))), (λ h. absurd (omega (arith, h, over)))))))
+    (going-most (s .args .i) (s .args .lengths .now) (s .args .letter .now) (s .args .row .now) (s .args .w) fits (s .args .out .now) (l .out) (l .rest) (l .left) (l .lost) (l .inv .1), ((λ h. absurd (omega (arith, h, over))), ((l .inv .1 .so-far .walked .kept, l .inv .0), ((λ h. absurd (omega (arith, h, over))), (λ h. absurd (omega (arith, h, over)))))))
 
 cast-at : tie.Need-cast-at Inv-loop μ-loop
 cast-at c =
@@ -146,7 +146,7 @@ cast-left c =
     let l = c .before .before .before .before .before .before .before .before .before .loop in
     let fits = c .before .before .before .before .before .before .before .before .before .before .shared-slice-known5 .given (s .args .w) .fits in
     let some = c .before .before .before .before .before .before .before .before .loop-test .taken in
-    omega (arith, lowest-in (s .args .row .now) (s .args .w) fits _ (l .rest) (l .inv .1 .rests) (omega (arith, some)))
+    omega (arith, lowest-in (l .inv .1 .rests) (omega (arith, some)))
 
 shl-left : tie.Need-shl-left Inv-loop μ-loop
 shl-left c =
@@ -154,7 +154,7 @@ shl-left c =
     let l = c .before .before .before .before .before .before .before .before .before .loop in
     let fits = c .before .before .before .before .before .before .before .before .before .before .shared-slice-known5 .given (s .args .w) .fits in
     let some = c .before .before .before .before .before .before .before .before .loop-test .taken in
-    omega (arith, lowest-in (s .args .row .now) (s .args .w) fits _ (l .rest) (l .inv .1 .rests) (omega (arith, some)))
+    omega (arith, lowest-in (l .inv .1 .rests) (omega (arith, some)))
 
 none-requires : tie.Need-none-requires Inv-loop μ-loop
 none-requires c κs = search needs
@@ -176,7 +176,7 @@ loop-less c =
     let l = c .before .before .before .before .before .before .before .before .before .before .loop in
     let fits = c .before .before .before .before .before .before .before .before .before .before .before .shared-slice-known5 .given (s .args .w) .fits in
     let some = c .before .before .before .before .before .before .before .before .before .loop-test .taken in
-    lowest-less (s .args .row .now) (s .args .w) fits _ (l .rest) (l .inv .1 .rests) (omega (arith, some))
+    lowest-less (l .inv .1 .rests) (omega (arith, some))
 
 loop-again : tie.Need-loop-again Inv-loop μ-loop
 loop-again c =
@@ -202,7 +202,7 @@ returns-2 c =
     let l = c .before .loop in
     let fits = c .before .before .shared-slice-known5 .given (s .args .w) .fits in
     let none = c .loop-test .left in
-    (going-most (s .args .i) (s .args .lengths .now) (s .args .letter .now) (s .args .row .now) (s .args .w) fits (s .args .out .now) (l .out) (l .rest) (l .left) (l .lost) (l .inv .1), ((λ h. end-left (s .args .i) (s .args .lengths .now) (s .args .letter .now) (s .args .row .now) (s .args .w) fits (s .args .out .now) (l .out) (l .rest) (l .left) (l .lost) (l .inv .1) (omega (arith, none))), ((l .inv .1 .walked .kept, l .inv .0), ((λ h. end-walked (s .args .i) (s .args .lengths .now) (s .args .letter .now) (s .args .row .now) (s .args .w) fits (s .args .out .now) (l .out) (l .rest) (l .left) (l .lost) (l .inv .1) (omega (arith, none))), (λ h. end-tallied (s .args .i) (s .args .lengths .now) (s .args .letter .now) (s .args .row .now) (s .args .w) fits (s .args .out .now) (l .out) (l .rest) (l .left) (l .lost) (l .inv .1) (omega (arith, none)))))))
+    (going-most (s .args .i) (s .args .lengths .now) (s .args .letter .now) (s .args .row .now) (s .args .w) fits (s .args .out .now) (l .out) (l .rest) (l .left) (l .lost) (l .inv .1), ((λ h. end-left (s .args .i) (s .args .lengths .now) (s .args .letter .now) (s .args .row .now) (s .args .w) fits (s .args .out .now) (l .out) (l .rest) (l .left) (l .lost) (l .inv .1) (omega (arith, none))), ((l .inv .1 .so-far .walked .kept, l .inv .0), ((λ h. end-walked (s .args .i) (s .args .lengths .now) (s .args .letter .now) (s .args .row .now) (s .args .w) fits (s .args .out .now) (l .out) (l .rest) (l .left) (l .lost) (l .inv .1) (omega (arith, none))), (λ h. end-tallied (s .args .i) (s .args .lengths .now) (s .args .letter .now) (s .args .row .now) (s .args .w) fits (s .args .out .now) (l .out) (l .rest) (l .left) (l .lost) (l .inv .1) (omega (arith, none)))))))
 
 pub keep-sequences-spec : {M : Type 1} → statement M
 keep-sequences-spec =
