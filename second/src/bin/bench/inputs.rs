@@ -132,7 +132,7 @@ pub fn random(count: usize, letters: u64, shape: &[(u8, u16, u16)], quorum: u64)
 }
 
 /// Searches of several shapes, with the steps that are taken of each.
-pub fn searches() -> [(&'static str, Search, u64); 7] {
+pub fn searches() -> [(&'static str, Search, u64); 11] {
     let three = [(3, 0, 0), (3, 0, 30), (3, 0, 30)];
     let six = [(6, 0, 0), (4, 0, 30)];
     [
@@ -170,6 +170,26 @@ pub fn searches() -> [(&'static str, Search, u64); 7] {
             "NNNNNN[0,30]NNNN, 4 of 8 sequences of 8,192",
             random(8, 8_192, &six, 4),
             10_000,
+        ),
+        (
+            "NNNNNN[0,30]NNNN, all 8 sequences of 8,192",
+            random(8, 8_192, &six, 8),
+            10_000,
+        ),
+        (
+            "N x 12, one sequence of 65,536",
+            random(1, 65_536, &[(12, 0, 0)], 1),
+            100_000,
+        ),
+        (
+            "NNNNNNNN[0,0]NNNN, one sequence of 65,536",
+            random(1, 65_536, &[(8, 0, 0), (4, 0, 0)], 1),
+            100_000,
+        ),
+        (
+            "NNNNNN[0,255]NNNNNN, one sequence of 65,536",
+            random(1, 65_536, &[(6, 0, 0), (6, 0, 255)], 1),
+            100_000,
         ),
     ]
 }

@@ -23,8 +23,8 @@ const TARGET: f64 = 1.3;
 /// The steps that are taken of a search that lists nothing.
 const MANY_STEPS: u64 = 100_000;
 
-/// Searches that list nothing: what a candidate alone takes. In the last the
-/// sequences are too short for the third component.
+/// Searches that list nothing: what a candidate alone takes. In the last three
+/// the sequences are too short for the last component.
 fn walks() -> Vec<(String, Search)> {
     let mut searches = Vec::new();
     for letters in [1_000, 8_000, 65_536] {
@@ -37,6 +37,16 @@ fn walks() -> Vec<(String, Search)> {
     searches.push((
         "NNNN[0,100]NNNN[255,255]N, 12 % of 1,024 sequences of 64".to_string(),
         inputs::random(1_024, 64, &short, 123),
+    ));
+    let few = [(3, 0, 0), (3, 0, 30), (1, 255, 255)];
+    searches.push((
+        "NNN[0,30]NNN[255,255]N, 2 of 64 sequences of 128".to_string(),
+        inputs::random(64, 128, &few, 2),
+    ));
+    let far = (1, 255, 255);
+    searches.push((
+        "NNNN[0,255]NNNN[255,255]N[255,255]N[255,255]N, 18 of 20 sequences of 600".to_string(),
+        inputs::random(20, 600, &[(4, 0, 0), (4, 0, 255), far, far, far], 18),
     ));
     searches
 }
