@@ -5,20 +5,24 @@
 //! prefix that ends a component. The rows of the path are kept until the walk
 //! leaves it, and only sequences that a prefix is marked in are looked at for
 //! what lies under it, as long as enough of them can be left. The letters' rows
-//! are kept shifted for the first places of a component.
+//! are kept shifted for every place of a component, or for as many as there is
+//! room for.
 
+use crate::letters::{letter_rows, shifted_rows};
 use crate::walk::{Examine, Place, Search};
-use crate::words::{letter_rows, open, open_word, shifted, shifted_rows, Row, Span};
+use crate::words::{open, open_word, shifted, Row, Span};
 
 /// So many words of a row are passed over at once where they are empty.
 const STRETCH: usize = 16;
+/// The words that there are for the letters' rows: as many as the library has.
+const ROOM: usize = 33_152;
 
 pub struct Bits<'a> {
     search: &'a Search,
     spans: Vec<Span>,
     /// Whether every sequence has one word.
     short: bool,
-    /// The letters' rows, each shifted for the first places of a component.
+    /// The letters' rows, each shifted for the places of a component.
     letters: [Vec<Vec<u64>>; 4],
     /// The component of each letter of a motif, and its place in it.
     inside: Vec<(usize, usize)>,
@@ -52,9 +56,11 @@ impl<'a> Bits<'a> {
         };
         let mut opened: Vec<Row> = search.components.iter().map(|_| row()).collect();
         opened[0] = full;
+        let longest = search.components.iter().map(|c| usize::from(c.length));
+        let places = longest.max().unwrap_or(1).min(ROOM / (4 * words).max(1));
         Bits {
             search,
-            letters: letter_rows(&search.set, words).map(|row| shifted_rows(&row, &spans)),
+            letters: letter_rows(&search.set, words).map(|row| shifted_rows(&row, &spans, places)),
             short: spans.iter().all(|span| span.end() - span.begin() == 1),
             spans,
             rows: (0..=inside.len()).map(|_| row()).collect(),

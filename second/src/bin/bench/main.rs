@@ -11,6 +11,7 @@ mod checks;
 mod files;
 mod inputs;
 mod legs;
+mod letters;
 mod linked;
 mod measures;
 mod mixed;

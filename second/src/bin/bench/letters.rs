@@ -1,0 +1,52 @@
+//! The letters' own rows, which one letter more is an AND with.
+
+use crate::walk::Set;
+use crate::words::Span;
+
+/// The rows of the four letters. Bits 1 and 2 of its byte tell a letter from the
+/// others: those of eight letters are gathered by one multiplication.
+pub fn letter_rows(set: &Set, words: usize) -> [Vec<u64>; 4] {
+    let mut rows = [(); 4].map(|()| Vec::with_capacity(words));
+    for sequence in set.sequences() {
+        for letters in sequence.chunks(64) {
+            let (mut low, mut high) = (0, 0);
+            let (eights, rest) = letters.as_chunks();
+            let mut last = [0; 8];
+            last[..rest.len()].copy_from_slice(rest);
+            for (at, eight) in eights.iter().chain([&last]).take(8).enumerate() {
+                let eight = u64::from_le_bytes(*eight);
+                low |= gathered(eight >> 1) << (8 * at);
+                high |= gathered(eight >> 2) << (8 * at);
+            }
+            let all = u64::MAX >> (64 - letters.len());
+            let [a, c, g, t] = &mut rows;
+            a.push(all & !low & !high);
+            c.push(low & !high);
+            g.push(low & high);
+            t.push(high & !low);
+        }
+    }
+    rows
+}
+
+/// A letter's row shifted for each of the first places of a component, each
+/// sequence's words for themselves.
+pub fn shifted_rows(row: &[u64], spans: &[Span], places: usize) -> Vec<Vec<u64>> {
+    let shifted = |i: usize| {
+        let mut out = row.to_vec();
+        for span in spans.iter().filter(|_| i > 0) {
+            let words = &mut out[span.begin()..span.end()];
+            for at in 0..words.len() {
+                let high = words.get(at + 1).map_or(0, |high| high << (64 - i));
+                words[at] = words[at] >> i | high;
+            }
+        }
+        out
+    };
+    (0..places).map(shifted).collect()
+}
+
+/// The lowest bits of eight bytes, the first in the lowest.
+fn gathered(bytes: u64) -> u64 {
+    (bytes & 0x0101_0101_0101_0101).wrapping_mul(0x0102_0408_1020_4080) >> 56
+}
