@@ -4,11 +4,13 @@
 //! shifted by the letter's place in its component; a gap is opened once for a
 //! prefix that ends a component. The rows of the path are kept until the walk
 //! leaves it, and only sequences that a prefix is marked in are looked at for
-//! what lies under it, as long as enough of them can be left. The letters' rows
-//! are kept shifted for every place of a component, or for as many as there is
-//! room for.
+//! what lies under it, as long as enough of them can be left; in a long sequence
+//! only the lines that have a bit, where those are few, which is decided once for
+//! a prefix. The letters' rows are kept shifted for every place of a component,
+//! or for as many as there is room for.
 
 use crate::letters::{letter_rows, shifted_rows};
+use crate::lines::LINE;
 use crate::walk::{Examine, Place, Search};
 use crate::words::{open, open_word, shifted, Row, Span};
 
@@ -20,6 +22,8 @@ const ROOM: usize = 33_152;
 pub struct Bits<'a> {
     search: &'a Search,
     spans: Vec<Span>,
+    /// The long sequences, by their numbers.
+    long: Vec<(usize, Span)>,
     /// Whether every sequence has one word.
     short: bool,
     /// The letters' rows, each shifted for the places of a component.
@@ -50,20 +54,19 @@ impl<'a> Bits<'a> {
         for (component, shape) in search.components.iter().enumerate() {
             inside.extend((0..usize::from(shape.length)).map(|i| (component, i)));
         }
-        let row = || Row {
-            words: vec![0; words],
-            marks: [0; 16],
-        };
+        let row = || Row::empty(&spans);
         let mut opened: Vec<Row> = search.components.iter().map(|_| row()).collect();
         opened[0] = full;
         let longest = search.components.iter().map(|c| usize::from(c.length));
         let places = longest.max().unwrap_or(1).min(ROOM / (4 * words).max(1));
+        let rows = (0..=inside.len()).map(|_| row()).collect();
         Bits {
             search,
             letters: letter_rows(&search.set, words).map(|row| shifted_rows(&row, &spans, places)),
             short: spans.iter().all(|span| span.end() - span.begin() == 1),
+            long: Span::long(&spans),
             spans,
-            rows: (0..=inside.len()).map(|_| row()).collect(),
+            rows,
             inside,
             stand: 0,
             opened,
@@ -90,12 +93,19 @@ impl<'a> Bits<'a> {
         }
     }
 
-    /// Opens the gap behind a prefix that ends a component.
+    /// Makes ready what letters behind a prefix are added to: opens the gap if it
+    /// ends a component, and decides whether the row has few bits. One that comes
+    /// of a row with few has few.
     fn open(&mut self, letters: usize) {
         let (component, i) = self.inside[letters];
+        let row = &mut self.rows[letters];
+        if i > 0 && !row.few {
+            row.decide(&self.long);
+        }
         if i > 0 || component == 0 {
             return;
         }
+        row.make_whole(&self.long);
         let (near, far) = distances(self.search, component);
         let (from, to) = (&self.rows[letters], &mut self.opened[component]);
         to.marks = from.marks;
@@ -110,6 +120,8 @@ impl<'a> Bits<'a> {
             row.copy_from_slice(&from.words[begin..end]);
             open(row, near, far + 1 - near, spare, &mut to.words[begin..end]);
         }
+        to.few = false;
+        to.decide(&self.long);
     }
 
     /// Counts the ways of a prefix that ends a component, the one before the
@@ -203,20 +215,41 @@ impl Examine for Bits<'_> {
         let mut sum = 0;
         for span in row.marked().map(|sequence| self.spans[sequence]) {
             let (begin, end) = (span.begin(), span.end());
-            let ways = self.ways[64 * begin..64 * end].chunks(64 * STRETCH);
-            for (words, ways) in row.words[begin..end].chunks(STRETCH).zip(ways) {
+            let words = &row.words[begin..end];
+            let ways = &self.ways[64 * begin..64 * end];
+            if row.few && span.is_long() {
+                for (word, told) in row.lines[span.told()].iter().enumerate() {
+                    let mut told = *told;
+                    while told != 0 {
+                        let at = LINE * (64 * word + told.trailing_zeros() as usize);
+                        let end = words.len().min(at + LINE);
+                        sum += added(&words[at..end], &ways[64 * at..64 * end]);
+                        told &= told - 1;
+                    }
+                }
+                continue;
+            }
+            for (words, ways) in words.chunks(STRETCH).zip(ways.chunks(64 * STRETCH)) {
                 if words.len() == STRETCH && words.iter().fold(0, |all, word| all | word) == 0 {
                     continue;
                 }
-                for (word, ways) in words.iter().zip(ways.chunks_exact(64)) {
-                    let mut bits = *word;
-                    while bits != 0 {
-                        sum += ways[bits.trailing_zeros() as usize];
-                        bits &= bits - 1;
-                    }
-                }
+                sum += added(words, ways);
             }
         }
         sum
     }
+}
+
+/// The ways of the bits of some words, added.
+#[inline(always)]
+fn added(words: &[u64], ways: &[u64]) -> u64 {
+    let mut sum = 0;
+    for (word, ways) in words.iter().zip(ways.chunks_exact(64)) {
+        let mut bits = *word;
+        while bits != 0 {
+            sum += ways[bits.trailing_zeros() as usize];
+            bits &= bits - 1;
+        }
+    }
+    sum
 }

@@ -12,6 +12,7 @@ mod files;
 mod inputs;
 mod legs;
 mod letters;
+mod lines;
 mod linked;
 mod measures;
 mod mixed;

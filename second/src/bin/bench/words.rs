@@ -3,6 +3,7 @@
 //! another.
 
 use crate::walk::Set;
+use std::ops::Range;
 
 /// The words of one sequence.
 #[derive(Clone, Copy, Debug)]
@@ -30,25 +31,47 @@ impl Span {
     pub fn end(self) -> usize {
         self.end.into()
     }
+
+    /// Its words.
+    pub fn words(self) -> Range<usize> {
+        self.begin()..self.end()
+    }
 }
 
 /// The words of all sequences, and a mark for each sequence that has a bit set.
-/// What stands where there is no mark is left over from another row.
+/// What stands where there is no mark is left over from another row; and so is,
+/// in a row with few bits, what stands in a long sequence where its lines have
+/// none.
 #[derive(Clone)]
 pub struct Row {
     pub words: Vec<u64>,
     pub marks: [u64; 16],
+    /// Which lines of the long sequences have a bit, told where the row is one
+    /// with few.
+    pub lines: [u64; 16],
+    pub few: bool,
 }
 
 impl Row {
+    /// No bit of any sequence.
+    pub fn empty(spans: &[Span]) -> Row {
+        let words = spans.last().map_or(0, |span| span.end());
+        Row {
+            words: vec![0; words],
+            marks: [0; 16],
+            lines: [0; 16],
+            few: false,
+        }
+    }
+
     /// Every bit of every sequence.
     pub fn full(spans: &[Span]) -> Row {
-        let mut marks = [0; 16];
+        let mut row = Row::empty(spans);
+        row.words.fill(u64::MAX);
         for sequence in 0..spans.len() {
-            marks[sequence / 64] |= 1 << (sequence % 64);
+            row.marks[sequence / 64] |= 1 << (sequence % 64);
         }
-        let words = vec![u64::MAX; spans.last().map_or(0, |span| span.end())];
-        Row { words, marks }
+        row
     }
 
     /// The sequences that have a mark.
@@ -61,6 +84,10 @@ impl Row {
                 at
             })
         })
+    }
+
+    pub fn has_mark(&self, sequence: usize) -> bool {
+        self.marks[sequence / 64] >> (sequence % 64) & 1 == 1
     }
 
     /// How many of so many sequences have a mark.
@@ -81,30 +108,64 @@ impl Row {
         spans: &[Span],
         quorum: u32,
     ) -> u32 {
-        let mut possible = from.count(spans.len());
+        self.few = from.few;
+        let possible = from.count(spans.len());
+        if from.few {
+            return self.each(from, spans, possible, quorum, |row, span| {
+                match span.is_long() {
+                    true => row.keep_few(from, letter, i, span),
+                    false => row.keep_all(from, letter, i, span),
+                }
+            });
+        }
+        self.each(from, spans, possible, quorum, |row, span| {
+            row.keep_all(from, letter, i, span)
+        })
+    }
+
+    /// One letter more in a sequence. Whether a bit is left.
+    #[inline(always)]
+    fn keep_all(&mut self, from: &Row, letter: &[u64], i: usize, span: Span) -> bool {
         let n = self.words.len();
         let (row, letter, out) = (&from.words[..n], &letter[..n], &mut self.words[..n]);
-        let marks = from.marks.iter().zip(&mut self.marks);
-        for ((bits, left), spans) in marks.zip(spans.chunks(64)) {
-            let (mut bits, mut found) = (*bits, 0);
+        let (begin, end) = (span.begin(), span.end());
+        if end - begin == 1 {
+            out[begin] = row[begin] & letter[begin] >> i;
+            return out[begin] != 0;
+        }
+        keep(
+            &row[begin..end],
+            &letter[begin..end],
+            i,
+            &mut out[begin..end],
+        ) != 0
+    }
+
+    /// Goes through the sequences in which a row has a mark, as long as enough
+    /// of them can be left, and marks those in which a bit is left. How many can
+    /// have one.
+    #[inline(always)]
+    fn each(
+        &mut self,
+        from: &Row,
+        spans: &[Span],
+        mut possible: u32,
+        quorum: u32,
+        mut keep: impl FnMut(&mut Row, Span) -> bool,
+    ) -> u32 {
+        for (word, spans) in spans.chunks(64).enumerate() {
+            let (mut bits, mut found) = (from.marks[word], 0);
             while bits != 0 {
                 if possible < quorum {
                     return possible;
                 }
                 let bit = bits.trailing_zeros() as usize;
                 bits &= bits - 1;
-                let (begin, end) = (spans[bit].begin(), spans[bit].end());
-                let all = if end - begin == 1 {
-                    out[begin] = row[begin] & letter[begin] >> i;
-                    out[begin]
-                } else {
-                    let (row, letter) = (&row[begin..end], &letter[begin..end]);
-                    keep(row, letter, i, &mut out[begin..end])
-                };
-                found |= u64::from(all != 0) << bit;
-                possible -= u32::from(all == 0);
+                let any = keep(self, spans[bit]);
+                found |= u64::from(any) << bit;
+                possible -= u32::from(!any);
             }
-            *left = found;
+            self.marks[word] = found;
         }
         possible
     }
@@ -139,7 +200,7 @@ impl Row {
 }
 
 /// One letter more in a sequence of several words, and all of them joined.
-fn keep(row: &[u64], letter: &[u64], i: usize, out: &mut [u64]) -> u64 {
+pub fn keep(row: &[u64], letter: &[u64], i: usize, out: &mut [u64]) -> u64 {
     if i == 0 {
         let mut all = 0;
         for ((row, letter), out) in row.iter().zip(letter).zip(out) {
