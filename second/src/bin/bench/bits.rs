@@ -26,8 +26,9 @@ pub struct Bits<'a> {
     long: Vec<(usize, Span)>,
     /// Whether every sequence has one word.
     short: bool,
-    /// The letters' rows, each shifted for the places of a component.
-    letters: [Vec<Vec<u64>>; 4],
+    /// The letters' rows, each shifted for so many places of a component.
+    letters: Vec<u64>,
+    places: usize,
     /// The component of each letter of a motif, and its place in it.
     inside: Vec<(usize, usize)>,
     /// The rows of the prefixes of the last candidate, by their letters; and how
@@ -62,7 +63,8 @@ impl<'a> Bits<'a> {
         let rows = (0..=inside.len()).map(|_| row()).collect();
         Bits {
             search,
-            letters: letter_rows(&search.set, words).map(|row| shifted_rows(&row, &spans, places)),
+            letters: shifted_rows(&letter_rows(&search.set, words), &spans, places),
+            places,
             short: spans.iter().all(|span| span.end() - span.begin() == 1),
             long: Span::long(&spans),
             spans,
@@ -85,8 +87,10 @@ impl<'a> Bits<'a> {
             0 => &self.opened[component],
             _ => &before[letters - 1],
         };
-        let (to, letter) = (&mut from_here[0], &self.letters[letter as usize & 3]);
-        let (letter, i) = letter.get(i).map_or((&letter[0], i), |letter| (letter, 0));
+        let to = &mut from_here[0];
+        let (kept, i) = if i < self.places { (i, 0) } else { (0, i) };
+        let at = (self.places * (letter as usize & 3) + kept) * to.words.len();
+        let letter = &self.letters[at..at + to.words.len()];
         match self.short {
             true => to.keep_short(from, letter, i, quorum),
             false => to.keep(from, letter, i, &self.spans, quorum),

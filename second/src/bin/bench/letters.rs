@@ -29,21 +29,27 @@ pub fn letter_rows(set: &Set, words: usize) -> [Vec<u64>; 4] {
     rows
 }
 
-/// A letter's row shifted for each of the first places of a component, each
-/// sequence's words for themselves.
-pub fn shifted_rows(row: &[u64], spans: &[Span], places: usize) -> Vec<Vec<u64>> {
-    let shifted = |i: usize| {
-        let mut out = row.to_vec();
+/// The letters' rows in one table, each letter's one after another, shifted for
+/// each of so many places of a component, each sequence's words for themselves.
+pub fn shifted_rows(rows: &[Vec<u64>; 4], spans: &[Span], places: usize) -> Vec<u64> {
+    let mut table = Vec::with_capacity(4 * places * rows[0].len());
+    for (row, i) in rows
+        .iter()
+        .flat_map(|row| (0..places).map(move |i| (row, i)))
+    {
+        let begin = table.len();
+        table.extend_from_slice(row);
         for span in spans.iter().filter(|_| i > 0) {
-            let words = &mut out[span.begin()..span.end()];
-            for at in 0..words.len() {
-                let high = words.get(at + 1).map_or(0, |high| high << (64 - i));
-                words[at] = words[at] >> i | high;
+            let words = &row[span.words()];
+            let out = &mut table[begin + span.begin()..begin + span.end()];
+            let next = words.get(1..).unwrap_or(&[]);
+            for ((out, low), high) in out.iter_mut().zip(words).zip(next) {
+                *out = low >> i | high << (64 - i);
             }
+            out.iter_mut().skip(next.len()).for_each(|last| *last >>= i);
         }
-        out
-    };
-    (0..places).map(shifted).collect()
+    }
+    table
 }
 
 /// The lowest bits of eight bytes, the first in the lowest.
