@@ -27,7 +27,7 @@ pub struct Bits<'a> {
     /// Whether every sequence has one word.
     short: bool,
     /// The letters' rows, each shifted for so many places of a component.
-    letters: Vec<u64>,
+    letters: [Vec<u64>; 4],
     places: usize,
     /// The component of each letter of a motif, and its place in it.
     inside: Vec<(usize, usize)>,
@@ -63,7 +63,7 @@ impl<'a> Bits<'a> {
         let rows = (0..=inside.len()).map(|_| row()).collect();
         Bits {
             search,
-            letters: shifted_rows(&letter_rows(&search.set, words), &spans, places),
+            letters: letter_rows(&search.set, words).map(|row| shifted_rows(&row, &spans, places)),
             places,
             short: spans.iter().all(|span| span.end() - span.begin() == 1),
             long: Span::long(&spans),
@@ -89,11 +89,12 @@ impl<'a> Bits<'a> {
         };
         let to = &mut from_here[0];
         let (kept, i) = if i < self.places { (i, 0) } else { (0, i) };
-        let at = (self.places * (letter as usize & 3) + kept) * to.words.len();
-        let letter = &self.letters[at..at + to.words.len()];
-        match self.short {
-            true => to.keep_short(from, letter, i, quorum),
-            false => to.keep(from, letter, i, &self.spans, quorum),
+        let words = kept * to.words.len()..(kept + 1) * to.words.len();
+        let letter = &self.letters[letter as usize & 3][words];
+        match (self.short, from.few) {
+            (true, _) => to.keep_short(from, letter, i, quorum),
+            (_, true) => to.keep_few(from, letter, i, &self.spans, quorum),
+            _ => to.keep(from, letter, i, &self.spans, quorum),
         }
     }
 
@@ -175,6 +176,24 @@ impl<'a> Bits<'a> {
             }
         }
     }
+
+    /// The ways of the bits of a long sequence, in the lines that have one, added.
+    #[inline(never)]
+    fn added_in_lines(&self, row: &Row, span: Span) -> u64 {
+        let words = &row.words[span.words()];
+        let ways = &self.ways[64 * span.begin()..64 * span.end()];
+        let mut sum = 0;
+        for (word, told) in row.lines[span.told()].iter().enumerate() {
+            let mut told = *told;
+            while told != 0 {
+                let at = LINE * (64 * word + told.trailing_zeros() as usize);
+                let end = words.len().min(at + LINE);
+                sum += added(&words[at..end], &ways[64 * at..64 * end]);
+                told &= told - 1;
+            }
+        }
+        sum
+    }
 }
 
 /// The least and the most distance from a component's start to the next one's.
@@ -219,21 +238,12 @@ impl Examine for Bits<'_> {
         let mut sum = 0;
         for span in row.marked().map(|sequence| self.spans[sequence]) {
             let (begin, end) = (span.begin(), span.end());
-            let words = &row.words[begin..end];
-            let ways = &self.ways[64 * begin..64 * end];
             if row.few && span.is_long() {
-                for (word, told) in row.lines[span.told()].iter().enumerate() {
-                    let mut told = *told;
-                    while told != 0 {
-                        let at = LINE * (64 * word + told.trailing_zeros() as usize);
-                        let end = words.len().min(at + LINE);
-                        sum += added(&words[at..end], &ways[64 * at..64 * end]);
-                        told &= told - 1;
-                    }
-                }
+                sum += self.added_in_lines(row, span);
                 continue;
             }
-            for (words, ways) in words.chunks(STRETCH).zip(ways.chunks(64 * STRETCH)) {
+            let ways = self.ways[64 * begin..64 * end].chunks(64 * STRETCH);
+            for (words, ways) in row.words[begin..end].chunks(STRETCH).zip(ways) {
                 if words.len() == STRETCH && words.iter().fold(0, |all, word| all | word) == 0 {
                     continue;
                 }

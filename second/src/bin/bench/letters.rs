@@ -29,19 +29,13 @@ pub fn letter_rows(set: &Set, words: usize) -> [Vec<u64>; 4] {
     rows
 }
 
-/// The letters' rows in one table, each letter's one after another, shifted for
-/// each of so many places of a component, each sequence's words for themselves.
-pub fn shifted_rows(rows: &[Vec<u64>; 4], spans: &[Span], places: usize) -> Vec<u64> {
-    let mut table = Vec::with_capacity(4 * places * rows[0].len());
-    for (row, i) in rows
-        .iter()
-        .flat_map(|row| (0..places).map(move |i| (row, i)))
-    {
-        let begin = table.len();
-        table.extend_from_slice(row);
-        for span in spans.iter().filter(|_| i > 0) {
-            let words = &row[span.words()];
-            let out = &mut table[begin + span.begin()..begin + span.end()];
+/// A letter's row shifted for each of so many places of a component, one after
+/// another, each sequence's words for themselves.
+pub fn shifted_rows(row: &[u64], spans: &[Span], places: usize) -> Vec<u64> {
+    let mut table = row.repeat(places);
+    for (i, out) in table.chunks_mut(row.len().max(1)).enumerate().skip(1) {
+        for span in spans {
+            let (words, out) = (&row[span.words()], &mut out[span.words()]);
             let next = words.get(1..).unwrap_or(&[]);
             for ((out, low), high) in out.iter_mut().zip(words).zip(next) {
                 *out = low >> i | high << (64 - i);

@@ -50,6 +50,7 @@ impl Row {
     /// Decides whether a row of which all words are written has few bits, and
     /// tells its lines if so. It has many once more than half of the lines that
     /// were looked at have one.
+    #[inline(never)]
     pub fn decide(&mut self, long: &[(usize, Span)]) {
         let (mut some, mut all) = (0, 0);
         for (sequence, span) in long {
@@ -74,6 +75,7 @@ impl Row {
     }
 
     /// Clears the lines that have no bit, so that all words are written.
+    #[inline(never)]
     pub fn make_whole(&mut self, long: &[(usize, Span)]) {
         for (sequence, span) in long.iter().filter(|_| self.few) {
             if !self.has_mark(*sequence) {
@@ -90,26 +92,11 @@ impl Row {
         }
         self.few = false;
     }
-
-    /// One letter more in a long sequence of a row with few bits. Whether a bit is
-    /// left.
-    #[inline(always)]
-    pub fn keep_few(&mut self, from: &Row, letter: &[u64], i: usize, span: Span) -> bool {
-        let (words, told) = (span.words(), span.told());
-        keep_lines(
-            &from.words[words.clone()],
-            &from.lines[told.clone()],
-            &letter[words.clone()],
-            i,
-            &mut self.words[words],
-            &mut self.lines[told],
-        )
-    }
 }
 
 /// One letter more in the lines that have a bit, and which of them still have
 /// one. Whether any has.
-fn keep_lines(
+pub fn keep_lines(
     row: &[u64],
     told: &[u64],
     letter: &[u64],

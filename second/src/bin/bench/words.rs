@@ -2,6 +2,7 @@
 //! the lowest bit. Each sequence has whole words of its own, one sequence after
 //! another.
 
+use crate::lines::keep_lines;
 use crate::walk::Set;
 use std::ops::Range;
 
@@ -108,66 +109,51 @@ impl Row {
         spans: &[Span],
         quorum: u32,
     ) -> u32 {
-        self.few = from.few;
-        let possible = from.count(spans.len());
-        if from.few {
-            return self.each(from, spans, possible, quorum, |row, span| {
-                match span.is_long() {
-                    true => row.keep_few(from, letter, i, span),
-                    false => row.keep_all(from, letter, i, span),
-                }
-            });
-        }
-        self.each(from, spans, possible, quorum, |row, span| {
-            row.keep_all(from, letter, i, span)
+        self.few = false;
+        let n = self.words.len();
+        let (row, letter, out) = (&from.words[..n], &letter[..n], &mut self.words[..n]);
+        let marks = (&from.marks, &mut self.marks);
+        each(marks, spans, from.count(spans.len()), quorum, |span| {
+            let (begin, end) = (span.begin(), span.end());
+            if end - begin == 1 {
+                out[begin] = row[begin] & letter[begin] >> i;
+                return out[begin] != 0;
+            }
+            let (row, letter) = (&row[begin..end], &letter[begin..end]);
+            keep(row, letter, i, &mut out[begin..end]) != 0
         })
     }
 
-    /// One letter more in a sequence. Whether a bit is left.
-    #[inline(always)]
-    fn keep_all(&mut self, from: &Row, letter: &[u64], i: usize, span: Span) -> bool {
-        let n = self.words.len();
-        let (row, letter, out) = (&from.words[..n], &letter[..n], &mut self.words[..n]);
-        let (begin, end) = (span.begin(), span.end());
-        if end - begin == 1 {
-            out[begin] = row[begin] & letter[begin] >> i;
-            return out[begin] != 0;
-        }
-        keep(
-            &row[begin..end],
-            &letter[begin..end],
-            i,
-            &mut out[begin..end],
-        ) != 0
-    }
-
-    /// Goes through the sequences in which a row has a mark, as long as enough
-    /// of them can be left, and marks those in which a bit is left. How many can
-    /// have one.
-    #[inline(always)]
-    fn each(
+    /// The same of a row with few bits: in long sequences only the lines that have
+    /// one are looked at.
+    #[inline(never)]
+    pub fn keep_few(
         &mut self,
         from: &Row,
+        letter: &[u64],
+        i: usize,
         spans: &[Span],
-        mut possible: u32,
         quorum: u32,
-        mut keep: impl FnMut(&mut Row, Span) -> bool,
     ) -> u32 {
-        for (word, spans) in spans.chunks(64).enumerate() {
-            let (mut bits, mut found) = (from.marks[word], 0);
-            while bits != 0 {
-                if possible < quorum {
-                    return possible;
-                }
-                let bit = bits.trailing_zeros() as usize;
-                bits &= bits - 1;
-                let any = keep(self, spans[bit]);
-                found |= u64::from(any) << bit;
-                possible -= u32::from(!any);
+        self.few = true;
+        let (out, to) = (&mut self.words, &mut self.lines);
+        let marks = (&from.marks, &mut self.marks);
+        each(marks, spans, from.count(spans.len()), quorum, |span| {
+            let (words, told) = (span.words(), span.told());
+            let (row, letter) = (&from.words[words.clone()], &letter[words.clone()]);
+            let out = &mut out[words];
+            match span.is_long() {
+                true => keep_lines(
+                    row,
+                    &from.lines[told.clone()],
+                    letter,
+                    i,
+                    out,
+                    &mut to[told],
+                ),
+                false => keep(row, letter, i, out) != 0,
             }
-            self.marks[word] = found;
-        }
-        possible
+        })
     }
 
     /// The same where every sequence has one word. The quorum is looked at for
@@ -197,6 +183,33 @@ impl Row {
         }
         possible
     }
+}
+
+/// Goes through the sequences that have a mark, as long as enough of them can be
+/// left, and marks those in which a bit is left. How many can have one.
+#[inline(always)]
+fn each(
+    (marks, left): (&[u64; 16], &mut [u64; 16]),
+    spans: &[Span],
+    mut possible: u32,
+    quorum: u32,
+    mut keep: impl FnMut(Span) -> bool,
+) -> u32 {
+    for ((bits, left), spans) in marks.iter().zip(left).zip(spans.chunks(64)) {
+        let (mut bits, mut found) = (*bits, 0);
+        while bits != 0 {
+            if possible < quorum {
+                return possible;
+            }
+            let bit = bits.trailing_zeros() as usize;
+            bits &= bits - 1;
+            let any = keep(spans[bit]);
+            found |= u64::from(any) << bit;
+            possible -= u32::from(!any);
+        }
+        *left = found;
+    }
+    possible
 }
 
 /// One letter more in a sequence of several words, and all of them joined.
