@@ -37,6 +37,7 @@ const MEASURES: [(&str, fn()); 7] = [
 ];
 
 fn main() {
+    timing::keep_memory();
     let asked: Vec<String> = std::env::args().skip(1).collect();
     for (name, measure) in MEASURES {
         if asked.is_empty() || asked.iter().any(|asked| asked == name) {

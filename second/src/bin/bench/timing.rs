@@ -16,6 +16,23 @@ struct Timespec {
 
 extern "C" {
     fn clock_gettime(clock: i32, to: *mut Timespec) -> i32;
+    fn mallopt(what: i32, value: i32) -> i32;
+}
+
+/// glibc's M_TRIM_THRESHOLD and M_TOP_PAD: from how much on free memory is given
+/// back to the system, and how much more than is asked for it is asked for; and
+/// M_MMAP_THRESHOLD, from how much on memory is asked of it piece by piece.
+const KEPT: [(i32, i32); 3] = [(-1, 1 << 30), (-2, 8 << 20), (-3, 1 << 30)];
+
+/// Has memory kept that a program gives back. The library's tables are on a
+/// stack that is there; a Rust program's would be handed out by the system page
+/// by page at each call, and most of what a short leg takes would be that.
+pub fn keep_memory() {
+    for (what, value) in KEPT {
+        // SAFETY: it sets a number of the allocator's, and no other thread runs.
+        let set = unsafe { mallopt(what, value) };
+        assert_eq!(set, 1, "the allocator did not take {what}");
+    }
 }
 
 /// Linux's CLOCK_THREAD_CPUTIME_ID.
