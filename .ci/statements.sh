@@ -146,13 +146,13 @@ EOF
     cat <<EOF
 ## All definitions, by their sums
 
-The files of definitions of \`rules\`, of the crates with public calls, and of \`legs\` and \`records\`, over which two of them stand. They are
+The files of definitions of \`rules\`, of the crates with public calls, and of \`places\`, \`legs\` and \`records\`, over which they stand. They are
 what a reader must believe: those that are quoted above (without the lines that say where their words come from) and those that are not.
 
 | file | sum |
 |---|---|
 EOF
-    sums rules legs records recovery joins fasta exports motifs
+    sums rules places legs records recovery joins fasta exports motifs
     echo
 } >"$work/all"
 sed '$d' "$work/all" >"$work/page"

@@ -1,5 +1,5 @@
--- How far one start lies from the next: all that is used of `distance`. It grows with the gap, by as much; so there are as many distances as
--- the gap's range has numbers, and to follow within them is to keep that range.
+-- How far one start lies from the next: all that is used of `distance`, but by its own function and by facts. It grows with the gap, by
+-- as much; so there are as many distances as the gap's range has numbers, and to follow within them is to keep that range.
 use mathlib.Core.Path.{_≡_}
 use mathlib.Core.Logic.{_↔_}
 use Prim.Native.Nat.{ℕ, _+_, _-_, _≤_}

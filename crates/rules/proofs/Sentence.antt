@@ -4,7 +4,7 @@ use mathlib.Core.Path.{_≡_, refl, sym, ap, _∙_}
 use mathlib.Core.Bool.{true}
 use mathlib.Core.Logic.{_↔_, Iff·trans}
 use mathlib.Core.List.{List, [], _∷_}
-use Prim.Native.Nat.{ℕ, zero, suc, _+_, _<_}
+use Prim.Native.Nat.{ℕ, zero, suc, _<_}
 use native.Mathlib.Omega.{arith}
 use lib.ListN.{length, drop, getD}
 use borrow.Author.Tests.{eqb-true, eq-eqb}
@@ -15,32 +15,32 @@ use Rattle.rules.proofs.Apart.{follows-range}
 use Rattle.rules.proofs.Stands.{stands-fitting}
 
 -- the distances of a component's part, if the one before has n letters
-record Distances (n : ℕ) (c : Component) (near far : ℕ) : Type 0 where
+record Placed (n : ℕ) (c : Component) (near far : ℕ) : Type 0 where
   least : near ≡ distance n (c .low)
   most : far ≡ distance n (c .high)
 
-first-distances : (R : Reading) (n : ℕ) (cs : List Component) (w : List ℕ) → 0 < length (deal R n cs w)
-    → Distances n (getD cs 0 none) (nth (deal R n cs w) 0 .near) (nth (deal R n cs w) 0 .far)
+first-placed : (R : Reading) (n : ℕ) (cs : List Component) (w : List ℕ) → 0 < length (deal R n cs w)
+    → Placed n (getD cs 0 none) (nth (deal R n cs w) 0 .near) (nth (deal R n cs w) 0 .far)
 unfolding deal
-first-distances R n [] w l = absurd (omega arith)
-first-distances R n (c ∷ cs) [] l = absurd (omega arith)
-first-distances R n (c ∷ cs) (x ∷ w) l = record { least = refl; most = refl }
+first-placed R n [] w l = absurd (omega arith)
+first-placed R n (c ∷ cs) [] l = absurd (omega arith)
+first-placed R n (c ∷ cs) (x ∷ w) l = record { least = refl; most = refl }
 
 -- in every reading
-distances : (R : Reading) (n : ℕ) (cs : List Component) (w : List ℕ) (i : ℕ) → suc i < length (deal R n cs w)
-    → Distances (getD cs i none .length) (getD cs (suc i) none) (nth (deal R n cs w) (suc i) .near) (nth (deal R n cs w) (suc i) .far)
+placed : (R : Reading) (n : ℕ) (cs : List Component) (w : List ℕ) (i : ℕ) → suc i < length (deal R n cs w)
+    → Placed (getD cs i none .length) (getD cs (suc i) none) (nth (deal R n cs w) (suc i) .near) (nth (deal R n cs w) (suc i) .far)
 unfolding deal
-distances R n [] w i l = absurd (omega arith)
-distances R n (c ∷ cs) [] i l = absurd (omega arith)
-distances R n (c ∷ cs) (x ∷ w) zero l = first-distances R (c .length) cs (drop (c .length) (x ∷ w)) (omega arith)
-distances R n (c ∷ cs) (x ∷ w) (suc i) l = distances R (c .length) cs (drop (c .length) (x ∷ w)) i (omega arith)
+placed R n [] w i l = absurd (omega arith)
+placed R n (c ∷ cs) [] i l = absurd (omega arith)
+placed R n (c ∷ cs) (x ∷ w) zero l = first-placed R (c .length) cs (drop (c .length) (x ∷ w)) (omega arith)
+placed R n (c ∷ cs) (x ∷ w) (suc i) l = placed R (c .length) cs (drop (c .length) (x ∷ w)) i (omega arith)
 
 -- to follow within the distances is to keep the gap's range
 pub follows-gap : (R : Reading) (n : ℕ) (cs : List Component) (w : List ℕ) (i p q : ℕ) → suc i < length (deal R n cs w)
     → Follows (nth (deal R n cs w) (suc i) .near) (nth (deal R n cs w) (suc i) .far) p q
     ↔ Gap (getD cs i none .length) (getD cs (suc i) none .low) (getD cs (suc i) none .high) p q
 follows-gap R n cs w i p q l =
-    let d = distances R n cs w i l in
+    let d = placed R n cs w i l in
     rw (d .least, d .most) (follows-range (getD cs i none .length) (getD cs (suc i) none .low) (getD cs (suc i) none .high) p q)
 
 -- so many parts, with the same letters, however they are read

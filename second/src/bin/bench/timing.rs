@@ -22,7 +22,7 @@ extern "C" {
 /// glibc's M_TRIM_THRESHOLD and M_TOP_PAD: from how much on free memory is given
 /// back to the system, and how much more than is asked for it is asked for; and
 /// M_MMAP_THRESHOLD, from how much on memory is asked of it piece by piece.
-const KEPT: [(i32, i32); 3] = [(-1, 1 << 30), (-2, 8 << 20), (-3, 1 << 30)];
+const KEPT: [(i32, i32); 3] = [(-1, 1 << 30), (-2, 8 << 20), (-3, 1 << 25)];
 
 /// Has memory kept that a program gives back. The library's tables are on a
 /// stack that is there; a Rust program's would be handed out by the system page
