@@ -131,6 +131,18 @@ pub fn random(count: usize, letters: u64, shape: &[(u8, u16, u16)], quorum: u64)
     }
 }
 
+/// Long sequences that end within a line of eight words, and within a word: so
+/// many sequences of so many letters, and the shape.
+pub fn short_last_lines() -> [Search; 4] {
+    let six = [(6, 0, 0), (4, 0, 30)];
+    [
+        random(1, 64_900, &[(12, 0, 0)], 1),
+        random(3, 20_001, &six, 1),
+        random(7, 9_001, &six, 3),
+        random(7, 9_000, &[(6, 0, 0), (6, 0, 255)], 1),
+    ]
+}
+
 /// Searches of several shapes, with the steps that are taken of each.
 pub fn searches() -> [(&'static str, Search, u64); 11] {
     let three = [(3, 0, 0), (3, 0, 30), (3, 0, 30)];

@@ -25,7 +25,7 @@ impl<'a> Leg<'a> {
 /// A leg of the library, of bits and of positions. Each makes what it works in
 /// afresh: the library some 1.3 MiB on the stack, all of it cleared; bits its
 /// rows and its counts, as long as the set's sequences; positions its text, its
-/// lists and the counts beside them.
+/// lists and the counts beside them, in memory that is kept from leg to leg.
 pub fn legs<'a>(search: &'a Search, place: Place, budget: u64, room: usize) -> Vec<Leg<'a>> {
     let saved = linked::saved_at(search, place);
     let runs: Vec<Run> = vec![

@@ -1,9 +1,9 @@
 //! The library beside Rust programs, on the same inputs and in the same run:
-//! `bits`, which keeps rows of bits along the path as the library does, and
-//! `positions`, which keeps position lists; `passes`, which recovers by the
-//! library's own passes; and `reader`, which reads FASTA. Each is held to the
-//! library's answers before it is timed. And the library's mixed searches
-//! beside its exact ones. `second/bench.sh` runs it;
+//! `bits`, which keeps rows of bits along the path as the library does, and has
+//! means that the library has not; `positions`, which keeps position lists;
+//! `passes`, which recovers by the library's own passes; and `reader`, which
+//! reads FASTA. Each is held to the library's answers before it is timed. And
+//! the library's mixed searches beside its exact ones. `second/bench.sh` runs it;
 //! docs/BENCHMARKS.md says what is measured and how it is meant.
 
 mod bits;

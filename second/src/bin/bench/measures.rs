@@ -97,6 +97,10 @@ pub fn searches() {
     let names = ["search", "steps", "rows"];
     let rates = ["library, candidates / s", "bits", "positions"];
     title(&[names, rates, PAIRED].concat());
+    // Held to the same answers, and not timed.
+    for search in inputs::short_last_lines() {
+        agreed(&mut legs(&search, Place::FIRST, 50_000, 100_000));
+    }
     for (name, search, budget) in inputs::searches() {
         let mut legs = legs(&search, Place::FIRST, budget, 100_000);
         let went = agreed(&mut legs);
