@@ -7,10 +7,10 @@ use crate::sequences::Sequences;
 use crate::template::{Component, Template};
 use words::Words;
 
-// What things take, in nanoseconds, measured over sets of 65,536 letters as one
-// sequence, as 64, as 512 and as 1,024, all of the letter A, of which nothing is
-// passed over. On a machine that is half as fast they are twice as large, and so
-// is what a call takes at most.
+// What things take, in nanoseconds: measured over sets of 65,536 letters as one
+// sequence, as 64, as 512 and as 1,024, of one letter, of which nothing is passed
+// over, and of four; with some to spare. On a machine that is half as fast they
+// are twice as large, and so is what a call takes at most.
 
 /// A letter more: for the call of a candidate, for each sequence that has its
 /// prefix, and for each word of 64 places of those.
@@ -28,10 +28,11 @@ const ROW: f64 = 80.0;
 const PLACE: f64 = 1.3;
 
 /// The ways through a gap counted: for each place that is reached, for each
-/// sequence, and for each distance in a sequence.
-const WAY: f64 = 1.3;
-const WAYS_SEQUENCE: f64 = 12.0;
-const WAYS_DISTANCE: f64 = 2.3;
+/// sequence, for each distance, and for each that stays in a sequence.
+const WAY: f64 = 1.6;
+const WAYS_SEQUENCE: f64 = 15.0;
+const WAYS_DISTANCE: f64 = 0.6;
+const WAYS_INSIDE: f64 = 2.6;
 
 /// The places of a word of a row.
 const BITS: f64 = 64.0;
@@ -39,8 +40,9 @@ const BITS: f64 = 64.0;
 /// The letters of a sequence, which each candidate has that is longer by one.
 const BASES: f64 = 4.0;
 
-/// The letters of a mixed motif.
+/// The letters of a mixed motif, and the most bases that one stands for.
 const SYMBOLS: f64 = 14.0;
+const STANDS_FOR: f64 = 3.0;
 
 /// The candidates of so many letters: what one takes, and how many there can be.
 #[derive(Clone, Copy, Debug)]
@@ -71,7 +73,8 @@ impl Dearest {
     }
 
     /// For these letters: a prefix stands in no more sequences, and at no more
-    /// places, than the most frequent word that is as long as a part of it.
+    /// places, than the most frequent word that is as long as a part of it; or
+    /// than that so many times as there are words that a mixed part stands for.
     pub fn of_letters(sequences: &Sequences, template: &Template) -> Dearest {
         Dearest::with(&Words::counted(sequences), template)
     }
@@ -95,9 +98,7 @@ impl Dearest {
                 gap = 0.0;
                 most *= letters(component);
                 dearest.depths.push(Depth { cost, most });
-                if component.allowance == 0 {
-                    marked = marked.min(words.sequences(letter));
-                }
+                marked = marked.min(words.sequences(letter) * spelled(component, letter));
             }
         }
         if let Some(last) = template.components.last() {
@@ -112,13 +113,16 @@ impl Dearest {
     /// What a call takes at most, in nanoseconds.
     pub fn call(&self, steps: u64, rows: u64) -> f64 {
         let (steps, rows) = (steps as f64, rows as f64);
-        let (mut left, mut cost) = (steps, self.opened);
+        // Of a path's gaps, one may be opened as the call begins, and one for
+        // prefixes whose longer ones come in the next call.
+        let (mut left, mut cost) = (steps, 2.0 * self.opened);
         for depth in &self.depths {
             let here = left.min(depth.most);
             cost += here * depth.cost;
             left -= here;
         }
-        cost + rows * self.row + rows.min(steps / self.apart + 1.0) * self.ways
+        // The first prefix and the last may be of other calls too.
+        cost + rows * self.row + rows.min(steps / self.apart + 2.0) * self.ways
     }
 }
 
@@ -138,19 +142,25 @@ fn counted(words: &Words, marked: f64, before: &Component, component: &Component
     let span = span(component);
     // The words that the places behind a start can lie in.
     let reached = places(words, marked, before) * (((span - 1.0) / BITS).ceil() + 1.0);
-    let distances = span.min(words.letters_of_longest());
-    WAY * BITS * reached.min(words.longest(marked))
-        + marked * (WAYS_SEQUENCE + WAYS_DISTANCE * distances)
+    let inside = span.min(words.letters_of_longest());
+    // The row of the component before is made again.
+    examined(words, marked)
+        + WAY * BITS * reached.min(words.longest(marked))
+        + marked * (WAYS_SEQUENCE + WAYS_DISTANCE * span + WAYS_INSIDE * inside)
 }
 
 /// The places at which a component can stand.
 fn places(words: &Words, marked: f64, component: &Component) -> f64 {
-    let all = BITS * words.longest(marked);
-    if component.allowance == 0 {
-        all.min(words.places(component.length))
-    } else {
-        all
-    }
+    let letters = component.length;
+    let most = (1..=letters).map(|n| words.places(n) * spelled(component, n));
+    most.fold(BITS * words.longest(marked), f64::min)
+}
+
+/// How many words the first letters of a component can stand for, of so many as
+/// words are counted by.
+fn spelled(component: &Component, letters: u64) -> f64 {
+    let several = component.allowance.min(letters).min(words::LONGEST as u64);
+    STANDS_FOR.powi(several as i32)
 }
 
 /// The letters that may stand at a place of a component.
@@ -170,8 +180,10 @@ fn span(component: &Component) -> f64 {
 #[cfg(test)]
 mod tests {
     use super::Dearest;
+    use crate::processor;
     use crate::sequences::Sequences;
     use crate::template::Template;
+    use library::limits;
 
     const SHAPE: &str = "NNNN[0,30]NNNN[0,30]NN";
 
@@ -207,8 +219,15 @@ mod tests {
         assert!(ratio(&words, None) < 0.9, "{}", ratio(&words, None));
         let words = set(1_024, 64, b"ACGT");
         assert!(ratio(&words, None) < 0.4, "{}", ratio(&words, None));
-        // A letter that stands for several bases is no word's.
-        assert!(ratio(&words, Some("1")) > 0.999);
+        // A letter that stands for several bases is three words' at most, and
+        // four of them are as much as all.
+        assert!(
+            ratio(&words, Some("1")) < 0.8,
+            "{}",
+            ratio(&words, Some("1"))
+        );
+        assert!(ratio(&words, Some("1")) > 2.0 * ratio(&words, None));
+        assert!(ratio(&words, Some("4,4,2")) > 0.9);
         // One word is all there is.
         let one = ratio(&set(64, 1_024, b"A"), None);
         assert!(one > 0.99 && one <= 1.0, "{one}");
@@ -229,8 +248,42 @@ mod tests {
         let set = set(64, 1_024, b"A");
         let dearest = Dearest::of_lengths(&set, &template(None));
         let more = |steps, rows| dearest.call(steps, rows + 1) - dearest.call(steps, rows);
-        // Two letters are eight steps at least: in 80, eleven counts.
-        assert!(more(80, 10) > dearest.ways);
-        assert!(more(80, 11) < dearest.ways);
+        // Two letters are eight steps at least: in 80, twelve counts.
+        assert!(more(80, 11) > dearest.ways);
+        assert!(more(80, 12) < dearest.ways);
+    }
+
+    /// Legs of the library that are as dear as can be take what was reckoned,
+    /// or some times that on a slower machine: it is of the right order.
+    #[test]
+    fn the_library_takes_what_was_reckoned() {
+        for (records, letters) in [(1, 65_536), (64, 1_024), (1_024, 64)] {
+            let set = set(records, letters, b"ACGT");
+            let template = Template::read("N[0,255]N[0,255]N[0,255]N", None).expect("one");
+            let dearest = Dearest::of_letters(&set, &template);
+            let mut saved = vec![0; limits::SAVED_MOST];
+            let (letters, lengths) = (&set.letters, &set.lengths);
+            let begun = library::begin(letters, lengths, template.lent(), 1, &mut saved);
+            saved.truncate(begun.expect("a search"));
+            let mut ratios = Vec::new();
+            for _ in 0..4 {
+                let (mut motifs, mut supports, mut weights) = ([0; 50], [0; 50], [0; 50]);
+                let begun = processor::time();
+                let leg = library::leg(
+                    letters,
+                    lengths,
+                    &mut saved,
+                    60,
+                    &mut motifs,
+                    &mut supports,
+                    &mut weights,
+                )
+                .expect("a leg");
+                let took = processor::time().saturating_sub(begun).as_secs_f64() * 1e9;
+                ratios.push(took / dearest.call(leg.steps, leg.rows as u64));
+            }
+            ratios.sort_by(f64::total_cmp);
+            assert!(ratios[1] > 0.05 && ratios[1] < 2.5, "{records}: {ratios:?}");
+        }
     }
 }

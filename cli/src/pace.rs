@@ -11,11 +11,12 @@ use std::time::Duration;
 const CALL: f64 = 0.010;
 
 /// A call makes its tables and the rows along its place anew: in most searches
-/// that takes 0.05 to 0.2 ms, by the letters of the set and of the place. It is
-/// to be no more than one part in so many of what a call takes.
+/// that takes 0.05 to 0.1 ms, by the letters of the set and of the place, and up
+/// to 0.5 ms where many sequences have wide gaps. It is to be no more than one
+/// part in so many of what a call takes.
 const PARTS: f64 = 100.0;
 
-/// Every so many calls one is asked for a single step, to see what a start takes.
+/// Every so many calls one is asked for no step, to see what a start takes.
 const LOOK: u64 = 32;
 
 /// What a call may take, in nanoseconds, if all of its steps and rows were the
@@ -81,7 +82,7 @@ impl Pace {
     /// What the next call is asked for.
     pub fn ask(&mut self, sequences: &Sequences, template: &Template) -> Ask {
         if self.looks() {
-            return Ask { steps: 1, rows: 1 };
+            return Ask { steps: 0, rows: 1 };
         }
         let asked = self.most();
         if self.counted || asked.steps == self.wanted {
@@ -125,7 +126,7 @@ impl Pace {
         let (looked, took) = (self.looks(), took.as_secs_f64().max(1e-9));
         self.calls += 1;
         if looked {
-            self.start = (took - self.cost).max(0.0);
+            self.start = took;
             return;
         }
         // Of a short call the start is most, and may have been longer.

@@ -4,7 +4,7 @@ use crate::sequences::Sequences;
 
 /// The longest words that are counted: of those there are 65,536. A longer one
 /// is no more frequent than its first letters are.
-const LONGEST: usize = 8;
+pub const LONGEST: usize = 8;
 
 /// By the letters of a word, up to the longest, what its most frequent one has;
 /// and how long the sequences are.
@@ -134,9 +134,9 @@ mod tests {
     fn the_most_frequent_words_are_counted() {
         let words = Words::counted(&set(">a\nAAAC\n>b\nAAC\n>c\nTC\n>d\n"));
         assert!(is(words.all(), 4));
-        // A and C are in three sequences or two; A stands at five places.
+        // C is in three sequences; A stands at five places.
         assert_eq!((words.sequences(1), words.places(1)), (3.0, 5.0));
-        // AA: aa, aa, aa; AC: one each.
+        // AA and AC are in two; AA stands at three places.
         assert_eq!((words.sequences(2), words.places(2)), (2.0, 3.0));
         // AAC is in both.
         assert_eq!((words.sequences(3), words.places(3)), (2.0, 2.0));

@@ -12,8 +12,8 @@ use std::fs;
 /// A folder in which a new job may be begun: an empty one, or one that a
 /// program left that was killed before its first save. That has a lock which
 /// says so, and is made first, plain files, and no rows yet: what only has the
-/// same names is not written over. Where there is a job, it is told how to go
-/// on with it, and write its table out where it was to go.
+/// same names is not written over. Where there is a job, the user is told
+/// how to go on with it and have its table where it was to go.
 pub fn may_begin(folder: &Folder, out: &Out) -> Answer<()> {
     let called = folder.path.display();
     let mut names = Vec::new();
