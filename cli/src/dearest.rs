@@ -14,22 +14,27 @@ use words::Words;
 
 /// A letter more: for the call of a candidate, for each sequence that has its
 /// prefix, and for each word of 64 places of those.
-const STEP: f64 = 60.0;
-const SEQUENCE: f64 = 4.5;
-const WORD: f64 = 0.65;
+const STEP: f64 = 55.0;
+const SEQUENCE: f64 = 4.0;
+const WORD: f64 = 0.5;
 
 /// A gap opened: for each round of doubling, and two besides, for each sequence
 /// and each word.
-const OPEN_SEQUENCE: f64 = 8.0;
-const OPEN_WORD: f64 = 0.5;
+const OPEN_SEQUENCE: f64 = 7.0;
+const OPEN_WORD: f64 = 0.42;
+
+/// The same in a set whose sequences have one word each, over which the library
+/// goes more quickly: for each sequence, its word and all.
+const SHORT_SEQUENCE: f64 = 1.7;
+const SHORT_OPEN: f64 = 1.1;
 
 /// A row, and for each place where its last component stands.
-const ROW: f64 = 80.0;
-const PLACE: f64 = 1.3;
+const ROW: f64 = 70.0;
+const PLACE: f64 = 1.2;
 
 /// The ways through a gap counted: for each place that is reached, for each
 /// sequence, for each distance, and for each that stays in a sequence.
-const WAY: f64 = 1.6;
+const WAY: f64 = 1.3;
 const WAYS_SEQUENCE: f64 = 15.0;
 const WAYS_DISTANCE: f64 = 0.6;
 const WAYS_INSIDE: f64 = 2.6;
@@ -128,12 +133,18 @@ impl Dearest {
 
 /// What a candidate takes whose prefix stands in so many sequences.
 fn examined(words: &Words, marked: f64) -> f64 {
+    if words.short() {
+        return STEP + SHORT_SEQUENCE * marked;
+    }
     STEP + SEQUENCE * marked + WORD * words.longest(marked)
 }
 
 /// What it takes to open the gap before a component.
 fn opened(words: &Words, marked: f64, component: &Component) -> f64 {
     let rounds = span(component).log2().ceil() + 2.0;
+    if words.short() {
+        return rounds * SHORT_OPEN * marked;
+    }
     rounds * (OPEN_SEQUENCE * marked + OPEN_WORD * words.longest(marked))
 }
 

@@ -77,6 +77,11 @@ impl Words {
         self.longest[sequences as usize]
     }
 
+    /// Whether no sequence has more than one word of 64 places.
+    pub fn short(&self) -> bool {
+        self.letters_of_longest <= 64.0
+    }
+
     /// The letters of the longest sequence.
     pub fn letters_of_longest(&self) -> f64 {
         self.letters_of_longest
