@@ -66,7 +66,7 @@ def respelt(name):
         return name
     if re.fullmatch(r"[A-Z][a-z]+(-[a-z]+)+", name) and name in FACTS:
         return "".join(w.capitalize() for w in name.split("-"))
-    return name.lower().replace("-", "_")
+    return name.replace("SequenceSet", "sequence_set").lower().replace("-", "_")
 
 
 FACTS = {"Leads-to", "Led-to", "Added-to"}

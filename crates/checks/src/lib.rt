@@ -1,6 +1,8 @@
 // An inner crate: what a call refuses, each check by its number in the paper, and the orders in which the calls check. Every
 // check is total, so that an order may make all of them and keep the first that applies; but what is long is read only where
 // nothing was refused before.
+#![tactic(auto)]
+
 pub mod spelled;
 
 ghost use Rattle.std.specs.Prelude.{◌≡◌, ℕ, ◌+◌, ltb, length};

@@ -13,7 +13,7 @@ use borrow.Author.Tests.{le-leb, lt-leb, ltb-true, ltb-false}
 use Rattle.descent.specs.Buffer.{Buffer, emits, with_front}
 use Rattle.descent.specs.Paths.{flag, Unflagged, paths, handed}
 use Rattle.descent.proofs.Buffer.{emits_append, with_front_none, with_front_append}
-use Rattle.rules.specs.Limits.{sequenceset_letters}
+use Rattle.rules.specs.Limits.{sequence_set_letters}
 use Rattle.rules.specs.Lists.{run, each}
 use Rattle.rules.specs.Occurrence.{reach}
 use Rattle.rules.specs.Template.{distance}
@@ -24,7 +24,7 @@ use Rattle.rules.proofs.Lists.{each_append, run_append}
 
 module _ (n : ℕ) (flags : List ℕ) (c p : ℕ) where
   -- of a position that the sequence has
-  pub flag_in : 1 ≤ p → p ≤ n → flag n flags c p ≡ eqb (get_or flags (c * sequenceset_letters + (p - 1)) 0) 1
+  pub flag_in : 1 ≤ p → p ≤ n → flag n flags c p ≡ eqb (get_or flags (c * sequence_set_letters + (p - 1)) 0) 1
   unfolding flag
   flag_in h l = rw (le-leb 1 p h, le-leb p n l)
 

@@ -2,7 +2,7 @@
 -- components from that one on starts there.
 use Rattle.std.specs.Prelude.{Bool, false, ◌&&◌, List, [], ◌∷◌, map, ◌≡◌, ℕ, suc, ◌+◌, ◌-◌, ◌*◌, ◌≤◌, ◌<◌, leb, eqb, length, take, drop, get_or}
 use Rattle.descent.specs.Buffer.{Buffer, emits, with_front}
-use Rattle.rules.specs.Limits.{sequenceset_letters}
+use Rattle.rules.specs.Limits.{sequence_set_letters}
 use Rattle.rules.specs.Lists.{run, if, each, has_some}
 use Rattle.rules.specs.Occurrence.{reach, starts}
 use Rattle.rules.specs.Template.{Part, none, slots, components, distance, after}
@@ -12,7 +12,7 @@ use Rattle.rules.specs.declared.Template.{Template}
 
 -- the flag of component c, from 0, at position p of a sequence of n letters. Each component has room for the longest sequence
 unfoldable pub flag : ℕ → List ℕ → ℕ → ℕ → Bool
-flag n flags c p = leb 1 p && leb p n && eqb (get_or flags (c * sequenceset_letters + (p - 1)) 0) 1
+flag n flags c p = leb 1 p && leb p n && eqb (get_or flags (c * sequence_set_letters + (p - 1)) 0) 1
 
 -- no position from a up to b has one
 abbrev pub Unflagged : ℕ → List ℕ → ℕ → ℕ → ℕ → Type 0

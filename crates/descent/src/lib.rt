@@ -1,9 +1,11 @@
 // The descent of a recovery: from flags that say where a component can start with the rest after it, every occurrence in a
 // sequence, as rows in a lent buffer. An inner crate: its functions require what the checks and the flags' maker show.
+#![tactic(auto)]
+
 ghost use Rattle.std.specs.Prelude.{true, ◌&&◌, [], ◌∷◌, ◌++◌, ◌≡◌, min, ◌+◌, ◌-◌, ◌*◌, ◌≤◌, ◌<◌, leb, ltb, length, take, drop, get_or};
 ghost use Rattle.descent.specs.Buffer.{buffer, InBuffer, emit};
 ghost use Rattle.descent.specs.Paths.{flag, Unflagged, paths, next_apart, handed, listed_rows, WaysCounted};
-ghost use Rattle.rules.specs.Limits.{sequenceset_letters, sequenceset_sequences, template_components};
+ghost use Rattle.rules.specs.Limits.{sequence_set_letters, sequence_set_sequences, template_components};
 ghost use Rattle.rules.specs.Sound.{SoundTemplate};
 ghost use Rattle.rules.specs.Template.{components, none};
 
@@ -13,7 +15,7 @@ use rules::{Position, SequenceNumber, SequenceSet, Template, least};
 const ROW: usize = Template::COMPONENTS as usize + 1;
 
 // How far the rows have come: those still to pass over, those written, and the numbers written.
-#[derive(Drop)]
+#[derive(Clone, Copy)]
 pub struct Progress {
     pub skip: u64,
     pub rows: usize,
@@ -80,8 +82,8 @@ fn full(done: Progress, width: usize, room: usize) -> bool
 
 // Whether a component can start at a position, with the rest after it.
 fn can_start(flags: &[u8], component: usize, at: Position, letters: usize) -> bool
-    requires component_bound { (component < template_components) × (1 ≤ at.0) × (at.0 ≤ letters) × (letters ≤ sequenceset_letters) }
-    requires flags_len { length flags.now ≡ template_components * sequenceset_letters }
+    requires component_bound { (component < template_components) × (1 ≤ at.0) × (at.0 ≤ letters) × (letters ≤ sequence_set_letters) }
+    requires flags_len { length flags.now ≡ template_components * sequence_set_letters }
     ensures { result ≡ flag letters flags.now component at.0 }
 {
     let i = component * SequenceSet::LETTERS + (at.0 - 1);
@@ -90,8 +92,8 @@ fn can_start(flags: &[u8], component: usize, at: Position, letters: usize) -> bo
 
 // The first position from `from` on and below `end` at which a component can start; `end` or a later one where there is none.
 fn seek(flags: &[u8], component: usize, from: Position, end: Position, letters: usize) -> Position
-    requires component_bound { (component < template_components) × (1 ≤ from.0) × (end.0 ≤ letters + 1) × (letters ≤ sequenceset_letters) }
-    requires flags_len { length flags.now ≡ template_components * sequenceset_letters }
+    requires component_bound { (component < template_components) × (1 ≤ from.0) × (end.0 ≤ letters + 1) × (letters ≤ sequence_set_letters) }
+    requires flags_len { length flags.now ≡ template_components * sequence_set_letters }
     ensures from_le_result { (from.0 ≤ result.0) × Unflagged letters flags.now component from.0 result.0 }
     ensures result_value { result.0 < end.0 → flag letters flags.now component result.0 ≡ true }
 {
@@ -107,7 +109,7 @@ fn seek(flags: &[u8], component: usize, from: Position, end: Position, letters: 
 }
 
 // Positions from one up to another, which is not one of them.
-#[derive(Drop)]
+#[derive(Clone, Copy)]
 struct Span {
     from: Position,
     end: Position,
@@ -116,7 +118,7 @@ struct Span {
 // Where the component after one may start if that starts at a position of a sequence of so many letters.
 fn next_starts(template: Template, component: usize, at: Position, letters: usize) -> Span
     requires sound_template { SoundTemplate template }
-    requires component_bound { (component + 1 < template.count) × (at.0 ≤ sequenceset_letters) × (letters ≤ sequenceset_letters) }
+    requires component_bound { (component + 1 < template.count) × (at.0 ≤ sequence_set_letters) × (letters ≤ sequence_set_letters) }
     ensures from_value { result.from.0 ≡ at.0 + (next_apart template component).near }
     ensures end_value { result.end.0 ≡ min (letters + 1) (result.from.0 + (next_apart template component).count) }
 {
@@ -143,8 +145,8 @@ fn list_last(
     done: Progress,
     out: &mut [u32],
 ) -> Progress
-    requires component_bound { (component < template_components) × (1 ≤ starts.from.0) × (starts.end.0 ≤ letters + 1) × (letters ≤ sequenceset_letters) }
-    requires row_len { (length row ≡ template_components + 1) × (length flags.now ≡ template_components * sequenceset_letters) }
+    requires component_bound { (component < template_components) × (1 ≤ starts.from.0) × (starts.end.0 ≤ letters + 1) × (letters ≤ sequence_set_letters) }
+    requires row_len { (length row ≡ template_components + 1) × (length flags.now ≡ template_components * sequence_set_letters) }
     requires in_buffer { InBuffer done (length out.old) }
     ensures in_buffer_2 { InBuffer result (length out.new) }
     ensures out_after { buffer result out.new ≡ handed (none ∷ []) letters flags.now row component starts.from.0 starts.end.0 (buffer done out.old) }
@@ -176,8 +178,8 @@ fn descend(
     out: &mut [u32],
 ) -> Progress
     requires sound_template { SoundTemplate template }
-    requires component_lt_count { (component < template.count) × (1 ≤ starts.from.0) × (starts.end.0 ≤ letters + 1) × (letters ≤ sequenceset_letters) }
-    requires row_len { (length row ≡ template_components + 1) × (length flags.now ≡ template_components * sequenceset_letters) }
+    requires component_lt_count { (component < template.count) × (1 ≤ starts.from.0) × (starts.end.0 ≤ letters + 1) × (letters ≤ sequence_set_letters) }
+    requires row_len { (length row ≡ template_components + 1) × (length flags.now ≡ template_components * sequence_set_letters) }
     requires in_buffer { InBuffer done (length out.old) }
     ensures in_buffer_2 { InBuffer result (length out.new) }
     ensures out_after { buffer result out.new ≡ handed (drop component (components template)) letters flags.now row component starts.from.0 starts.end.0 (buffer done out.old) }
@@ -217,8 +219,8 @@ fn list_start(
     out: &mut [u32],
 ) -> Progress
     requires sound_template { SoundTemplate template }
-    requires le_at { (1 ≤ at.0) × (at.0 ≤ letters) × (letters ≤ sequenceset_letters) × (letters ≤ length ways.now) }
-    requires row_len { (length row ≡ template_components + 1) × (length flags.now ≡ template_components * sequenceset_letters) }
+    requires le_at { (1 ≤ at.0) × (at.0 ≤ letters) × (letters ≤ sequence_set_letters) × (letters ≤ length ways.now) }
+    requires row_len { (length row ≡ template_components + 1) × (length flags.now ≡ template_components * sequence_set_letters) }
     requires in_buffer { InBuffer done (length out.old) }
     requires at_value { get_or ways.now (at.0 - 1) 0 ≡ length (paths letters flags.now (components template) 0 at.0) }
     ensures in_buffer_2 { InBuffer result (length out.new) }
@@ -253,8 +255,8 @@ pub fn list_starts(
     out: &mut [u32],
 ) -> Progress
     requires sound_template { SoundTemplate template }
-    requires number_bound { (number.0 ≤ sequenceset_sequences) × (letters ≤ sequenceset_letters) × (letters ≤ length ways.now) }
-    requires flags_len { length flags.now ≡ template_components * sequenceset_letters }
+    requires number_bound { (number.0 ≤ sequence_set_sequences) × (letters ≤ sequence_set_letters) × (letters ≤ length ways.now) }
+    requires flags_len { length flags.now ≡ template_components * sequence_set_letters }
     requires in_buffer { InBuffer done (length out.old) }
     requires ways_counted { WaysCounted letters flags.now (components template) ways.now }
     ensures in_buffer_2 { InBuffer result (length out.new) }

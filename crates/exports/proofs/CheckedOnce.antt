@@ -64,7 +64,7 @@ module _ (letters lengths bs : List ℕ) (s : Search) (e : gives s ≡ read_rule
 
   -- and the save restores exactly if it passes all that a leg checks
   restores_by : restore_rule letters lengths bs ≡ unless (first (search_checks letters lengths s)) s
-  restores_by = records.left-to-13 letters lengths bs s e ∙ ap (λ v. unless v s) (places.left-to-13 letters lengths s (sym read_before) refl)
+  restores_by = records.left_to_13 letters lengths bs s e ∙ ap (λ v. unless v s) (places.left_to_13 letters lengths s (sym read_before) refl)
 
   module _ (budget : ℕ) (motifs supports weights : List ℕ) where
     -- the template stays, whether the leg is refused or not

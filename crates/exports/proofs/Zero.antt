@@ -12,7 +12,7 @@ use Rattle.rules.specs.Fasta.{Line, Entry, has_no_room, size_of, has_text_first,
 use Rattle.rules.specs.Support.{valid}
 use Rattle.rules.specs.Calls.{on_refusal, begun, unless, written_unless, save_rule, restore_rule, recover_rule, join_rule}
 use Rattle.rules.specs.Join.{is_rising}
-use Rattle.rules.specs.Limits.{profile_last, template_components, template_length, sequenceset_sequences, sequenceset_letters}
+use Rattle.rules.specs.Limits.{profile_last, template_components, template_length, sequence_set_sequences, sequence_set_letters}
 use Rattle.rules.specs.Lists.{if, keep, has_some, sum}
 use Rattle.rules.specs.Recovery.{whole_list}
 use Rattle.rules.specs.Refusals.{◌else◌, first, first_bad, outside, bad_range, bad_allowance, is_passing, check1, check2, check3, check4, check5, check6, check7, check8, check9, check10, check11, check12, check13, check14, check15, check6_head, check8_range, check16, check17, check21, check22, check23, check24, set_checks, new_checks, restore_checks, value_checks, search_checks, save_checks, recover_checks, join_checks}
@@ -74,7 +74,7 @@ both_numbered (u ∷ us) vs h k = (h.0, both_numbered us vs h.1 k)
 -- the checks of each call
 set_numbered : (letters lengths : List ℕ) → AllNumbered (set_checks letters lengths)
 unfolding check1 check2 check3 check4
-set_numbered letters lengths = (if_numbered (outside 1 sequenceset_sequences (length lengths)) 1 0 (omega arith), (if_numbered (ltb sequenceset_letters (length letters)) 2 0 (omega arith), (if_numbered (not (eqb (sum lengths) (length letters))) 3 0 (omega arith), (bad_numbered 4 _ 0 letters (omega arith), tt))))
+set_numbered letters lengths = (if_numbered (outside 1 sequence_set_sequences (length lengths)) 1 0 (omega arith), (if_numbered (ltb sequence_set_letters (length letters)) 2 0 (omega arith), (if_numbered (not (eqb (sum lengths) (length letters))) 3 0 (omega arith), (bad_numbered 4 _ 0 letters (omega arith), tt))))
 
 template_numbered : (t : Template) → Numbered (check5 t) × (Numbered (check6 t) × (Numbered (check7 t) × (Numbered (check8 t) × Numbered (check24 t))))
 unfolding check5 check6 check7 check8 check24

@@ -2,6 +2,8 @@
 // as its saved bytes, and a template as its profile, 0 or 1, its number of components, its shape: length, low and high of each slot in
 // turn, of which there are six, and the allowance of each; what is past the end of a shape or of the allowances is 0. Each answers 0, or
 // the number of the refusal with its place in `place`; in a refusal all counts are 0, and numbers that a call moves on stay.
+#![tactic(auto)]
+
 mod chain;
 mod shape;
 mod told;

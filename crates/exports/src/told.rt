@@ -7,7 +7,7 @@ ghost use Rattle.rules.specs.Told.{refusal_number, refusal_place, told_saved, to
 use rules::{Begun, Handed, Joined, Leg, LegAnswer, Recovered, Refusal, Saved};
 
 // A save's bytes, or a join's positions.
-#[derive(Drop)]
+#[derive(Clone, Copy)]
 pub struct Count {
     pub number: u64,
     pub place: u64,
@@ -59,7 +59,7 @@ impl Count {
 }
 
 // A recovery's rows and the length of its whole list.
-#[derive(Drop)]
+#[derive(Clone, Copy)]
 pub struct Page {
     pub number: u64,
     pub place: u64,
@@ -90,7 +90,7 @@ impl Page {
 }
 
 // Why a leg stopped (ended 1, spent 2, full 3), its steps and its rows.
-#[derive(Drop)]
+#[derive(Clone, Copy)]
 pub struct Stopped {
     pub number: u64,
     pub place: u64,
@@ -141,7 +141,7 @@ impl Stopped {
 }
 
 // A search, but for the shape of its template and the allowances.
-#[derive(Drop)]
+#[derive(Clone, Copy)]
 pub struct Restored {
     pub number: u64,
     pub place: u64,
@@ -192,7 +192,7 @@ impl Restored {
 }
 
 // A record of a FASTA file: 1 where one was found, where its name starts and ends in the file, and how many letters it has.
-#[derive(Drop)]
+#[derive(Clone, Copy)]
 pub struct Found {
     pub number: u64,
     pub place: u64,

@@ -1,5 +1,7 @@
 // FASTA: a reader over a lent file, which hands out one record after another. It holds the file and a cursor; the work is done by
 // `next_at`, which takes a plain slice and a cursor, so that each function over the struct is a few lines.
+#![tactic(auto)]
+
 mod lines;
 mod record;
 
@@ -13,7 +15,7 @@ use record::hand_out;
 use rules::{FileRefusal, Handed, Name};
 
 // What a call of the reader hands out, and where the reader stands then.
-#[derive(Drop)]
+#[derive(Clone, Copy)]
 pub struct Step {
     pub handed: Handed,
     pub at: usize,
@@ -61,7 +63,7 @@ pub fn name(file: &[u8], name: Name) -> &[u8]
 }
 
 // A reader: the file, and the cursor, an offset in it.
-#[derive(Drop)]
+#[derive(Clone, Copy)]
 pub struct Reader<'a> {
     pub file: &'a [u8],
     pub at: usize,

@@ -6,7 +6,7 @@ ghost use Rattle.fasta.specs.Scanned.{file_part, LineAt, FirstLine};
 use text::pieces::find;
 
 // A line: where it starts, where its text ends, and where what follows it begins.
-#[derive(Drop)]
+#[derive(Clone, Copy)]
 pub(crate) struct Line {
     pub start: usize,
     pub end: usize,

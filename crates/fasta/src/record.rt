@@ -14,7 +14,7 @@ use text::read::copy_part;
 
 // A record's lines: how many bytes they have, where the first of them stands that is no letter (the file's end where there is
 // none), and where the next record begins.
-#[derive(Drop)]
+#[derive(Clone, Copy)]
 struct Body {
     size: usize,
     bad: usize,

@@ -10,7 +10,7 @@ use lib.ListN.{length, drop, get_or, drop_of_length-le}
 use lib.Seq.{drop-cons}
 use borrow.Author.Tests.{ltb-true, leb-true}
 use Rattle.rules.specs.Join.{is_rising}
-use Rattle.rules.specs.Limits.{sequenceset_letters}
+use Rattle.rules.specs.Limits.{sequence_set_letters}
 use Rattle.rules.proofs.Tests.{both}
 use Rattle.joins.specs.Pass.{is_following}
 
@@ -31,15 +31,15 @@ module _ (xs : List ℕ) (last i : ℕ) where
   rises_end h = rw (drop_of_length-le xs {i = i} h)
 
 -- a list that rises, taken apart
-rising_parts : (last p : ℕ) (ps : List ℕ) → is_rising last (p ∷ ps) ≡ true → (last < p) × (p ≤ sequenceset_letters) × (is_rising p ps ≡ true)
+rising_parts : (last p : ℕ) (ps : List ℕ) → is_rising last (p ∷ ps) ≡ true → (last < p) × (p ≤ sequence_set_letters) × (is_rising p ps ≡ true)
 unfolding is_rising
 rising_parts last p ps r =
     let t = (both (is_following last p) (is_rising p ps)).0 r in
-    let s = (both (ltb last p) (leb p sequenceset_letters)).0 t.0 in
+    let s = (both (ltb last p) (leb p sequence_set_letters)).0 t.0 in
     (ltb-true _ _ s.0, leb-true _ _ s.1, t.1)
 
 -- every position of a list that rises is above the one that it rises from, and none is past the last letter
-pub rising_at : (last : ℕ) (xs : List ℕ) → is_rising last xs ≡ true → (i : ℕ) → i < length xs → (last < get_or xs i 0) × (get_or xs i 0 ≤ sequenceset_letters)
+pub rising_at : (last : ℕ) (xs : List ℕ) → is_rising last xs ≡ true → (i : ℕ) → i < length xs → (last < get_or xs i 0) × (get_or xs i 0 ≤ sequence_set_letters)
 rising_at last [] r i h = absurd (omega arith)
 rising_at last (p ∷ ps) r zero h = let t = rising_parts last p ps r in (t.0, t.1)
 rising_at last (p ∷ ps) r (suc i) h =

@@ -1,7 +1,7 @@
 -- What the inner functions of a join ask and promise.
 use Rattle.std.specs.Prelude.{Bool, ◌&&◌, List, ℕ, ◌≤◌, ◌<◌, leb, ltb, length, get_or}
 use Rattle.rules.specs.Join.{partners}
-use Rattle.rules.specs.Limits.{sequenceset_letters}
+use Rattle.rules.specs.Limits.{sequence_set_letters}
 use Rattle.rules.specs.Lists.{has_some}
 use Rattle.rules.specs.Refusals.{first, join_checks}
 use Rattle.rules.specs.Told.{Verdict}
@@ -12,7 +12,7 @@ verdict xs ys head low high out = first (join_checks xs ys head low high out)
 
 -- a position that may come after another in a list
 abbrev pub is_following : ℕ → ℕ → Bool
-is_following last p = ltb last p && leb p sequenceset_letters
+is_following last p = ltb last p && leb p sequence_set_letters
 
 -- the first n of a list lie before a position
 abbrev pub LieBefore : List ℕ → ℕ → ℕ → Type 0

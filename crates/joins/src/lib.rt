@@ -1,5 +1,7 @@
 // The positional join: of two lists of positions, those of the first that have a partner in the second. `join` is the public
 // call; the others are its parts.
+#![tactic(auto)]
+
 ghost use Rattle.std.specs.Prelude.{◌≡◌, ◌+◌, ◌≤◌, ◌<◌, length, set};
 ghost use Rattle.rules.specs.Calls.{join_rule};
 ghost use Rattle.rules.specs.Join.{is_rising, partnered};

@@ -70,9 +70,9 @@ module _ (W : Walk) (budget room : ℕ) (p : Place) (support weight : ℕ → �
             steps = omega arith;
             rows = f.rows;
             counted = f.counted;
-            motifs_hold = f.motifs-hold;
-            supports_hold = f.supports-hold;
-            weights_hold = f.weights-hold;
+            motifs_hold = f.motifs_hold;
+            supports_hold = f.supports_hold;
+            weights_hold = f.weights_hold;
           }
 
       -- a motif, whose row is written
@@ -89,10 +89,10 @@ module _ (W : Walk) (budget room : ℕ) (p : Place) (support weight : ℕ → �
             steps = omega arith;
             rows = omega arith;
             counted = rw length-append (omega (arith, f.counted));
-            motifs_hold = em ∙ column motifs f.listed motifs₀ q.number f.motifs-hold f.counted lm;
-            supports_hold = es ∙ column supports (map support f.listed) supports₀ (support q.number) f.supports-hold (length-map f.listed support ∙ f.counted) ls
+            motifs_hold = em ∙ column motifs f.listed motifs₀ q.number f.motifs_hold f.counted lm;
+            supports_hold = es ∙ column supports (map support f.listed) supports₀ (support q.number) f.supports_hold (length-map f.listed support ∙ f.counted) ls
                 ∙ ap (λ l. put l supports₀) (sym (map-append support f.listed (q.number ∷ [])));
-            weights_hold = ew ∙ column weights (map weight f.listed) weights₀ (weight q.number) f.weights-hold (length-map f.listed weight ∙ f.counted) lw
+            weights_hold = ew ∙ column weights (map weight f.listed) weights₀ (weight q.number) f.weights_hold (length-map f.listed weight ∙ f.counted) lw
                 ∙ ap (λ l. put l weights₀) (sym (map-append weight f.listed (q.number ∷ [])));
           }
         where

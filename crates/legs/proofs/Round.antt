@@ -97,9 +97,9 @@ module _ (letters lengths : List ℕ) (s : Search) (o : SoundSearch letters leng
     pub run_lengths : room ≡ room_of motifs₀ supports₀ weights₀ → (length motifs ≡ length motifs₀) × (length supports ≡ length supports₀) × (length weights ≡ length weights₀)
     run_lengths d =
         let f = r.follow in (
-          ap length f.motifs-hold ∙ put_length f.listed motifs₀ (omega (arith, f.counted, f.rows)),
-          ap length f.supports-hold ∙ put_length (map _ f.listed) supports₀ (omega (arith, f.counted, f.rows, length-map f.listed (λ m. support (motif_parts s m) (sequences letters lengths)))),
-          ap length f.weights-hold ∙ put_length (map _ f.listed) weights₀ (omega (arith, f.counted, f.rows, length-map f.listed (λ m. weight (motif_parts s m) (sequences letters lengths)))),
+          ap length f.motifs_hold ∙ put_length f.listed motifs₀ (omega (arith, f.counted, f.rows)),
+          ap length f.supports_hold ∙ put_length (map _ f.listed) supports₀ (omega (arith, f.counted, f.rows, length-map f.listed (λ m. support (motif_parts s m) (sequences letters lengths)))),
+          ap length f.weights_hold ∙ put_length (map _ f.listed) weights₀ (omega (arith, f.counted, f.rows, length-map f.listed (λ m. weight (motif_parts s m) (sequences letters lengths)))),
         )
 
     -- where the leg stops, what it answers and what its tables hold
@@ -110,7 +110,7 @@ module _ (letters lengths : List ℕ) (s : Search) (o : SoundSearch letters leng
     unfolding stretch supports_of weights_of
     run_done stop e a f d =
         let f' = r.follow in
-        rw (← d, e) (rw (f, a, f'.counted) refl, (f'.motifs-hold, (f'.supports-hold, f'.weights-hold)))
+        rw (← d, e) (rw (f, a, f'.counted) refl, (f'.motifs_hold, (f'.supports_hold, f'.weights_hold)))
 
 -- a candidate is a listed motif by its letters and by whether it is frequent
 pub motif_is : (letters lengths : List ℕ) (s : Search) (p : Place) (depth : ℕ) (good hit : Bool) → depth ≡ size s.template → good ≡ frequent s.template s.quorum (sequences letters lengths) p.letters p.number

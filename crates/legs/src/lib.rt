@@ -1,4 +1,6 @@
 // An inner crate: a leg of a search that passes every check before 13, for a caller that has made those.
+#![tactic(auto)]
+
 mod run;
 mod step;
 

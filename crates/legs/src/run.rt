@@ -1,7 +1,7 @@
 // A leg of a search that the checks accept.
 ghost use Rattle.std.specs.Prelude.{true, ◌≡◌, ℕ, ◌+◌, ◌-◌, ◌/◌, ◌^◌, ◌≤◌, ◌<◌, leb, length, set};
 ghost use Rattle.rules.specs.Calls.{moved, stretch, supports_of, weights_of};
-ghost use Rattle.rules.specs.Limits.{sequenceset_letters};
+ghost use Rattle.rules.specs.Limits.{sequence_set_letters};
 ghost use Rattle.rules.specs.Lists.{if, put};
 ghost use Rattle.rules.specs.Profile.{base_of};
 ghost use Rattle.rules.specs.Refusals.{first, search_checks};
@@ -143,7 +143,7 @@ pub fn run(
 ) -> Leg
     requires s_value { first (search_checks letters.now lengths.now s) ≡ fine }
     requires tables { Tables inside.now firsts.now offsets.now standing.now evens.old odds.old work.old spare.old }
-    requires in_bounds { sequenceset_letters ≤ length ways.old }
+    requires in_bounds { sequence_set_letters ≤ length ways.old }
     requires made { 1 ≤ s.place.letters → Made s.template lengths.now letters.now inside.now firsts.now offsets.now standing.now evens.old odds.old s.place.letters s.place.number }
     ensures result_value { told_leg result ≡ told_of s (stretch letters.now lengths.now s budget (room_of motifs.old supports.old weights.old)) }
     ensures motifs_after { motifs.new ≡ put (stretch letters.now lengths.now s budget (room_of motifs.old supports.old weights.old)).motifs motifs.old }

@@ -1,6 +1,8 @@
 // Cuts FASTA to the printing program's lines: it reads a file from standard input and prints one sequence a line, or one refusal.
 // What it prints is proved to be what the rules say, whole (`print`); that it is written once is this file's to do, since what a
 // write does to the outside has no contract.
+#![tactic(auto)]
+
 mod print;
 
 ghost use Rattle.std.specs.Prelude.{◌≡◌, ◌+◌, ◌≤◌, length};

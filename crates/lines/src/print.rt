@@ -15,7 +15,7 @@ pub const BYTES: usize = Fasta::BYTES + LINE;
 
 // What comes of the next record: its line, so that the lines have so many bytes and the reader stands at an offset; nothing, at the
 // file's end; or a refusal, by its number and place.
-#[derive(Drop)]
+#[derive(Clone, Copy)]
 enum Turn {
     Line(usize, usize),
     End,

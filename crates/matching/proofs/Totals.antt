@@ -6,7 +6,7 @@ use Prim.Native.Nat.{ℕ, suc, ◌+◌, ◌-◌, ◌*◌, ◌≤◌, ◌<◌}
 use native.Mathlib.Omega.{arith}
 use lib.ListN.{length, take, get_or}
 use borrow.Rule.Slice.PartMut.{mid_of, mid_len}
-use Rattle.rules.specs.Limits.{sequenceset_sequences}
+use Rattle.rules.specs.Limits.{sequence_set_sequences}
 use Rattle.rules.specs.Lists.{run, sum}
 use Rattle.rows.specs.Bits.{held}
 use Rattle.rows.specs.Flags.{masked}
@@ -61,9 +61,9 @@ module _ (ns row counts : List ℕ) where
       ∙ run_split (weight_at ns row counts) (w * 64) 64 (n - (w + 1) * 64)
       ∙ ap (λ (m : ℕ). sum (map (weight_at ns row counts) (run (w * 64) 64)) + sum (map (weight_at ns row counts) (run m (n - (w + 1) * 64)))) y
 
-  pub weights_all : weights_up sequenceset_sequences 0 ≡ weight_of ns row counts
+  pub weights_all : weights_up sequence_set_sequences 0 ≡ weight_of ns row counts
   unfolding weights_up weight_of
-  weights_all = let z : sequenceset_sequences - 0 ≡ sequenceset_sequences = omega arith in rw z
+  weights_all = let z : sequence_set_sequences - 0 ≡ sequence_set_sequences = omega arith in rw z
 
 -- ONE SEQUENCE, by where its words and its counts begin and end
 module _ (ns row counts : List ℕ) (k : ℕ) (h : k < length ns) {a e from to : ℕ} (begins : a ≡ sum (take k ns)) (ends : e ≡ sum (take (k + 1) ns))

@@ -3,7 +3,7 @@
 -- even numbers' and the odd ones'. So a slot is written while the one before it is read.
 use Rattle.std.specs.Prelude.{true, List, map, ◌≡◌, ℕ, ◌+◌, ◌-◌, ◌*◌, ◌/◌, ◌%◌, ◌^◌, ◌≤◌, ◌<◌, eqb, length, get_or}
 use Rattle.rules.specs.Letters.{letter, value}
-use Rattle.rules.specs.Limits.{sequenceset_sequences, template_letters, letter_bases}
+use Rattle.rules.specs.Limits.{sequence_set_sequences, template_letters, letter_bases}
 use Rattle.rules.specs.Lists.{if}
 use Rattle.rules.specs.Motif.{spell}
 use Rattle.rules.specs.Profile.{profile_of, base_of, stands_for}
@@ -101,8 +101,8 @@ path_slots = template_letters / 2
 
 pub record Tables (inside firsts offsets standing evens odds work spare : List ℕ) : Type 0 where
   pub inside_long : length inside ≡ template_letters
-  pub firsts_long : length firsts ≡ sequenceset_sequences + 2
-  pub offsets_long : length offsets ≡ sequenceset_sequences + 1
+  pub firsts_long : length firsts ≡ sequence_set_sequences + 2
+  pub offsets_long : length offsets ≡ sequence_set_sequences + 1
   pub standing_long : length standing ≡ letter_shifts * letter_bases * row_words
   pub evens_long : length evens ≡ path_slots * row_words
   pub odds_long : length odds ≡ path_slots * row_words

@@ -1,7 +1,7 @@
 -- Weighted supports over the set: for each place of each sequence, in one table as long as the letters, in how many ways the components
 -- before the last can be placed so that the last may start there. Only where a row has a bit does it matter what the table holds.
 use Rattle.std.specs.Prelude.{Bool, true, List, map, ◌≡◌, ℕ, ◌+◌, ◌-◌, ◌/◌, ◌^◌, ◌≤◌, ◌<◌, length, take, get_or, replicate}
-use Rattle.rules.specs.Limits.{sequenceset_sequences}
+use Rattle.rules.specs.Limits.{sequence_set_sequences}
 use Rattle.rules.specs.Lists.{if, run, sum}
 use Rattle.rules.specs.Profile.{base_of}
 use Rattle.rules.specs.Template.{size, components}
@@ -25,7 +25,7 @@ weight_at ns row counts k = if (is_marked row k) (sum (kept_counts ns row counts
 
 -- and over all sequences
 unfoldable pub weight_of : List ℕ → List ℕ → List ℕ → ℕ
-weight_of ns row counts = sum (map (weight_at ns row counts) (run 0 sequenceset_sequences))
+weight_of ns row counts = sum (map (weight_at ns row counts) (run 0 sequence_set_sequences))
 
 -- a table whose first n sequences, as far as they are on, have, where a row has a bit, the counts that g says
 pub record HoldsCounts (on : ℕ → Bool) (g : ℕ → List ℕ) (ns row counts : List ℕ) (n : ℕ) : Type 0 where

@@ -218,7 +218,7 @@ pub fn letter_rows(
 }
 
 // Where in the table the row is that the last letter of a candidate is tested by, and how far it is shifted as it is used.
-#[derive(Drop)]
+#[derive(Clone, Copy)]
 pub struct Test {
     pub at: usize,
     pub by: usize,

@@ -1,5 +1,7 @@
 // One candidate after another over the set of sequences: the rows of the path to it, its support, and a motif's weighted support. An
 // inner crate: what its functions ask for, every caller is proved to meet.
+#![tactic(auto)]
+
 mod letters;
 pub mod path;
 pub mod tables;

@@ -1,6 +1,6 @@
 // The path of a search: the rows of the prefixes of its place, kept from step to step.
 ghost use Rattle.std.specs.Prelude.{List, ◌≡◌, ℕ, ◌+◌, ◌-◌, ◌*◌, ◌/◌, ◌^◌, ◌≤◌, ◌<◌, length};
-ghost use Rattle.rules.specs.Limits.{sequenceset_sequences};
+ghost use Rattle.rules.specs.Limits.{sequence_set_sequences};
 ghost use Rattle.rules.specs.Profile.{base_of};
 ghost use Rattle.rules.specs.Sequences.{sequences};
 ghost use Rattle.rules.specs.Sound.{SoundSet, SoundTemplate};
@@ -116,12 +116,12 @@ fn open_slot(
     slot: &mut [u64],
 )
     requires sound_template { SoundTemplate template }
-    requires le_component { (1 ≤ component) × (component < template.count) × (length lengths.now ≤ sequenceset_sequences) }
+    requires le_component { (1 ≤ component) × (component < template.count) × (length lengths.now ≤ sequence_set_sequences) }
     requires firsts { Firsts lengths.now firsts.now }
     requires bounded { Bounded lengths.now slot.old }
     requires lengths_bound { (first_word lengths.now (length lengths.now) ≤ row_words) × (length spare.old ≡ row_words) × (length slot.old ≡ row_words) }
     ensures slot_len_unchanged { (length slot.new ≡ length slot.old) × (length spare.new ≡ length spare.old) }
-    ensures marked { Marked (is_marked slot.old) slot.new sequenceset_sequences }
+    ensures marked { Marked (is_marked slot.old) slot.new sequence_set_sequences }
     ensures filled { Filled (is_marked slot.old) (window_at (gap_near template component) (templates.span (gap_near template component) (gap_far template component)) lengths.now slot.old) lengths.now slot.new (length lengths.now) }
 {
     let components = template.components();
@@ -143,7 +143,7 @@ fn end_slot(
     slot: &mut [u64],
 )
     requires sound_template { SoundTemplate template }
-    requires le_size { (1 ≤ size) × (size < templates.size template) × (length lengths.now ≤ sequenceset_sequences) }
+    requires le_size { (1 ≤ size) × (size < templates.size template) × (length lengths.now ≤ sequence_set_sequences) }
     requires inside { Inside template inside.now }
     requires firsts { Firsts lengths.now firsts.now }
     requires bounded { Bounded lengths.now slot.old }

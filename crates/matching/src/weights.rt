@@ -1,7 +1,7 @@
 // Weighted supports: the counts of ways before a motif's last component, made once for all motifs of one prefix, and added where the
 // motif's row has a bit.
 ghost use Rattle.std.specs.Prelude.{true, map, ◌≡◌, ℕ, ◌+◌, ◌-◌, ◌*◌, ◌^◌, ◌≤◌, ◌<◌, length, take, drop, get_or};
-ghost use Rattle.rules.specs.Limits.{sequenceset_sequences, template_length, template_gap};
+ghost use Rattle.rules.specs.Limits.{sequence_set_sequences, template_length, template_gap};
 ghost use Rattle.rules.specs.Profile.{base_of};
 ghost use Rattle.rules.specs.Lists as lists;
 ghost use Rattle.rules.specs.Sequences.{sequences};
@@ -69,7 +69,7 @@ fn lead_sequences(
     n: usize,
     counts: &mut [u64],
 )
-    requires w_bound { (w < row_marks) × (length lengths.now ≤ sequenceset_sequences) × (1 ≤ d) × (d ≤ template_length + template_gap) × (1 ≤ n) × (n ≤ template_gap + 1) }
+    requires w_bound { (w < row_marks) × (length lengths.now ≤ sequence_set_sequences) × (1 ≤ d) × (d ≤ template_length + template_gap) × (1 ≤ n) × (n ≤ template_gap + 1) }
     requires firsts { Firsts lengths.now firsts.now }
     requires offsets { Offsets lengths.now offsets.now }
     requires bounded { Bounded lengths.now row.now }
@@ -118,7 +118,7 @@ fn lead_all(
     n: usize,
     counts: &mut [u64],
 )
-    requires lengths_len_bound { (length lengths.now ≤ sequenceset_sequences) × (1 ≤ d) × (d ≤ template_length + template_gap) × (1 ≤ n) × (n ≤ template_gap + 1) }
+    requires lengths_len_bound { (length lengths.now ≤ sequence_set_sequences) × (1 ≤ d) × (d ≤ template_length + template_gap) × (1 ≤ n) × (n ≤ template_gap + 1) }
     requires firsts { Firsts lengths.now firsts.now }
     requires offsets { Offsets lengths.now offsets.now }
     requires bounded { Bounded lengths.now row.now }
@@ -152,7 +152,7 @@ fn lead_slot(
     counts: &mut [u64],
 )
     requires size_bound { (size < 2 * path_slots) × (length evens.now ≡ path_slots * row_words) × (length odds.now ≡ path_slots * row_words) × (length row.now ≡ row_words) }
-    requires lengths_len_bound { (length lengths.now ≤ sequenceset_sequences) × (1 ≤ d) × (d ≤ template_length + template_gap) × (1 ≤ n) × (n ≤ template_gap + 1) }
+    requires lengths_len_bound { (length lengths.now ≤ sequence_set_sequences) × (1 ≤ d) × (d ≤ template_length + template_gap) × (1 ≤ n) × (n ≤ template_gap + 1) }
     requires firsts { Firsts lengths.now firsts.now }
     requires offsets { Offsets lengths.now offsets.now }
     requires bounded { Bounded lengths.now row.now }
@@ -200,7 +200,7 @@ fn add_sequences(
     row: &[u64],
     counts: &[u64],
 ) -> u64
-    requires w_bound { (w < row_marks) × (length lengths.now ≤ sequenceset_sequences) }
+    requires w_bound { (w < row_marks) × (length lengths.now ≤ sequence_set_sequences) }
     requires firsts { Firsts lengths.now firsts.now }
     requires offsets { Offsets lengths.now offsets.now }
     requires bounded { Bounded lengths.now row.now }
@@ -227,7 +227,7 @@ fn add_sequences(
 
 // The same in all sequences that have a mark.
 fn add_all(lengths: &[u32], firsts: &[u32], offsets: &[u32], row: &[u64], counts: &[u64]) -> u64
-    requires lengths_len_bound { length lengths.now ≤ sequenceset_sequences }
+    requires lengths_len_bound { length lengths.now ≤ sequence_set_sequences }
     requires firsts { Firsts lengths.now firsts.now }
     requires offsets { Offsets lengths.now offsets.now }
     requires bounded { Bounded lengths.now row.now }

@@ -87,14 +87,14 @@ module _ (letters lengths : List ℕ) (s : Search) where
 
       go : (a : Stop) → l.stop ≡ a → is_ended a ≡ false → 1 ≤ l.steps
       go ended q n = absurd (false≢true (sym n))
-      go spent q n = omega (arith, (why budget room).if-spent q)
-      go full q n = omega (arith, ((why budget room).if-full q).0, rows_few e budget room)
+      go spent q n = omega (arith, (why budget room).if_spent q)
+      go full q n = omega (arith, ((why budget room).if_full q).0, rows_few e budget room)
 
   module _ (budget : ℕ) (motifs supports weights : List ℕ) where
     -- its rows have room
     pub rows_fit : (leg_rule letters lengths s budget motifs supports weights).told.rows ≤ room_of motifs supports weights
     unfolding leg_rule
-    rows_fit = by_verdict (λ l. l.told.rows ≤ room_of motifs supports weights) (first (search_checks letters lengths s)) _ _ (λ n p e. omega arith) (λ e. (why budget _).listed-fit)
+    rows_fit = by_verdict (λ l. l.told.rows ≤ room_of motifs supports weights) (first (search_checks letters lengths s)) _ _ (λ n p e. omega arith) (λ e. (why budget _).listed_fit)
 
     -- a leg with rows was accepted
     pub rows_sound : 1 ≤ (leg_rule letters lengths s budget motifs supports weights).told.rows → SoundTemplate s.template

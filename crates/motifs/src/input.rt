@@ -10,7 +10,7 @@ use rules::{Begun, Checked, Offset, SequenceSet};
 use text::read::{check_text, read_quorum, read_sequences, read_template};
 
 // The search or the refusal, and how many letters and sequences were read.
-#[derive(Drop)]
+#[derive(Clone, Copy)]
 pub struct Input {
     pub begun: Begun,
     pub letters: usize,

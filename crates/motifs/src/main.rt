@@ -1,6 +1,8 @@
 // The printing program: it reads a template, a quorum and sequences from standard input, and prints the frequent motifs as they
 // are found and then the end line, or one refusal. What it prints is proved page by page (`pages`); that each page is written
 // and none twice is this file's to do, since what a write does to the outside has no contract.
+#![tactic(auto)]
+
 mod input;
 mod page;
 mod pages;

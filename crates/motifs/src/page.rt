@@ -10,7 +10,7 @@ ghost use Rattle.motifs.specs.Pages.{leg_page};
 use rules::{Leg, Search};
 
 // What a leg answered, and how many bytes its page has.
-#[derive(Drop)]
+#[derive(Clone, Copy)]
 pub struct PrintedLeg {
     pub leg: Leg,
     pub length: usize,

@@ -19,7 +19,7 @@ pub const BYTES: usize = LINE * ROWS;
 const STEPS: u64 = 16384;
 
 // How far the printing of a search has come: where the search goes on, and the steps and rows so far.
-#[derive(Drop)]
+#[derive(Clone, Copy)]
 pub struct Way {
     pub search: Search,
     pub steps: u64,
@@ -28,7 +28,7 @@ pub struct Way {
 
 // What is left to print: the line of a refusal, by its number and place; the rows of a search from here on, and its end line;
 // the end line alone, by its steps and rows; or nothing.
-#[derive(Drop)]
+#[derive(Clone, Copy)]
 pub enum Left {
     Refusal(u64, u64),
     Rows(Way),
@@ -37,7 +37,7 @@ pub enum Left {
 }
 
 // A page: its length in bytes, and what is left after it.
-#[derive(Drop)]
+#[derive(Clone, Copy)]
 pub struct Page {
     pub length: usize,
     pub left: Left,

@@ -1,5 +1,7 @@
 // An inner crate: whether a search stands where the uninterrupted search passes through (13), and with it all that a leg or a
 // save checks of the search that it is given. The rows of its path are made for that, and a leg goes on with them.
+#![tactic(auto)]
+
 ghost use Rattle.std.specs.Prelude.{true, ◌≡◌, ◌≤◌, leb};
 ghost use Rattle.rules.specs.Lists.{if};
 ghost use Rattle.rules.specs.Refusals.{first, check13, is_passing, search_checks};

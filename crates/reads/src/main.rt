@@ -1,5 +1,7 @@
 // Runs the FASTA reader: files that stand here are read record by record. What each call hands out is printed, a record's name and
 // letters, the end or a refusal, and then what the table and the buffer hold.
+#![tactic(auto)]
+
 ghost use Rattle.std.specs.Prelude.{◌≡◌, ◌≤◌, length};
 ghost use Rattle.rules.specs.Fasta.{reader_rule};
 ghost use Rattle.rules.specs.Told.{told_handed};

@@ -1,5 +1,7 @@
 // An inner crate: the records of a save. Bytes are read as a search, and checked up to 13; the records of a search that passed its
 // checks are written.
+#![tactic(auto)]
+
 mod blanks;
 mod kinds;
 mod read;

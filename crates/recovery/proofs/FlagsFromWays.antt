@@ -12,7 +12,7 @@ use borrow.Author.Tests.{lt-ltb, ltb-true, ltb-false}
 use Rattle.descent.specs.Paths.{flag, paths, Flagged, WaysCounted}
 use Rattle.descent.proofs.RightFlags.{parts_count, paths_are}
 use Rattle.descent.proofs.Paths.{flag_in}
-use Rattle.rules.specs.Limits.{sequenceset_letters, template_components}
+use Rattle.rules.specs.Limits.{sequence_set_letters, template_components}
 use Rattle.rules.specs.Lists.{sign, has_some, sum}
 use Rattle.rules.specs.Occurrence.{starts, occurrences, ways}
 use Rattle.rules.specs.Sound.{SoundTemplate}
@@ -73,9 +73,9 @@ sign_some (x ∷ l) = rw (lt-ltb 0 (suc (length l)) (omega arith))
 
 -- ---- the flags of one component more
 
-module _ (cs : List Part) (s : List ℕ) (n c : ℕ) (letters : length s ≡ n) (short : n ≤ sequenceset_letters) (within : c < template_components)
-    (flags : List ℕ) (room : length flags ≡ template_components * sequenceset_letters) {flags' : List ℕ}
-    (made : flags' ≡ take (c * sequenceset_letters) flags ++ (map sign (counts (drop c cs) s) ++ drop (c * sequenceset_letters + n) flags)) where
+module _ (cs : List Part) (s : List ℕ) (n c : ℕ) (letters : length s ≡ n) (short : n ≤ sequence_set_letters) (within : c < template_components)
+    (flags : List ℕ) (room : length flags ≡ template_components * sequence_set_letters) {flags' : List ℕ}
+    (made : flags' ≡ take (c * sequence_set_letters) flags ++ (map sign (counts (drop c cs) s) ++ drop (c * sequence_set_letters + n) flags)) where
   signs : List ℕ
   signs = map sign (counts (drop c cs) s)
 
@@ -83,17 +83,17 @@ module _ (cs : List Part) (s : List ℕ) (n c : ℕ) (letters : length s ≡ n) 
   unfolding signs
   signs_length = length-map (counts (drop c cs) s) sign ∙ length_counts (drop c cs) s ∙ letters
 
-  is_placed : flags' ≡ placed (c * sequenceset_letters) flags signs (omega arith)
+  is_placed : flags' ≡ placed (c * sequence_set_letters) flags signs (omega arith)
   unfolding signs
-  is_placed = made ∙ ap (λ k. take (c * sequenceset_letters) flags ++ (map sign (counts (drop c cs) s) ++ drop (c * sequenceset_letters + k) flags)) (sym signs_length)
+  is_placed = made ∙ ap (λ k. take (c * sequence_set_letters) flags ++ (map sign (counts (drop c cs) s) ++ drop (c * sequence_set_letters + k) flags)) (sym signs_length)
 
   here : (p : ℕ) → 1 ≤ p → p ≤ length s → flag (length s) flags' c p ≡ has_some (starts (drop c cs) s p)
   unfolding signs
   here p some inside =
       flag_in (length s) flags' c p some inside
       ∙ ap (λ x. eqb x 1)
-      (ap (λ l. get_or l (c * sequenceset_letters + (p - 1)) 0) is_placed
-      ∙ at_place (c * sequenceset_letters) flags signs (omega arith) (p - 1) (rw signs_length (omega arith))
+      (ap (λ l. get_or l (c * sequence_set_letters + (p - 1)) 0) is_placed
+      ∙ at_place (c * sequence_set_letters) flags signs (omega arith) (p - 1) (rw signs_length (omega arith))
       ∙ sign_at (counts (drop c cs) s) (p - 1)
       ∙ ap sign (counts_at (drop c cs) s p some inside))
       ∙ sign_some (starts (drop c cs) s p)
@@ -101,7 +101,7 @@ module _ (cs : List Part) (s : List ℕ) (n c : ℕ) (letters : length s ≡ n) 
   later : (i p : ℕ) → c < i → 1 ≤ p → p ≤ length s → flag (length s) flags' i p ≡ flag (length s) flags i p
   later i p h some inside =
       flag_in (length s) flags' i p some inside
-      ∙ ap (λ x. eqb x 1) (ap (λ l. get_or l (i * sequenceset_letters + (p - 1)) 0) is_placed ∙ past_place (c * sequenceset_letters) flags signs (omega arith) (i * sequenceset_letters + (p - 1)) (rw signs_length (omega arith)))
+      ∙ ap (λ x. eqb x 1) (ap (λ l. get_or l (i * sequence_set_letters + (p - 1)) 0) is_placed ∙ past_place (c * sequence_set_letters) flags signs (omega arith) (i * sequence_set_letters + (p - 1)) (rw signs_length (omega arith)))
       ∙ sym (flag_in (length s) flags i p some inside)
 
   -- with those of component c, the flags are right from c on

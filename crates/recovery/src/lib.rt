@@ -1,11 +1,13 @@
 // Recovery: every occurrence of a motif, from a row of their list on.
+#![tactic(auto)]
+
 ghost use Rattle.std.specs.Prelude.{[], ◌∷◌, ◌++◌, map, ◌≡◌, suc, ◌+◌, ◌*◌, ◌^◌, ◌≤◌, ◌<◌, length, take, drop};
 ghost use Rattle.descent.specs.Buffer.{buffer, progress, InBuffer, emits, with_front};
 ghost use Rattle.descent.specs.Paths.{Flagged};
 ghost use Rattle.recovery.specs.Rule.{first_checks, rows_rule};
 ghost use Rattle.rules.specs.Calls.{recover_rule};
 ghost use Rattle.rules.specs.Letters.{value};
-ghost use Rattle.rules.specs.Limits.{sequenceset_letters, sequenceset_sequences, template_components};
+ghost use Rattle.rules.specs.Limits.{sequence_set_letters, sequence_set_sequences, template_components};
 ghost use Rattle.rules.specs.Lists.{sign};
 ghost use Rattle.rules.specs.Occurrence.{occurrences};
 ghost use Rattle.rules.specs.Refusals.{first, check14};
@@ -45,10 +47,10 @@ fn mark_component(
     flags: &mut [u8],
 )
     requires sound_template { SoundTemplate template }
-    requires component_lt_count { (component < template.count) × (size template ≤ length word.now) × (length sequence.now ≤ sequenceset_letters) × (length ways.old ≡ sequenceset_letters) × (length flags.old ≡ template_components * sequenceset_letters) }
+    requires component_lt_count { (component < template.count) × (size template ≤ length word.now) × (length sequence.now ≤ sequence_set_letters) × (length ways.old ≡ sequence_set_letters) × (length flags.old ≡ template_components * sequence_set_letters) }
     requires ways_value { component + 1 < template.count → take (length sequence.now) ways.old ≡ counts (aligned (drop (component + 1) (components template)) word.now) sequence.now }
     ensures ways_after { take (length sequence.now) ways.new ≡ counts (aligned (drop component (components template)) word.now) sequence.now }
-    ensures flags_after { flags.new ≡ take (component * sequenceset_letters) flags.old ++ (map sign (take (length sequence.now) ways.new) ++ drop (component * sequenceset_letters + length sequence.now) flags.old) }
+    ensures flags_after { flags.new ≡ take (component * sequence_set_letters) flags.old ++ (map sign (take (length sequence.now) ways.new) ++ drop (component * sequence_set_letters + length sequence.now) flags.old) }
 {
     let n = sequence.len();
     step(sequence, template, word, component, &mut ways[..n]);
@@ -60,7 +62,7 @@ fn mark_component(
 // The flags of all components in a sequence, from the last to the first. The ways that are left are those of the first.
 fn mark(sequence: &[u8], template: Template, motif: u64, ways: &mut [u64], flags: &mut [u8])
     requires sound_template { SoundTemplate template }
-    requires sequence_len_bound { (length sequence.now ≤ sequenceset_letters) × (length ways.old ≡ sequenceset_letters) × (length flags.old ≡ template_components * sequenceset_letters) }
+    requires sequence_len_bound { (length sequence.now ≤ sequence_set_letters) × (length ways.old ≡ sequence_set_letters) × (length flags.old ≡ template_components * sequence_set_letters) }
     ensures flagged { Flagged (parts template (size template) motif) (map value sequence.now) flags.new 0 }
     ensures ways_after { take (length sequence.now) ways.new ≡ counts (parts template (size template) motif) (map value sequence.now) }
 {
@@ -75,7 +77,7 @@ fn mark(sequence: &[u8], template: Template, motif: u64, ways: &mut [u64], flags
 }
 
 // How far the rows have come, and how many there are of some sequences.
-#[derive(Drop)]
+#[derive(Clone, Copy)]
 struct Listing {
     progress: Progress,
     length: u64,
@@ -93,7 +95,7 @@ fn list_sequence(
     out: &mut [u32],
 ) -> Listing
     requires sound_template { SoundTemplate template }
-    requires number_bound { (number.0 ≤ sequenceset_sequences) × (length sequence.now ≤ sequenceset_letters) × (length ways.old ≡ sequenceset_letters) × (length flags.old ≡ template_components * sequenceset_letters) }
+    requires number_bound { (number.0 ≤ sequence_set_sequences) × (length sequence.now ≤ sequence_set_letters) × (length ways.old ≡ sequence_set_letters) × (length flags.old ≡ template_components * sequence_set_letters) }
     requires in_buffer { InBuffer done (length out.old) }
     requires sequence_len_bound { length (occurrences (parts template (size template) motif) (map value sequence.now)) < 2 ^ 64 }
     ensures in_buffer_2 { InBuffer result.progress (length out.new) }
@@ -120,7 +122,7 @@ fn list_sequences(
 ) -> Listing
     requires sound_set { SoundSet letters.now lengths.now }
     requires sound_template { SoundTemplate template }
-    requires ways_len { (length ways.old ≡ sequenceset_letters) × (length flags.old ≡ template_components * sequenceset_letters) }
+    requires ways_len { (length ways.old ≡ sequence_set_letters) × (length flags.old ≡ template_components * sequence_set_letters) }
     ensures out_after { buffer result.progress out.new ≡ emits (suc template.count) (occurrence_rows (parts template (size template) motif) (sequences letters.now lengths.now)) (buffer (progress first 0 0) out.old) }
     ensures length_value { result.length ≡ length (occurrence_rows (parts template (size template) motif) (sequences letters.now lengths.now)) }
 {

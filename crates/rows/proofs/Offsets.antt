@@ -10,7 +10,7 @@ use lib.ListN.{length, take, drop, get_or, set, length-set}
 use lib.Seq.{drop-drop, get_or-set_same, get_or-set_other}
 use mir.Val.{bool_byte}
 use borrow.Author.Tests.{eqb-true}
-use Rattle.rules.specs.Limits.{sequenceset_sequences}
+use Rattle.rules.specs.Limits.{sequence_set_sequences}
 use Rattle.rules.specs.Lists.{sum}
 use Rattle.rules.specs.Sequences.{split}
 use Rattle.rows.specs.Rows.{lettered}
@@ -54,7 +54,7 @@ unfolding words_of
 words_tight n = omega arith
 
 -- so those of a set's marks fit its rows
-pub words_marks : (n : ℕ) → n ≤ sequenceset_sequences → {w : ℕ} → w ≡ words_of n → (w ≤ row_marks) × (n ≤ 64 * w)
+pub words_marks : (n : ℕ) → n ≤ sequence_set_sequences → {w : ℕ} → w ≡ words_of n → (w ≤ row_marks) × (n ≤ 64 * w)
 words_marks n h e = (omega (arith, words_tight n), omega (arith, words_room n))
 
 pub first_bound : (ns : List ℕ) (k : ℕ) → 64 * first_word ns k ≤ 64 * row_marks + sum ns + 63 * length ns

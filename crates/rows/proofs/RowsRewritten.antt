@@ -9,7 +9,7 @@ use native.Mathlib.Omega.{arith}
 use lib.Dec.{eqb}
 use lib.ListN.{length, take, drop, get_or}
 use lib.Seq.{drop-drop}
-use Rattle.rules.specs.Limits.{sequenceset_sequences}
+use Rattle.rules.specs.Limits.{sequence_set_sequences}
 use Rattle.rows.specs.Bits.{held}
 use Rattle.rows.specs.Rows.{window}
 use Rattle.rows.specs.Set.{row_marks, words_of, first_word, between, bits_at, is_marked, window_at, Filled, Marked, Bounded}
@@ -44,7 +44,7 @@ module _ (ns x y : List ℕ) where
 
   -- the marks
   module _ (m : ℕ) (stays : take (first_word ns m) y ≡ take (first_word ns m) x) where
-    pub same_marks : (k : ℕ) → k < sequenceset_sequences → is_marked y k ≡ is_marked x k
+    pub same_marks : (k : ℕ) → k < sequence_set_sequences → is_marked y k ≡ is_marked x k
     unfolding is_marked
     same_marks k h =
         let e : get_or y (k / 64) 0 ≡ get_or x (k / 64) 0 = same_word (first_word ns m) x y stays (k / 64) (omega (arith, first_past ns m)) in
@@ -100,9 +100,9 @@ module _ (d c : ℕ) (ns x y : List ℕ) (w : ℕ) (bounded : Bounded ns x) (top
       }
 
 -- THE END: all words of marks
-module _ (d c : ℕ) (ns x y : List ℕ) (k : ℕ) (all : sequenceset_sequences ≤ k) (done : Rewritten (is_marked x) (window_at d c ns x) ns 0 k x y) where
-  pub opened_marks : Marked (is_marked x) y sequenceset_sequences
+module _ (d c : ℕ) (ns x y : List ℕ) (k : ℕ) (all : sequence_set_sequences ≤ k) (done : Rewritten (is_marked x) (window_at d c ns x) ns 0 k x y) where
+  pub opened_marks : Marked (is_marked x) y sequence_set_sequences
   opened_marks = record { same = same_marks ns x y (min 0 (length ns)) done.walked.kept }
 
-  pub opened_all : length ns ≤ sequenceset_sequences → Filled (is_marked x) (window_at d c ns x) ns y (length ns)
+  pub opened_all : length ns ≤ sequence_set_sequences → Filled (is_marked x) (window_at d c ns x) ns y (length ns)
   opened_all few = record { same = λ m h e. done.walked.same m (omega arith) (omega arith) e }

@@ -10,7 +10,7 @@ use lib.Dec.{eqb, ltb}
 use lib.ListN.{length, take, drop, get_or, set, replicate, length-set, length-append, length-replicate, length-drop, get_or-append, get_or-replicate}
 use lib.Seq.{get_or-set_same, get_or-set_other, get_or-append-add, get_or-drop, length-take-le}
 use borrow.Author.Tests.{lt-ltb, le-ltb}
-use Rattle.rules.specs.Limits.{sequenceset_sequences}
+use Rattle.rules.specs.Limits.{sequence_set_sequences}
 use Rattle.rows.specs.Bits.{held}
 use Rattle.rows.specs.Flags.{bit}
 use Rattle.rows.specs.Set.{row_marks, is_marked, Marked}
@@ -21,13 +21,13 @@ use Rattle.rows.proofs.LetterRow.{zero_word}
 
 -- the marks of the first n sequences, in a row that was x
 pub record Begun (n : ℕ) (x y : List ℕ) : Type 0 where
-  pub marks : (j : ℕ) → j < sequenceset_sequences → get_or (held y) j 0 ≡ bit (ltb j n)
+  pub marks : (j : ℕ) → j < sequence_set_sequences → get_or (held y) j 0 ≡ bit (ltb j n)
   pub past : (q : ℕ) → row_marks ≤ q → get_or y q 0 ≡ get_or x q 0
 
-pub begun_none : (x : List ℕ) → ((k : ℕ) → k < sequenceset_sequences → get_or (held x) k 0 ≡ 0) → Begun 0 x x
+pub begun_none : (x : List ℕ) → ((k : ℕ) → k < sequence_set_sequences → get_or (held x) k 0 ≡ 0) → Begun 0 x x
 begun_none x h = record { marks = λ j l. h j l ∙ sym (ap bit (le-ltb j 0 (omega arith))); past = λ q l. refl }
 
-module _ (k : ℕ) (x y : List ℕ) (before : Begun k x y) (h : k < sequenceset_sequences) (long : row_marks ≤ length y) where
+module _ (k : ℕ) (x y : List ℕ) (before : Begun k x y) (h : k < sequence_set_sequences) (long : row_marks ≤ length y) where
   one_more : held (set y (k / 64) (bit_or (get_or y (k / 64) 0) ((1 * 2 ^ (k % 64)) % 2 ^ 64))) ≡ set (held y) k 1
   one_more = held_mark y k (omega arith) (before.marks k h ∙ ap bit (le-ltb k k (omega arith))) true {v = 1} refl
 
@@ -49,7 +49,7 @@ module _ (k : ℕ) (x y : List ℕ) (before : Begun k x y) (h : k < sequenceset_
     past = λ q l. get_or-set_other y (k / 64) q (bit_or (get_or y (k / 64) 0) ((1 * 2 ^ (k % 64)) % 2 ^ 64)) 0 (λ z. omega arith) ∙ before.past q l;
   }
 
-pub begun_end : (k n : ℕ) (x y : List ℕ) → k ≡ n → Begun k x y → Marked (λ j. ltb j n) y sequenceset_sequences
+pub begun_end : (k n : ℕ) (x y : List ℕ) → k ≡ n → Begun k x y → Marked (λ j. ltb j n) y sequence_set_sequences
 unfolding is_marked
 begun_end k n x y e q = record { same = λ j l. ap (λ (d : ℕ). eqb d 1) (q.marks j l) ∙ is_one (ltb j k) ∙ ap (ltb j) e }
   where
@@ -80,7 +80,7 @@ module _ (x : List ℕ) (v : ℕ) (long : row_marks ≤ length x) (y : List ℕ)
         let l : q < length z = omega (arith, none_long) in
         get_or-append z (drop row_marks y) 0 q l ∙ ap (λ (w : List ℕ). get_or w q 0) none_is ∙ zero_word row_marks q
 
-    pub cleared_bits : (k : ℕ) → k < sequenceset_sequences → get_or (held (z ++ drop row_marks y)) k 0 ≡ 0
+    pub cleared_bits : (k : ℕ) → k < sequence_set_sequences → get_or (held (z ++ drop row_marks y)) k 0 ≡ 0
     cleared_bits k h = held_at (z ++ drop row_marks y) k ∙ ap (λ (w : ℕ). digit w (k % 64)) (cleared_word (k / 64) (omega arith)) ∙ digit_none (k % 64)
 
     pub cleared_past : (q : ℕ) → row_marks ≤ q → q < length x → get_or (z ++ drop row_marks y) q 0 ≡ v

@@ -1,7 +1,7 @@
 -- A row over the whole set, in one table of words: first the marks, one bit for each sequence, then each sequence's own words, whole
 -- ones, one sequence after another. The code has the sizes under the same names (src/lib.rt).
 use Rattle.std.specs.Prelude.{Bool, true, false, List, [], ◌∷◌, ◌≡◌, ℕ, zero, suc, ◌+◌, ◌-◌, ◌*◌, ◌/◌, ◌≤◌, ◌<◌, eqb, length, take, drop, get_or}
-use Rattle.rules.specs.Limits.{sequenceset_sequences, sequenceset_letters}
+use Rattle.rules.specs.Limits.{sequence_set_sequences, sequence_set_letters}
 use Rattle.rules.specs.Lists.{if, sum}
 use Rattle.rules.specs.Sequences.{split, sequences}
 use Rattle.rows.specs.Bits.{word_bits, held}
@@ -10,7 +10,7 @@ use Rattle.rows.specs.Rows.{ahead, window, extended, lettered, padded}
 
 -- the words of marks: sixteen
 abbrev pub row_marks : ℕ
-row_marks = sequenceset_sequences / word_bits
+row_marks = sequence_set_sequences / word_bits
 
 -- and those of a row in all, 2,072: every sequence may leave up to 63 bits of its last word unused, and 24 words behind all of them are
 -- no sequence's
@@ -18,7 +18,7 @@ abbrev pub row_unused : ℕ
 row_unused = 24
 
 abbrev pub row_words : ℕ
-row_words = row_marks + (sequenceset_letters + (word_bits - 1) * sequenceset_sequences) / word_bits + row_unused
+row_words = row_marks + (sequence_set_letters + (word_bits - 1) * sequence_set_sequences) / word_bits + row_unused
 
 -- the words of n bits: of a sequence's letters, or of the marks of a set's sequences
 unfoldable pub words_of : ℕ → ℕ
@@ -91,7 +91,7 @@ pub record Marked (g : ℕ → Bool) (row : List ℕ) (n : ℕ) : Type 0 where
 
 -- there is no mark past the last sequence
 pub record Bounded (ns row : List ℕ) : Type 0 where
-  pub none : (k : ℕ) → length ns ≤ k → k < sequenceset_sequences → is_marked row k ≡ false
+  pub none : (k : ℕ) → length ns ≤ k → k < sequence_set_sequences → is_marked row k ≡ false
 
 -- BY FLAGS. F says the flags of a sequence: for a prefix with the parts cs it is `last_starts cs`. Sequence k, from 0
 abbrev pub sequence : List ℕ → List ℕ → ℕ → List ℕ
@@ -99,11 +99,11 @@ sequence ns l k = get_or (sequences l ns) k []
 
 -- a prefix's row: each sequence has a mark where a flag is left, and each that has one its flags, and no bit past them
 pub record Row (F : List ℕ → List ℕ) (ns l row : List ℕ) : Type 0 where
-  pub marks_are : (k : ℕ) → k < sequenceset_sequences → is_marked row k ≡ has_left (F (sequence ns l k))
+  pub marks_are : (k : ℕ) → k < sequence_set_sequences → is_marked row k ≡ has_left (F (sequence ns l k))
   pub bits_are : (k : ℕ) → k < length ns → is_marked row k ≡ true → bits_at ns k row ≡ padded (64 * words_of (get_or ns k 0)) (F (sequence ns l k))
 
 -- a row to which a letter may be added: each sequence that has a mark begins with its flags, and one that has none has none
 pub record Source (F : List ℕ → List ℕ) (ns l row : List ℕ) : Type 0 where
-  pub none : (k : ℕ) → k < sequenceset_sequences → is_marked row k ≡ false → has_left (F (sequence ns l k)) ≡ false
-  pub past : (k : ℕ) → length ns ≤ k → k < sequenceset_sequences → is_marked row k ≡ false
+  pub none : (k : ℕ) → k < sequence_set_sequences → is_marked row k ≡ false → has_left (F (sequence ns l k)) ≡ false
+  pub past : (k : ℕ) → length ns ≤ k → k < sequence_set_sequences → is_marked row k ≡ false
   pub begin : (k : ℕ) → k < length ns → is_marked row k ≡ true → (p : ℕ) → p < length (sequence ns l k) → get_or (bits_at ns k row) p 0 ≡ get_or (F (sequence ns l k)) p 0

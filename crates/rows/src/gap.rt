@@ -1,6 +1,6 @@
 // Gaps opened over the whole set, in the sequences that have a mark.
 ghost use Rattle.std.specs.Prelude.{true, ◌≡◌, ℕ, ◌+◌, ◌*◌, ◌≤◌, ◌<◌, min, [], ◌∷◌, length, take, drop};
-ghost use Rattle.rules.specs.Limits.{sequenceset_sequences};
+ghost use Rattle.rules.specs.Limits.{sequence_set_sequences};
 ghost use Rattle.rows.specs.Bits.{held};
 ghost use Rattle.rows.specs.Rows.{behind, window};
 ghost use Rattle.rows.specs.Set.{row_marks, first_word, Firsts, between, bits_at, is_marked, window_at, Filled, Marked, Bounded};
@@ -64,7 +64,7 @@ fn open_sequences(
     spare: &mut [u64],
     row: &mut [u64],
 )
-    requires w_bound { (w < row_marks) × (length lengths.now ≤ sequenceset_sequences) × (1 ≤ count) }
+    requires w_bound { (w < row_marks) × (length lengths.now ≤ sequence_set_sequences) × (1 ≤ count) }
     requires firsts { Firsts lengths.now firsts.now }
     requires bounded { Bounded lengths.now row.old }
     requires lengths_in_bounds { (first_word lengths.now (length lengths.now) ≤ length row.old) × (length spare.old ≡ length row.old) }
@@ -94,11 +94,11 @@ pub fn open_all(
     spare: &mut [u64],
     row: &mut [u64],
 )
-    requires lengths_len_bound { (length lengths.now ≤ sequenceset_sequences) × (1 ≤ count) }
+    requires lengths_len_bound { (length lengths.now ≤ sequence_set_sequences) × (1 ≤ count) }
     requires firsts { Firsts lengths.now firsts.now }
     requires bounded { Bounded lengths.now row.old }
     requires lengths_in_bounds { (first_word lengths.now (length lengths.now) ≤ length row.old) × (length spare.old ≡ length row.old) }
-    ensures marked { Marked (is_marked row.old) row.new sequenceset_sequences }
+    ensures marked { Marked (is_marked row.old) row.new sequence_set_sequences }
     ensures filled { Filled (is_marked row.old) (window_at d count lengths.now row.old) lengths.now row.new (length lengths.now) }
     ensures row_len_unchanged { (length row.new ≡ length row.old) × (length spare.new ≡ length spare.old) }
 {

@@ -1,5 +1,7 @@
 // Rows of bits: for each place of each sequence one bit, 64 to a word, the first in the lowest. An inner crate: what its functions
 // ask for, every caller is proved to meet.
+#![tactic(auto)]
+
 pub mod counts;
 pub mod gap;
 pub mod set;

@@ -1,6 +1,6 @@
 // Rows over the whole set: the marks, and each sequence's words. Only sequences that have a mark are looked at.
 ghost use Rattle.std.specs.Prelude.{true, ◌≡◌, ℕ, ◌+◌, ◌-◌, ◌*◌, ◌^◌, ◌≤◌, ◌<◌, min, [], ◌∷◌, eqb, ltb, length, take, drop, get_or};
-ghost use Rattle.rules.specs.Limits.{sequenceset_sequences, sequenceset_letters};
+ghost use Rattle.rules.specs.Limits.{sequence_set_sequences, sequence_set_letters};
 ghost use Rattle.rules.specs.Lists as lists;
 ghost use Rattle.rows.specs.Bits.{held};
 ghost use Rattle.rows.specs.Flags.{has_left};
@@ -14,7 +14,7 @@ const ALL: u64 = 0xFFFF_FFFF_FFFF_FFFF;
 
 // The words of `n` bits: of a sequence's letters, or of the marks of a set's sequences.
 fn words_of(n: u32) -> u32
-    requires { n ≤ sequenceset_letters }
+    requires { n ≤ sequence_set_letters }
     ensures { result ≡ words_of n }
 {
     (n + 63) / 64
@@ -23,7 +23,7 @@ fn words_of(n: u32) -> u32
 // Writes where each sequence's words begin in a row, and where its letters do in the buffer. The last number of `firsts` is 1 only where
 // each sequence has one word.
 pub fn lay_out(lengths: &[u32], firsts: &mut [u32], offsets: &mut [u32])
-    requires lengths_len_bound { (length lengths.now ≤ sequenceset_sequences) × (lists.sum lengths.now ≤ sequenceset_letters) }
+    requires lengths_len_bound { (length lengths.now ≤ sequence_set_sequences) × (lists.sum lengths.now ≤ sequence_set_letters) }
     requires lengths_in_bounds { (length lengths.now + 1 < length firsts.old) × (length lengths.now < length offsets.old) }
     ensures firsts { Firsts lengths.now firsts.new }
     ensures offsets { Offsets lengths.now offsets.new }
@@ -51,9 +51,9 @@ pub fn lay_out(lengths: &[u32], firsts: &mut [u32], offsets: &mut [u32])
 
 // Marks the first `n` sequences of a row that has no marks.
 fn mark_first(n: usize, row: &mut [u64])
-    requires n_bound { (n ≤ sequenceset_sequences) × (row_marks ≤ length row.old) }
-    requires by_index { (k : ℕ) → k < sequenceset_sequences → get_or (held row.old) k 0 ≡ 0 }
-    ensures marked { Marked (λ k. ltb k n) row.new sequenceset_sequences }
+    requires n_bound { (n ≤ sequence_set_sequences) × (row_marks ≤ length row.old) }
+    requires by_index { (k : ℕ) → k < sequence_set_sequences → get_or (held row.old) k 0 ≡ 0 }
+    ensures marked { Marked (λ k. ltb k n) row.new sequence_set_sequences }
     ensures row_len_unchanged { (length row.new ≡ length row.old) × ((q : ℕ) → row_marks ≤ q → get_or row.new q 0 ≡ get_or row.old q 0) }
 {
     let mut k = 0;
@@ -67,8 +67,8 @@ fn mark_first(n: usize, row: &mut [u64])
 
 // The row that a first letter is added to: the `n` sequences all have a mark, and every bit is set.
 pub fn begin(n: usize, row: &mut [u64])
-    requires { (n ≤ sequenceset_sequences) × (row_marks ≤ length row.old) }
-    ensures marked { Marked (λ k. ltb k n) row.new sequenceset_sequences }
+    requires { (n ≤ sequence_set_sequences) × (row_marks ≤ length row.old) }
+    ensures marked { Marked (λ k. ltb k n) row.new sequence_set_sequences }
     ensures row_len_unchanged { (length row.new ≡ length row.old) × ((q : ℕ) → row_marks ≤ q → q < length row.old → get_or row.new q 0 ≡ 2 ^ 64 - 1) }
 {
     words::fill(row, ALL);
@@ -116,7 +116,7 @@ fn keep_sequence(
 }
 
 // What a letter more makes of a word of marks: those that are left, and how many are lost.
-#[derive(Drop)]
+#[derive(Clone, Copy)]
 pub struct Kept {
     pub left: u64,
     pub lost: u32,
@@ -133,7 +133,7 @@ fn keep_sequences(
     most: u32,
     out: &mut [u64],
 ) -> Kept
-    requires w_bound { (w < row_marks) × (length lengths.now ≤ sequenceset_sequences) × (i < 64) }
+    requires w_bound { (w < row_marks) × (length lengths.now ≤ sequence_set_sequences) × (i < 64) }
     requires firsts { Firsts lengths.now firsts.now }
     requires bounded { Bounded lengths.now row.now }
     requires lengths_in_bounds { (first_word lengths.now (length lengths.now) ≤ length row.now) × (length letter.now ≡ length row.now) × (length out.old ≡ length row.now) }
@@ -174,7 +174,7 @@ fn keep_ones(
     i: usize,
     out: &mut [u64],
 ) -> u64
-    requires w_bound { (w < row_marks) × (length lengths.now ≤ sequenceset_sequences) × (i < 64) }
+    requires w_bound { (w < row_marks) × (length lengths.now ≤ sequence_set_sequences) × (i < 64) }
     requires firsts { Firsts lengths.now firsts.now }
     requires firsts_value { get_or firsts.now (length firsts.now - 1) 0 ≡ 1 }
     requires bounded { Bounded lengths.now row.now }
@@ -207,14 +207,14 @@ fn keep_short(
     quorum: u32,
     out: &mut [u64],
 ) -> u32
-    requires lengths_len_bound { (length lengths.now ≤ sequenceset_sequences) × (i < 64) }
+    requires lengths_len_bound { (length lengths.now ≤ sequence_set_sequences) × (i < 64) }
     requires firsts { Firsts lengths.now firsts.now }
     requires firsts_value { get_or firsts.now (length firsts.now - 1) 0 ≡ 1 }
     requires bounded { Bounded lengths.now row.now }
     requires lengths_in_bounds { (first_word lengths.now (length lengths.now) ≤ length row.now) × (length letter.now ≡ length row.now) × (length out.old ≡ length row.now) }
-    ensures lower_bound { tally (is_extended_marked i lengths.now letter.now row.now) 0 sequenceset_sequences ≤ result }
-    ensures value { quorum ≤ result → result ≡ tally (is_extended_marked i lengths.now letter.now row.now) 0 sequenceset_sequences }
-    ensures marked { quorum ≤ result → Marked (is_extended_marked i lengths.now letter.now row.now) out.new sequenceset_sequences }
+    ensures lower_bound { tally (is_extended_marked i lengths.now letter.now row.now) 0 sequence_set_sequences ≤ result }
+    ensures value { quorum ≤ result → result ≡ tally (is_extended_marked i lengths.now letter.now row.now) 0 sequence_set_sequences }
+    ensures marked { quorum ≤ result → Marked (is_extended_marked i lengths.now letter.now row.now) out.new sequence_set_sequences }
     ensures filled { quorum ≤ result → Filled (is_marked row.now) (extended_at i lengths.now letter.now row.now) lengths.now out.new (length lengths.now) }
     ensures out_len_unchanged { length out.new ≡ length out.old }
 {
@@ -257,13 +257,13 @@ pub fn keep_all(
     quorum: u32,
     out: &mut [u64],
 ) -> u32
-    requires lengths_len_bound { (length lengths.now ≤ sequenceset_sequences) × (i < 64) }
+    requires lengths_len_bound { (length lengths.now ≤ sequence_set_sequences) × (i < 64) }
     requires firsts { Firsts lengths.now firsts.now }
     requires bounded { Bounded lengths.now row.now }
     requires lengths_in_bounds { (first_word lengths.now (length lengths.now) ≤ length row.now) × (length letter.now ≡ length row.now) × (length out.old ≡ length row.now) }
-    ensures lower_bound { tally (is_extended_marked i lengths.now letter.now row.now) 0 sequenceset_sequences ≤ result }
-    ensures value { quorum ≤ result → result ≡ tally (is_extended_marked i lengths.now letter.now row.now) 0 sequenceset_sequences }
-    ensures marked { quorum ≤ result → Marked (is_extended_marked i lengths.now letter.now row.now) out.new sequenceset_sequences }
+    ensures lower_bound { tally (is_extended_marked i lengths.now letter.now row.now) 0 sequence_set_sequences ≤ result }
+    ensures value { quorum ≤ result → result ≡ tally (is_extended_marked i lengths.now letter.now row.now) 0 sequence_set_sequences }
+    ensures marked { quorum ≤ result → Marked (is_extended_marked i lengths.now letter.now row.now) out.new sequence_set_sequences }
     ensures filled { quorum ≤ result → Filled (is_marked row.now) (extended_at i lengths.now letter.now row.now) lengths.now out.new (length lengths.now) }
     ensures out_len_unchanged { length out.new ≡ length out.old }
 {

@@ -69,7 +69,7 @@ pub fn none(found: bool) -> u32
 }
 
 // The words of the four letters' rows for the same letters of a sequence.
-#[derive(Drop)]
+#[derive(Clone, Copy)]
 pub struct Bases {
     pub a: u64,
     pub c: u64,
@@ -146,8 +146,8 @@ pub fn letter_words(sequence: &[u8]) -> Bases
 // The first `n` words of a row with the first letter of a part more, for which nothing is shifted, and all of them joined in one.
 fn keep_plain(row: &[u64], letters: &[u64], n: usize, out: &mut [u64]) -> u64
     requires { (length letters.now ≡ length row.now) × (length out.old ≡ length row.now) × (n ≤ length row.now) }
-    ensures result_value { eqb result 0 ≡ not (has_left (map (words.extended-word 0 letters.now row.now) (run 0 n))) }
-    ensures out_after { out.new ≡ over (words.extended-word 0 letters.now row.now) n out.old }
+    ensures result_value { eqb result 0 ≡ not (has_left (map (words.extended_word 0 letters.now row.now) (run 0 n))) }
+    ensures out_after { out.new ≡ over (words.extended_word 0 letters.now row.now) n out.old }
 {
     let mut all: u64 = 0;
     let mut q = 0;
@@ -164,8 +164,8 @@ fn keep_plain(row: &[u64], letters: &[u64], n: usize, out: &mut [u64]) -> u64
 // upper of two is the lower of the next two.
 fn keep_words(row: &[u64], letters: &[u64], i: usize, n: usize, out: &mut [u64]) -> u64
     requires { (length letters.now ≡ length row.now) × (length out.old ≡ length row.now) × (n < length row.now) × (1 ≤ i) × (i < 64) }
-    ensures result_value { eqb result 0 ≡ not (has_left (map (words.extended-word i letters.now row.now) (run 0 n))) }
-    ensures out_after { out.new ≡ over (words.extended-word i letters.now row.now) n out.old }
+    ensures result_value { eqb result 0 ≡ not (has_left (map (words.extended_word i letters.now row.now) (run 0 n))) }
+    ensures out_after { out.new ≡ over (words.extended_word i letters.now row.now) n out.old }
 {
     let mut all: u64 = 0;
     let mut low = letters[0];
@@ -205,7 +205,7 @@ pub fn keep_letter(row: &[u64], letters: &[u64], i: usize, out: &mut [u64]) -> b
 // The first `n` words of a row shifted down by `i` positions.
 fn down_words(row: &[u64], i: usize, n: usize, out: &mut [u64])
     requires { (length out.old ≡ length row.now) × (n < length row.now) × (i < 64) }
-    ensures { out.new ≡ over (words.ahead-word i row.now) n out.old }
+    ensures { out.new ≡ over (words.ahead_word i row.now) n out.old }
 {
     let mut q = 0;
     while q < n {
@@ -231,8 +231,8 @@ pub fn shift_down(row: &[u64], i: usize, out: &mut [u64])
 // The words past `e` of a row shifted up by `e` words and `i` bits.
 fn shift_words(row: &[u64], e: usize, i: usize, out: &mut [u64])
     requires out_len { (length out.old ≡ length row.now) × (e < length row.now) × (i < 64) }
-    requires out_value { out.old ≡ over (words.behind-word e i row.now) (e + 1) out.old }
-    ensures { out.new ≡ over (words.behind-word e i row.now) (length row.now) out.old }
+    requires out_value { out.old ≡ over (words.behind_word e i row.now) (e + 1) out.old }
+    ensures { out.new ≡ over (words.behind_word e i row.now) (length row.now) out.old }
 {
     let mut q = e + 1;
     while q < out.len() {

@@ -13,7 +13,7 @@ use lib.ListN.{length, get_or}
 use borrow.Author.Tests.{ltb-false, le-ltb, eqb-true, eq-eqb, ne_eqb}
 use Rattle.rules.specs.Join.{is_rising}
 use Rattle.rules.specs.Letters.{is_letter}
-use Rattle.rules.specs.Limits.{record_extra, template_components, template_length, template_gap, sequenceset_sequences, sequenceset_letters}
+use Rattle.rules.specs.Limits.{record_extra, template_components, template_length, template_gap, sequence_set_sequences, sequence_set_letters}
 use Rattle.rules.specs.Lists.{if, keep, has_some, sum}
 use Rattle.rules.specs.Profile.{profile_of}
 use Rattle.rules.specs.Recovery.{whole_list}
@@ -73,14 +73,14 @@ range low high = (
 )
 
 -- 1: the number of sequences lies in its limits
-pub check1_fine : (lengths : List ℕ) → (check1 lengths ≡ fine) ↔ ((1 ≤ length lengths) × (length lengths ≤ sequenceset_sequences))
+pub check1_fine : (lengths : List ℕ) → (check1 lengths ≡ fine) ↔ ((1 ≤ length lengths) × (length lengths ≤ sequence_set_sequences))
 unfolding check1
-check1_fine lengths = says _ 1 (inside 1 sequenceset_sequences (length lengths))
+check1_fine lengths = says _ 1 (inside 1 sequence_set_sequences (length lengths))
 
 -- 2: no more letters than there may be
-pub check2_fine : (letters : List ℕ) → (check2 letters ≡ fine) ↔ (length letters ≤ sequenceset_letters)
+pub check2_fine : (letters : List ℕ) → (check2 letters ≡ fine) ↔ (length letters ≤ sequence_set_letters)
 unfolding check2
-check2_fine letters = says _ 2 (not_less sequenceset_letters (length letters))
+check2_fine letters = says _ 2 (not_less sequence_set_letters (length letters))
 
 -- 3: the lengths add up to the buffer
 pub check3_fine : (letters lengths : List ℕ) → (check3 letters lengths ≡ fine) ↔ (sum lengths ≡ length letters)

@@ -254,7 +254,7 @@ module _ (file letters lengths : List ℕ) where
   pub reads : Readable file letters lengths ↔ ((xs : List Handing) × (k : Held) × ReadToEnd file letters lengths xs k)
   unfolding file_records
   reads = (
-    λ r. let (k, c, e) = run_to file (file_records file) (at_first letters lengths) (record { records = refl; no_text = (denied _ (text_says file 0)).1 r.no_text }) (omega (arith, r.room)) (omega (arith, r.rows)) r.short r.all-letters in
+    λ r. let (k, c, e) = run_to file (file_records file) (at_first letters lengths) (record { records = refl; no_text = (denied _ (text_says file 0)).1 r.no_text }) (omega (arith, r.room)) (omega (arith, r.rows)) r.short r.all_letters in
         (map handing (file_records file), k, record { calls = c; no_more = e }),
     λ h. let r = run_whole h.2 in
         record { no_text = (denied _ (text_says file 0)).0 (no_text h.2.calls h.2.no_more); room = omega (arith, r.room); rows = omega (arith, r.rows); short = r.short; all_letters = r.spelt },

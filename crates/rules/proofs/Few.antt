@@ -13,7 +13,7 @@ use native.Mathlib.Omega.{arith}
 use lib.Dec.{eqb}
 use lib.ListN.{length, take, drop, length-map, length-take, length-drop, take-append-drop}
 use borrow.Author.Tests.{eqb-true, leb-true}
-use Rattle.rules.specs.Limits.{letter_bases, sequenceset_letters}
+use Rattle.rules.specs.Limits.{letter_bases, sequence_set_letters}
 use Rattle.rules.specs.Lists.{run, if, each, keep, joined, sum}
 use Rattle.rules.specs.Motif.{number, spell}
 use Rattle.rules.specs.Occurrence.{front, front_by, stands, stands_by, found, reach, starts, occurrences}
@@ -173,7 +173,7 @@ module _ (t : Template) (j m : ℕ) (deep : j ≤ size t) where
 
 -- ---- the count
 
-module _ (t : Template) (quorum : ℕ) (ss : List (List ℕ)) (sound : SoundTemplate t) (some : 1 ≤ quorum) (short : sum (map length ss) ≤ sequenceset_letters) where
+module _ (t : Template) (quorum : ℕ) (ss : List (List ℕ)) (sound : SoundTemplate t) (some : 1 ≤ quorum) (short : sum (map length ss) ≤ sequence_set_letters) where
   -- the numbers of the frequent prefixes of one length rise, and each of them is read off somewhere
   level_few : (j : ℕ) → suc j ≤ size t → length (keep (reaches (measure exactly t ss) quorum (suc j)) (run 0 (letter_bases ^ suc j))) ≤ 2 ^ 56
   unfolding reaches measure exactly

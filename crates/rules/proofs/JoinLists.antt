@@ -10,7 +10,7 @@ use lib.Dec.{leb, ltb}
 use lib.ListN.{length, get_or}
 use borrow.Author.Tests.{ltb-false, leb-false, le-ltb, lt-leb}
 use Rattle.rules.specs.Join.{is_rising}
-use Rattle.rules.specs.Limits.{sequenceset_letters}
+use Rattle.rules.specs.Limits.{sequence_set_letters}
 use Rattle.rules.specs.Refused.{Outside, BadList}
 use Rattle.rules.proofs.Tests.{and_false, of_three_fails}
 
@@ -25,10 +25,10 @@ not_rising l (x ∷ xs) e = go ((of_three_fails _ _ _ Iff.rfl Iff.rfl Iff.rfl).0
     later (inr (inl (i, h, b))) = inl (suc i, omega arith, b)
     later (inr (inr (i, h, b))) = inr (suc i, omega arith, b)
 
-    go : (ltb l x ≡ false) ⊎ (leb x sequenceset_letters ≡ false) ⊎ (is_rising x xs ≡ false) → (is_rising x xs ≡ false → ((0 < length xs) × (get_or xs 0 0 ≤ x)) ⊎ BadList xs)
+    go : (ltb l x ≡ false) ⊎ (leb x sequence_set_letters ≡ false) ⊎ (is_rising x xs ≡ false) → (is_rising x xs ≡ false → ((0 < length xs) × (get_or xs 0 0 ≤ x)) ⊎ BadList xs)
         → ((0 < suc (length xs)) × (x ≤ l)) ⊎ BadList (x ∷ xs)
     go (inl q) ih = inl (omega arith, ltb-false l x q)
-    go (inr (inl q)) ih = inr (inr (0, omega arith, inr (leb-false x sequenceset_letters q)))
+    go (inr (inl q)) ih = inr (inr (0, omega arith, inr (leb-false x sequence_set_letters q)))
     go (inr (inr q)) ih = inr (later (ih q))
 
 -- a list with two positions that do not rise does not rise
@@ -36,16 +36,16 @@ pair_falls : (l : ℕ) (xs : List ℕ) (i : ℕ) → suc i < length xs → get_o
 unfolding is_rising
 pair_falls l [] i h b = absurd (omega arith)
 pair_falls l (x ∷ []) i h b = absurd (omega arith)
-pair_falls l (x ∷ y ∷ ys) zero h b = rw (le-ltb x y b) (and_false (ltb l x && leb x sequenceset_letters))
-pair_falls l (x ∷ y ∷ ys) (suc i) h b = rw (pair_falls x (y ∷ ys) i (omega arith) b) (and_false (ltb l x && leb x sequenceset_letters))
+pair_falls l (x ∷ y ∷ ys) zero h b = rw (le-ltb x y b) (and_false (ltb l x && leb x sequence_set_letters))
+pair_falls l (x ∷ y ∷ ys) (suc i) h b = rw (pair_falls x (y ∷ ys) i (omega arith) b) (and_false (ltb l x && leb x sequence_set_letters))
 
 -- nor does one with a position outside 1 to 65,536
-one_misplaced : (l : ℕ) (xs : List ℕ) (i : ℕ) → i < length xs → Outside 1 sequenceset_letters (get_or xs i 0) → is_rising l xs ≡ false
+one_misplaced : (l : ℕ) (xs : List ℕ) (i : ℕ) → i < length xs → Outside 1 sequence_set_letters (get_or xs i 0) → is_rising l xs ≡ false
 unfolding is_rising
 one_misplaced l [] i h b = absurd (omega arith)
 one_misplaced l (x ∷ xs) zero h (inl b) = rw (le-ltb l x (omega arith))
-one_misplaced l (x ∷ xs) zero h (inr b) = rw (lt-leb x sequenceset_letters b, and_false (ltb l x))
-one_misplaced l (x ∷ xs) (suc i) h b = rw (one_misplaced x xs i (omega arith) b) (and_false (ltb l x && leb x sequenceset_letters))
+one_misplaced l (x ∷ xs) zero h (inr b) = rw (lt-leb x sequence_set_letters b, and_false (ltb l x))
+one_misplaced l (x ∷ xs) (suc i) h b = rw (one_misplaced x xs i (omega arith) b) (and_false (ltb l x && leb x sequence_set_letters))
 
 -- so a list rises from above 0 exactly if it is not bad
 pub rising_says : (xs : List ℕ) → (is_rising 0 xs ≡ false) ↔ BadList xs

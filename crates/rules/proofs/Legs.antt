@@ -117,8 +117,8 @@ module _ (W : Walk) where
       go : (a c : Bool) (r : ℕ) → eqb p.letters 0 ≡ a → motif W p ≡ c → ((k : ℕ) → Why b k (leg W b k (next W p))) → Why (suc b) r (leg W (suc b) r p)
       go true c r e f ih = rw e (record { steps_fit = omega arith; listed_fit = omega arith; if_spent = λ q. cc; if_full = λ q. (cc, cc) })
       go false true zero e f ih = rw (e, f) (record { steps_fit = omega arith; listed_fit = omega arith; if_spent = λ q. cc; if_full = λ q. (refl, f) })
-      go false true (suc r) e f ih = rw (e, f) (record { steps_fit = omega (arith, (ih r).steps-fit); listed_fit = omega (arith, (ih r).listed-fit); if_spent = λ q. ap suc ((ih r).if-spent q); if_full = λ q. (ap suc ((ih r).if-full q).0, ((ih r).if-full q).1) })
-      go false false r e f ih = rw (e, f) (record { steps_fit = omega (arith, (ih r).steps-fit); listed_fit = (ih r).listed-fit; if_spent = λ q. ap suc ((ih r).if-spent q); if_full = (ih r).if-full })
+      go false true (suc r) e f ih = rw (e, f) (record { steps_fit = omega (arith, (ih r).steps_fit); listed_fit = omega (arith, (ih r).listed_fit); if_spent = λ q. ap suc ((ih r).if_spent q); if_full = λ q. (ap suc ((ih r).if_full q).0, ((ih r).if_full q).1) })
+      go false false r e f ih = rw (e, f) (record { steps_fit = omega (arith, (ih r).steps_fit); listed_fit = (ih r).listed_fit; if_spent = λ q. ap suc ((ih r).if_spent q); if_full = (ih r).if_full })
 
   module _ (pos : 1 ≤ base) where
     stepped : (p : Place) (l : Stretch) (ms : List ℕ) → 1 ≤ p.letters → p.letters ≤ depth → Passed W (next W p) l → ((ps : List Place) → listed W (p ∷ ps) ≡ ms ++ listed W ps) → Passed W p (then ms l)
@@ -227,7 +227,7 @@ module _ (W : Walk) where
 
         go : (a : Stop) → t.stop ≡ a → t.stop ≡ ended
         go ended e = e
-        go spent e = absurd (omega (arith, (leg_why b r p).if-spent e, q.counts, simp length-append at (ap length (left (ap is_ended e)))))
+        go spent e = absurd (omega (arith, (leg_why b r p).if_spent e, q.counts, simp length-append at (ap length (left (ap is_ended e)))))
         go full e =
-            let w = (leg_why b r p).if-full e in
+            let w = (leg_why b r p).if_full e in
             absurd (omega (arith, w.0, simp length-append at (ap length (ap (listed W) (left (ap is_ended e)) ∙ rows w.1))))

@@ -13,6 +13,7 @@ use Rattle.rules.specs.Lists.{run, if, keep, each}
 -- what f makes of a member is there, and nothing else
 pub each_in : {A B : Type 0} (f : A → List B) (xs : List A) {x : A} {b : B} → Memᴰ x xs → Memᴰ b (f x) → Memᴰ b (each f xs)
 unfolding each
+each_in {A = A} {B = B} f [] {x = x} {b = b} m h = elim m [ ]
 each_in f (y ∷ ys) {x} {b} (Memᴰ.head e) h = Memᴰ.append_left (each f ys) (subst (λ z. Memᴰ b (f z)) e h)
 each_in f (y ∷ ys) (Memᴰ.tail m) h = Memᴰ.append_right (f y) (each_in f ys m h)
 

@@ -94,11 +94,24 @@ module _ (R : Reading) (s : List ℕ) where
       go true = omega arith
       go false = omega arith
 
+  -- one letter more than whole components is the first of the next
+  deal_last : (n : ℕ) (c : Component) (cs : List Component) (y : ℕ) → 1 ≤ c.length → deal R n (c ∷ cs) (y ∷ []) ≡ part_of R n c (y ∷ []) ∷ []
+  unfolding deal
+  deal_last n c cs y h = rw (take_all c.length (y ∷ []) h, drop_of_length-le (y ∷ []) {i = c.length} h, deal_nil R c.length cs)
+
+  to_come_last : (c : Component) (cs : List Component) (y : ℕ) → 1 ≤ c.length → to_come (c ∷ cs) (y ∷ []) ≡ to_come cs []
+  unfolding to_come
+  to_come_last c cs y h = rw (drop_of_length-le (y ∷ []) {i = c.length} h)
+
+  to_come_next : (c : Component) (cs : List Component) → to_come (c ∷ cs) [] ≡ span c.low c.high * to_come cs []
+  unfolding to_come
+  to_come_next c cs = refl
+
   -- a part that goes whole
   last_gone : (a : Part) (n : ℕ) (c : Component) (cs : List Component) (y : ℕ) → 1 ≤ c.length → (p : ℕ)
       → ways (a ∷ deal R n (c ∷ cs) (y ∷ [])) s p * to_come (c ∷ cs) (y ∷ []) ≤ ways (a ∷ []) s p * to_come (c ∷ cs) []
-  unfolding deal to_come ways reach
-  last_gone a n c cs y h p = rw (take_all c.length (y ∷ []) h, drop_of_length-le (y ∷ []) {i = c.length} h, deal_nil R c.length cs) (go (found a s p))
+  unfolding ways reach
+  last_gone a n c cs y h p = rw (deal_last n c cs y h, to_come_last c cs y h, to_come_next c cs) (go (found a s p))
     where
       b : Part
       b = part_of R n c (y ∷ [])

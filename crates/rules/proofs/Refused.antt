@@ -11,7 +11,7 @@ use lib.ListN.{length, get_or}
 use borrow.Author.Tests.{ltb-true, ltb-false, leb-false, lt-ltb, le-ltb, lt-leb}
 use Rattle.rules.specs.EachRefusal.{EachRefusal}
 use Rattle.rules.specs.Letters.{value, is_letter}
-use Rattle.rules.specs.Limits.{record_bytes, record_extra, template_components, template_length, template_letters, template_mixed, template_gap, sequenceset_sequences, sequenceset_letters}
+use Rattle.rules.specs.Limits.{record_bytes, record_extra, template_components, template_length, template_letters, template_mixed, template_gap, sequence_set_sequences, sequence_set_letters}
 use Rattle.rules.specs.Lists.{if, sum}
 use Rattle.rules.specs.Profile.{profile_of}
 use Rattle.rules.specs.Refusals.{refuse_if, outside, bad_byte, bad_length, bad_range, bad_gap, bad_allowance, check1, check2, check3, check4, check5, check6, check7, check8, check9, check10, check11, check12, is_passing, check13, check14, check15, check6_head, check8_range, check16, check17, check21, check22, check23, check24, first_bad}
@@ -158,8 +158,8 @@ pub each_refusal : EachRefusal
 unfolding check1 check2 check3 check4 check5 check6 check6_head check7 check8 check8_range check9 check10 check11 check12 check13 check14 check15 check16 check17 check21 check22 check23 check24
 each_refusal =
     record {
-      one = λ lengths. refuses_if _ 1 (outside_says 1 sequenceset_sequences (length lengths));
-      two = λ letters. refuses_if _ 2 (less sequenceset_letters (length letters));
+      one = λ lengths. refuses_if _ 1 (outside_says 1 sequence_set_sequences (length lengths));
+      two = λ letters. refuses_if _ 2 (less sequence_set_letters (length letters));
       three = λ letters lengths. refuses_unless _ 3 (differ (sum lengths) (length letters));
       four = λ letters. first_same (λ o l. let z : o - 0 ≡ o = omega arith in rw z (not_says _ (denied _ (letter_says (get_or letters o 0))))) (first_bad_at 4 bad_byte 0 0 letters);
       five = λ t. refuses_if _ 5 (outside_says 1 template_components t.count);

@@ -147,7 +147,7 @@ leg_stays letters lengths s budget motifs supports weights =
     listed = (leg (walk_of letters lengths s) budget room s.place).motifs
 
     fit : length listed ≤ room
-    fit = (leg_why (walk_of letters lengths s) budget room s.place).listed-fit
+    fit = (leg_why (walk_of letters lengths s) budget room s.place).listed_fit
 
     -- a support and a weighted support for each row
     a : length (supports_of letters lengths s listed) ≡ length listed

@@ -61,7 +61,7 @@ module _ (letters lengths : List ℕ) (t : Template) (quorum : ℕ) (s : Search)
       let room : ℕ = min (length motifs) (min (length supports) (length weights)) in
       let l : Stretch = leg W budget room s.place in
       let q : gives l.stop ≡ gives spent = rw (search_fine letters lengths s b.sound) at a in
-      let used : l.steps ≡ budget = (leg_why W budget room s.place).if-spent cc in
+      let used : l.steps ≡ budget = (leg_why W budget room s.place).if_spent cc in
       let most = passed_most W s.place l (leg_law W (walk_lawful s.template s.quorum (sequences letters lengths) b.sound.template).pos budget room s.place (place_deep letters lengths s b.sound)) in
       let all : length (from W s.place) ≡ whole_steps t quorum (sequences letters lengths) = rw (b.walk, b.at) (from_first t quorum (sequences letters lengths) b.template) in
       omega (arith, begun_steps_few)

@@ -1,6 +1,6 @@
 -- The checks of Refusals.antt beside the sentences of Refused.antt. proofs/Refused.antt proves that each check says its sentence.
 use Rattle.std.specs.Prelude.{◌≡◌, ◌↔◌, ◌⊎◌, List, ℕ, suc, ◌+◌, ◌*◌, ◌≤◌, ◌<◌, ◌^◌, length, get_or}
-use Rattle.rules.specs.Limits.{letter_bases, letter_digits, profile_mixed, record_bytes, record_extra, template_components, template_length, template_letters, template_mixed, sequenceset_sequences, sequenceset_letters}
+use Rattle.rules.specs.Limits.{letter_bases, letter_digits, profile_mixed, record_bytes, record_extra, template_components, template_length, template_letters, template_mixed, sequence_set_sequences, sequence_set_letters}
 use Rattle.rules.specs.Lists.{sum}
 use Rattle.rules.specs.Motif.{spell}
 use Rattle.rules.specs.Profile.{profile_of}
@@ -20,9 +20,9 @@ use Rattle.rules.specs.declared.Template.{Template}
 -- that the paper names, or 0
 pub record EachRefusal : Type 0 where
   -- 1: number of sequences
-  pub one : (lengths : List ℕ) → RefusesIf (check1 lengths) 1 (Outside 1 sequenceset_sequences (length lengths))
+  pub one : (lengths : List ℕ) → RefusesIf (check1 lengths) 1 (Outside 1 sequence_set_sequences (length lengths))
   -- 2: letter buffer above 65,536 bytes
-  pub two : (letters : List ℕ) → RefusesIf (check2 letters) 2 (sequenceset_letters < length letters)
+  pub two : (letters : List ℕ) → RefusesIf (check2 letters) 2 (sequence_set_letters < length letters)
   -- 3: lengths do not add up to the buffer
   pub three : (letters lengths : List ℕ) → RefusesIf (check3 letters lengths) 3 (sum lengths ≡ length letters → ⊥)
   -- 4: byte that is no letter, with the offset of the first

@@ -177,9 +177,9 @@ facts =
     -- p11: quorum 3 with place CA: refusal 13
     ∷ is (search_told (restore_rule letters lengths moved_to_ca)) (13 ∷ 0 ∷ [])
     -- the printing program on E
-    ∷ is (text.print-rule input) printout
+    ∷ is (text.print_rule input) printout
     ∷ []
 
 the_facts : map (λ f. f.computed) facts ≡ map (λ f. f.paper) facts
-unfolding facts letters lengths pair AA AG CG GT AT in_e aa_starts table_one ccg_ta_gaac search_told counts_told answer_told at run_leg whole save saved moved_to_ca in_legs input printout run keep each joined has_some all_pass is_member sum put value is_letter letter split sequences components size trimmed distance deal number spell front_by stands_by reach starts occurrences marks support rows_from occurrence_rows weight allowed to_come exactly profile_by allowed_in parts_in measure reaches walk_in children later under onward from up next start motif listed spelled candidate leg low_first read_low size_record component_record place_record component_records records bytes record_at field record_count component_count read_profile read_component read_place read_template read_search is_sized is_blank has_size_kind has_component_kind has_place_kind is_size_blank is_component_blank is_place_blank saved_records has_kind is_unnamed_blank adds_up meets_place_rule partners partnered is_rising whole_list page ◌else◌ first first_bad check1 check2 check3 check4 check5 check6 check7 check8 check9 check10 check11 check12 is_passing check13 check14 check15 check6_head check8_range check16 check17 check21 check22 check23 check24 new_checks restore_checks search_checks save_checks recover_checks join_checks begun begin_rule stretch supports_of weights_of leg_rule save_rule restore_rule recover_rule join_rule relay text.pieces text.number? text.digits text.parse-number text.run? text.parse-component text.parse-first text.parse-rest text.parse-components text.template-of text.but_last text.last text.lines text.unended text.text-checks text.parse-template text.parse-quorum text.parse-letters text.parse-lengths text.digits_of text.decimal text.shape-rest text.shape text.print-motif text.print-row text.print-end text.print-refused text.print-search text.print-rule
+unfolding facts letters lengths pair AA AG CG GT AT in_e aa_starts table_one ccg_ta_gaac search_told counts_told answer_told at run_leg whole save saved moved_to_ca in_legs input printout run keep each joined has_some all_pass is_member sum put value is_letter letter split sequences components size trimmed distance deal number spell front_by stands_by reach starts occurrences marks support rows_from occurrence_rows weight allowed to_come exactly profile_by allowed_in parts_in measure reaches walk_in children later under onward from up next start motif listed spelled candidate leg low_first read_low size_record component_record place_record component_records records bytes record_at field record_count component_count read_profile read_component read_place read_template read_search is_sized is_blank has_size_kind has_component_kind has_place_kind is_size_blank is_component_blank is_place_blank saved_records has_kind is_unnamed_blank adds_up meets_place_rule partners partnered is_rising whole_list page ◌else◌ first first_bad check1 check2 check3 check4 check5 check6 check7 check8 check9 check10 check11 check12 is_passing check13 check14 check15 check6_head check8_range check16 check17 check21 check22 check23 check24 new_checks restore_checks search_checks save_checks recover_checks join_checks begun begin_rule stretch supports_of weights_of leg_rule save_rule restore_rule recover_rule join_rule relay text.pieces text.is_number_text text.digits text.parse_number text.is_run text.parse_component text.parse_first text.parse_rest text.parse_components text.template_of text.but_last text.last text.lines text.unended text.text_checks text.parse_template text.parse_quorum text.parse_letters text.parse_lengths text.digits_of text.decimal text.shape_rest text.shape text.print_motif text.print_row text.print_end text.print_refused text.print_search text.print_rule
 the_facts = refl

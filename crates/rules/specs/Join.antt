@@ -1,6 +1,6 @@
 -- The join of two lists of positions.
 use Rattle.std.specs.Prelude.{Bool, true, ◌&&◌, List, [], ◌∷◌, ℕ, leb, ltb}
-use Rattle.rules.specs.Limits.{sequenceset_letters}
+use Rattle.rules.specs.Limits.{sequence_set_letters}
 use Rattle.rules.specs.Lists.{keep, has_some, is_member}
 use Rattle.rules.specs.Occurrence.{reach}
 use Rattle.rules.specs.Template.{distance}
@@ -16,4 +16,4 @@ partnered first second n low high = keep (λ p. has_some (partners second n low 
 -- a list that a join takes: strictly rising from above `least`, and no position past the last letter there may be
 unfoldable pub is_rising : ℕ → List ℕ → Bool
 is_rising least [] = true
-is_rising least (p ∷ ps) = ltb least p && leb p sequenceset_letters && is_rising p ps
+is_rising least (p ∷ ps) = ltb least p && leb p sequence_set_letters && is_rising p ps

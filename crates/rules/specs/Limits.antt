@@ -48,11 +48,11 @@ abbrev pub template_gap : ℕ
 template_gap = 255
 
 -- the sequences of a set, and their letters in all
-abbrev pub sequenceset_sequences : ℕ
-sequenceset_sequences = 1024
+abbrev pub sequence_set_sequences : ℕ
+sequence_set_sequences = 1024
 
-abbrev pub sequenceset_letters : ℕ
-sequenceset_letters = 65536
+abbrev pub sequence_set_letters : ℕ
+sequence_set_letters = 65536
 
 -- a saved record's bytes; the kinds of record; the records besides the components'
 abbrev pub record_bytes : ℕ

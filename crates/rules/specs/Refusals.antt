@@ -2,7 +2,7 @@
 use Rattle.std.specs.Prelude.{Bool, ◌&&◌, ◌||◌, not, List, [], ◌∷◌, ◌++◌, ℕ, suc, ltb, eqb, length}
 use Rattle.rules.specs.Join.{is_rising}
 use Rattle.rules.specs.Letters.{is_letter}
-use Rattle.rules.specs.Limits.{template_components, template_length, template_gap, sequenceset_sequences, sequenceset_letters}
+use Rattle.rules.specs.Limits.{template_components, template_length, template_gap, sequence_set_sequences, sequence_set_letters}
 use Rattle.rules.specs.Lists.{if, keep, has_some, sum}
 use Rattle.rules.specs.Profile.{profile_of}
 use Rattle.rules.specs.Recovery.{whole_list}
@@ -43,10 +43,10 @@ outside low high x = ltb x low || ltb high x
 
 -- THE CHECKS, by their numbers. The sequences:
 unfoldable pub check1 : List ℕ → Verdict
-check1 lengths = refuse_if (outside 1 sequenceset_sequences (length lengths)) 1
+check1 lengths = refuse_if (outside 1 sequence_set_sequences (length lengths)) 1
 
 unfoldable pub check2 : List ℕ → Verdict
-check2 letters = refuse_if (ltb sequenceset_letters (length letters)) 2
+check2 letters = refuse_if (ltb sequence_set_letters (length letters)) 2
 
 unfoldable pub check3 : List ℕ → List ℕ → Verdict
 check3 letters lengths = refuse_if (not (eqb (sum lengths) (length letters))) 3

@@ -1,7 +1,7 @@
 -- What is said of a refusal, in the paper's words. The checks of Refusals.antt are tests; here stand the sentences that they
 -- test, about the numbers, bytes and candidates themselves. EachRefusal.antt states that each check says its sentence.
 use Rattle.std.specs.Prelude.{◌⊎◌, ◌↔◌, List, map, ◌≡◌, ℕ, suc, ◌+◌, ◌-◌, ◌*◌, ◌/◌, ◌^◌, ◌≤◌, ◌<◌, length, take, drop, get_or}
-use Rattle.rules.specs.Limits.{letter_symbols, profile_last, record_size, record_component, record_place, sequenceset_letters, template_gap}
+use Rattle.rules.specs.Limits.{letter_symbols, profile_last, record_size, record_component, record_place, sequence_set_letters, template_gap}
 use Rattle.rules.specs.Lists.{run, sum}
 use Rattle.rules.specs.Motif.{spell}
 use Rattle.rules.specs.Profile.{base_of, several}
@@ -159,7 +159,7 @@ abbrev pub NotRising : List ℕ → Type 0
 NotRising xs = (i : ℕ) × (suc i < length xs) × (get_or xs (suc i) 0 ≤ get_or xs i 0)
 
 abbrev pub Misplaced : List ℕ → Type 0
-Misplaced xs = (i : ℕ) × (i < length xs) × Outside 1 sequenceset_letters (get_or xs i 0)
+Misplaced xs = (i : ℕ) × (i < length xs) × Outside 1 sequence_set_letters (get_or xs i 0)
 
 abbrev pub BadList : List ℕ → Type 0
 BadList xs = NotRising xs ⊎ Misplaced xs

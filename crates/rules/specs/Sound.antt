@@ -2,7 +2,7 @@
 -- proofs/Sound.antt shows that they follow from the checks.
 use Rattle.std.specs.Prelude.{true, List, ◌≡◌, ℕ, ◌≤◌, ◌<◌, length, get_or}
 use Rattle.rules.specs.Letters.{is_letter}
-use Rattle.rules.specs.Limits.{template_components, template_length, template_letters, template_gap, sequenceset_sequences, sequenceset_letters}
+use Rattle.rules.specs.Limits.{template_components, template_length, template_letters, template_gap, sequence_set_sequences, sequence_set_letters}
 use Rattle.rules.specs.Lists.{sum}
 use Rattle.rules.specs.Profile.{profile_of}
 use Rattle.rules.specs.Template.{allowance_in, slots, none, size}
@@ -12,8 +12,8 @@ use Rattle.rules.specs.declared.Template.{Template}
 -- 1 to 4 pass
 pub record SoundSet (letters lengths : List ℕ) : Type 0 where
   pub some : 1 ≤ length lengths
-  pub few : length lengths ≤ sequenceset_sequences
-  pub short : length letters ≤ sequenceset_letters
+  pub few : length lengths ≤ sequence_set_sequences
+  pub short : length letters ≤ sequence_set_letters
   pub adds : sum lengths ≡ length letters
   pub spelt : (i : ℕ) → i < length letters → is_letter (get_or letters i 0) ≡ true
 

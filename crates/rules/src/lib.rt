@@ -1,5 +1,7 @@
 // The paper's types, with their limits and constructors. An inner crate: what it defines stands in specs/, and the laws
 // about that in proofs/.
+#![tactic(auto)]
+
 mod alphabet;
 mod kinds;
 mod layout;
@@ -7,36 +9,36 @@ mod refusals;
 mod shape;
 
 ghost use Rattle.std.specs.Prelude.{◌≡◌, min};
-ghost use Rattle.rules.specs.Limits.{letter_bases, letter_bits, letter_symbols, letter_digits, letter_mark, profile_exact, profile_mixed, template_components, template_length, template_letters, template_mixed, template_gap, sequenceset_sequences, sequenceset_letters, record_bytes, record_size, record_component, record_place, record_extra, text_bytes, text_gap_digits, text_quorum_digits, fasta_bytes, fasta_length};
+ghost use Rattle.rules.specs.Limits.{letter_bases, letter_bits, letter_symbols, letter_digits, letter_mark, profile_exact, profile_mixed, template_components, template_length, template_letters, template_mixed, template_gap, sequence_set_sequences, sequence_set_letters, record_bytes, record_size, record_component, record_place, record_extra, text_bytes, text_gap_digits, text_quorum_digits, fasta_bytes, fasta_length};
 ghost use Rattle.rules.specs.Lists.{sign};
 
 // The three countings, each a type of its own, so that none can be taken for another.
 // A sequence's number in the set, from 1.
-#[derive(Drop)]
+#[derive(Clone, Copy)]
 pub struct SequenceNumber(pub usize);
 // A position in a sequence, from 1 and afresh in each.
-#[derive(Drop)]
+#[derive(Clone, Copy)]
 pub struct Position(pub usize);
 // An offset in the whole buffer of letters, from 0.
-#[derive(Drop)]
+#[derive(Clone, Copy)]
 pub struct Offset(pub usize);
 
 // An offset in a FASTA file, from 0: a counting beside those three, since a file holds more than its letters.
-#[derive(Drop)]
+#[derive(Clone, Copy)]
 pub struct FileOffset(pub usize);
 
 // A record's number in a save, from 0: the size record is record 0, a component's has the component's number, and the place record
 // comes after them.
-#[derive(Drop)]
+#[derive(Clone, Copy)]
 pub struct RecordNumber(pub u32);
 
 // The letters A, C, G, T of a sequence: how many there are, the bits that a value takes, and the mark that every other byte has for a
 // value. And those of a motif: the same, or in a mixed search fourteen, each of which stands for some of the four.
-#[derive(Drop)]
+#[derive(Clone, Copy)]
 pub struct Letter {}
 
 // The kind of search that a template asks for: over the letters A, C, G, T, or over mixed ones.
-#[derive(Drop)]
+#[derive(Clone, Copy)]
 pub enum Profile {
     Exact,
     Mixed,
@@ -44,7 +46,7 @@ pub enum Profile {
 
 // A component of a template: its length, the gap range before it, and in a mixed search how many of its letters may stand for several
 // bases. An exact search does not read that.
-#[derive(Drop)]
+#[derive(Clone, Copy)]
 pub struct Component {
     pub length: u16,
     pub low: u16,
@@ -53,14 +55,14 @@ pub struct Component {
 }
 
 // How far the start of a component may lie from that of the one before it: the least distance, and how many there are from that on.
-#[derive(Drop)]
+#[derive(Clone, Copy)]
 pub struct Distances {
     pub near: usize,
     pub count: usize,
 }
 
 // A template: the kind of search, how many components there are, and a slot for each that there may be.
-#[derive(Drop)]
+#[derive(Clone, Copy)]
 pub struct Template {
     pub profile: Profile,
     pub count: u16,
@@ -73,21 +75,21 @@ pub struct Template {
 }
 
 // The size of the set of sequences that a search is over.
-#[derive(Drop)]
+#[derive(Clone, Copy)]
 pub struct SequenceSet {
     pub sequences: u32,
     pub letters: u32,
 }
 
 // Where a search stands: the letters of its next candidate and its number. An ended search stands at 0, 0.
-#[derive(Drop)]
+#[derive(Clone, Copy)]
 pub struct Place {
     pub letters: u8,
     pub number: u64,
 }
 
 // A search: what it is over, and where it stands.
-#[derive(Drop)]
+#[derive(Clone, Copy)]
 pub struct Search {
     pub template: Template,
     pub quorum: u64,
@@ -96,13 +98,13 @@ pub struct Search {
 }
 
 // A record of a saved search.
-#[derive(Drop)]
+#[derive(Clone, Copy)]
 pub struct Record {
     pub bytes: [u8; Record::BYTES],
 }
 
 // The printing program's input: its most bytes, and the most digits of a number in a gap range and of the quorum.
-#[derive(Drop)]
+#[derive(Clone, Copy)]
 pub struct Text {}
 
 impl Text {
@@ -115,7 +117,7 @@ impl Text {
 
 // A FASTA file: the most bytes of one that the program `lines` holds, and the most letters of a record, which a row of the lengths
 // table can hold.
-#[derive(Drop)]
+#[derive(Clone, Copy)]
 pub struct Fasta {}
 
 impl Fasta {
@@ -125,7 +127,7 @@ impl Fasta {
 }
 
 // Why a call refuses, one name for each number from 1 to 18 and 21 to 24, with the place where one is told.
-#[derive(Drop)]
+#[derive(Clone, Copy)]
 pub enum Refusal {
     SequenceCount,
     LetterCount,
@@ -152,21 +154,21 @@ pub enum Refusal {
 }
 
 // What a check finds.
-#[derive(Drop)]
+#[derive(Clone, Copy)]
 pub enum Checked {
     Fine,
     Refused(Refusal),
 }
 
 // What a new search or a restore answers.
-#[derive(Drop)]
+#[derive(Clone, Copy)]
 pub enum Begun {
     Search(Search),
     Refused(Refusal),
 }
 
 // Why a leg stopped.
-#[derive(Drop)]
+#[derive(Clone, Copy)]
 pub enum LegAnswer {
     Ended,
     Spent,
@@ -175,7 +177,7 @@ pub enum LegAnswer {
 }
 
 // What a leg answers: why it stopped, its steps, its rows, and the search at its new place.
-#[derive(Drop)]
+#[derive(Clone, Copy)]
 pub struct Leg {
     pub answer: LegAnswer,
     pub steps: u64,
@@ -184,28 +186,28 @@ pub struct Leg {
 }
 
 // What a save answers: its length in bytes.
-#[derive(Drop)]
+#[derive(Clone, Copy)]
 pub enum Saved {
     Bytes(usize),
     Refused(Refusal),
 }
 
 // What a recovery answers: the rows written, and the length of the whole list.
-#[derive(Drop)]
+#[derive(Clone, Copy)]
 pub enum Recovered {
     Rows { written: usize, length: u64 },
     Refused(Refusal),
 }
 
 // What a join answers: how many positions it kept.
-#[derive(Drop)]
+#[derive(Clone, Copy)]
 pub enum Joined {
     Kept(usize),
     Refused(Refusal),
 }
 
 // A record's name, as a part of its file: from one offset up to another.
-#[derive(Drop)]
+#[derive(Clone, Copy)]
 pub struct Name {
     pub start: FileOffset,
     pub end: FileOffset,
@@ -213,7 +215,7 @@ pub struct Name {
 
 // Why the FASTA reader refuses: text before the first record, no room for the next one, or a byte that is no letter, with its
 // place in the file.
-#[derive(Drop)]
+#[derive(Clone, Copy)]
 pub enum FileRefusal {
     TextBefore,
     NoRoom,
@@ -221,7 +223,7 @@ pub enum FileRefusal {
 }
 
 // What a call of the FASTA reader hands out: the next record's name and how many letters it has, or the file's end.
-#[derive(Drop)]
+#[derive(Clone, Copy)]
 pub enum Handed {
     Record { name: Name, letters: usize },
     End,
@@ -244,28 +246,28 @@ pub fn sign(x: u64) -> u8
 
 // Each limit in the code is the definition of the same name.
 pub fn limits()
-    ensures* do_value { do ⌜ (← (⟦Letter::BASES⟧).entry) ≡ letter_bases ⌝ }
-    ensures* do_value_2 { do ⌜ (← (⟦Letter::BITS⟧).entry) ≡ letter_bits ⌝ }
-    ensures* do_value_3 { do ⌜ (← (⟦Letter::SYMBOLS⟧).entry) ≡ letter_symbols ⌝ }
-    ensures* do_value_4 { do ⌜ (← (⟦Letter::DIGITS⟧).entry) ≡ letter_digits ⌝ }
-    ensures* do_value_5 { do ⌜ (← (⟦Letter::MARK⟧).entry) ≡ letter_mark ⌝ }
-    ensures* do_value_6 { do ⌜ (← (⟦Profile::EXACT⟧).entry) ≡ profile_exact ⌝ }
-    ensures* do_value_7 { do ⌜ (← (⟦Profile::MIXED⟧).entry) ≡ profile_mixed ⌝ }
-    ensures* do_value_8 { do ⌜ (← (⟦Template::COMPONENTS⟧).entry) ≡ template_components ⌝ }
-    ensures* do_value_9 { do ⌜ (← (⟦Template::LENGTH⟧).entry) ≡ template_length ⌝ }
-    ensures* do_value_10 { do ⌜ (← (⟦Template::LETTERS⟧).entry) ≡ template_letters ⌝ }
-    ensures* do_value_11 { do ⌜ (← (⟦Template::MIXED⟧).entry) ≡ template_mixed ⌝ }
-    ensures* do_value_12 { do ⌜ (← (⟦Template::GAP⟧).entry) ≡ template_gap ⌝ }
-    ensures* do_value_13 { do ⌜ (← (⟦SequenceSet::SEQUENCES⟧).entry) ≡ sequenceset_sequences ⌝ }
-    ensures* do_value_14 { do ⌜ (← (⟦SequenceSet::LETTERS⟧).entry) ≡ sequenceset_letters ⌝ }
-    ensures* do_value_15 { do ⌜ (← (⟦Record::BYTES⟧).entry) ≡ record_bytes ⌝ }
-    ensures* do_value_16 { do ⌜ (← (⟦Record::SIZE⟧).entry) ≡ record_size ⌝ }
-    ensures* do_value_17 { do ⌜ (← (⟦Record::COMPONENT⟧).entry) ≡ record_component ⌝ }
-    ensures* do_value_18 { do ⌜ (← (⟦Record::PLACE⟧).entry) ≡ record_place ⌝ }
-    ensures* do_value_19 { do ⌜ (← (⟦Record::EXTRA⟧).entry) ≡ record_extra ⌝ }
-    ensures* do_value_20 { do ⌜ (← (⟦Text::BYTES⟧).entry) ≡ text_bytes ⌝ }
-    ensures* do_value_21 { do ⌜ (← (⟦Text::GAP_DIGITS⟧).entry) ≡ text_gap_digits ⌝ }
-    ensures* do_value_22 { do ⌜ (← (⟦Text::QUORUM_DIGITS⟧).entry) ≡ text_quorum_digits ⌝ }
-    ensures* do_value_23 { do ⌜ (← (⟦Fasta::BYTES⟧).entry) ≡ fasta_bytes ⌝ }
-    ensures* do_value_24 { do ⌜ (← (⟦Fasta::LENGTH⟧).entry) ≡ fasta_length ⌝ }
+    ensures letter_bases { Letter.BASES ≡ letter_bases }
+    ensures letter_bits { Letter.BITS ≡ letter_bits }
+    ensures letter_symbols { Letter.SYMBOLS ≡ letter_symbols }
+    ensures letter_digits { Letter.DIGITS ≡ letter_digits }
+    ensures letter_mark { Letter.MARK ≡ letter_mark }
+    ensures profile_exact { Profile.EXACT ≡ profile_exact }
+    ensures profile_mixed { Profile.MIXED ≡ profile_mixed }
+    ensures template_components { Template.COMPONENTS ≡ template_components }
+    ensures template_length { Template.LENGTH ≡ template_length }
+    ensures template_letters { Template.LETTERS ≡ template_letters }
+    ensures template_mixed { Template.MIXED ≡ template_mixed }
+    ensures template_gap { Template.GAP ≡ template_gap }
+    ensures sequence_set_sequences { SequenceSet.SEQUENCES ≡ sequence_set_sequences }
+    ensures sequence_set_letters { SequenceSet.LETTERS ≡ sequence_set_letters }
+    ensures record_bytes { Record.BYTES ≡ record_bytes }
+    ensures record_size { Record.SIZE ≡ record_size }
+    ensures record_component { Record.COMPONENT ≡ record_component }
+    ensures record_place { Record.PLACE ≡ record_place }
+    ensures record_extra { Record.EXTRA ≡ record_extra }
+    ensures text_bytes { Text.BYTES ≡ text_bytes }
+    ensures text_gap_digits { Text.GAP_DIGITS ≡ text_gap_digits }
+    ensures text_quorum_digits { Text.QUORUM_DIGITS ≡ text_quorum_digits }
+    ensures fasta_bytes { Fasta.BYTES ≡ fasta_bytes }
+    ensures fasta_length { Fasta.LENGTH ≡ fasta_length }
 {}

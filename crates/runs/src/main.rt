@@ -1,5 +1,7 @@
 // The facts that are run: each side of every limit, every byte as a letter, only empty sequences, and the worked example of
 // Zhang and Zaki. What each new search answers is printed, and where it is accepted a first leg of it.
+#![tactic(auto)]
+
 mod tell;
 
 use libc::STDOUT_FILENO;

@@ -24,18 +24,18 @@ module _ (letters lengths : List ℕ) where
   module _ (s : Search) (out after : List ℕ) (n : ℕ) (saves : Keeps told_saved (save_rule letters lengths s out) (saved.Bytes n) after) where
     -- then `restore` of those n bytes, over the same sequences, answers the search, with nothing in what it does not use
     pub saved_restores : (b : Begun) → told_begun b ≡ restore_rule letters lengths (take n after) → b ≡ begun.Search (trimmed_search s)
-    saved_restores b e = same_begun b (begun.Search (trimmed_search s)) (rw saves.1 at e ∙ laws.saved-restores letters lengths s out n (sym saves.0))
+    saved_restores b e = same_begun b (begun.Search (trimmed_search s)) (rw saves.1 at e ∙ laws.saved_restores letters lengths s out n (sym saves.0))
 
     -- and of fewer of them, over any sequences that pass 1 to 4, is refused
     pub cut_short : (k : ℕ) → k < n → (letters' lengths' : List ℕ) → first (set_checks letters' lengths') ≡ fine
         → (b : Begun) → told_begun b ≡ restore_rule letters' lengths' (take k after) → b ≡ begun.Refused SavedSize
     cut_short k h letters' lengths' f b e =
-        same_begun b (begun.Refused SavedSize) (rw saves.1 at e ∙ laws.saved-cut letters lengths s out n k (sym saves.0) h letters' lengths' ∙ rw f)
+        same_begun b (begun.Refused SavedSize) (rw saves.1 at e ∙ laws.saved_cut letters lengths s out n k (sym saves.0) h letters' lengths' ∙ rw f)
 
   -- `restore` answered a search; `save` of it, where there is room, answers their length and writes the bytes
   pub restored_saves : (bs : List ℕ) → Bytes bs → (s : Search) → told_begun (begun.Search s) ≡ restore_rule letters lengths bs
       → (out after : List ℕ) → length bs ≤ length out → (a : Saved) → Keeps told_saved (save_rule letters lengths s out) a after
       → (a ≡ saved.Bytes (length bs)) × (after ≡ put bs out)
   restored_saves bs b s e out after room a k =
-      let q = laws.saved-again letters lengths bs s out (sym e) b room in
+      let q = laws.saved_again letters lengths bs s out (sym e) b room in
       (same_saved a (saved.Bytes (length bs)) (k.0 ∙ ap (λ w. w.told) q), k.1 ∙ ap (λ w. w.out) q)

@@ -1,4 +1,6 @@
 // Save and restore: a search as bytes, and bytes as a search. Both check all that they are given, in the paper's order.
+#![tactic(auto)]
+
 ghost use Rattle.std.specs.Prelude.{◌≡◌};
 ghost use Rattle.rules.specs.Calls.{save_rule, restore_rule};
 ghost use Rattle.rules.specs.Told.{told_saved, told_begun};

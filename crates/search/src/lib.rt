@@ -1,4 +1,6 @@
 // The search for frequent motifs, as a caller sees it.
+#![tactic(auto)]
+
 ghost use Rattle.std.specs.Prelude.{◌≡◌};
 ghost use Rattle.rules.specs.Calls.{begin_rule, leg_rule};
 ghost use Rattle.rules.specs.Told.{told_begun, told_leg};

@@ -1,5 +1,7 @@
 // Standard input, read to its end. What a read does is the C library's: its contract says how many bytes it moved, or that it
 // failed, and nothing of the bytes. An inner crate, of the programs.
+#![tactic(auto)]
+
 ghost use Rattle.std.specs.Prelude.{◌≡◌, ◌-◌, ◌≤◌, ◌<◌, ℤ, length};
 ghost use Rattle.libc.specs.Io.{Moved};
 ghost use Rattle.stdin.specs.Came.{came_after, more_of, bytes_of, AtEnd};
@@ -8,7 +10,7 @@ use libc::{STDERR_FILENO, STDIN_FILENO};
 
 // What came to the front of a buffer: so many bytes, and perhaps more to come; all that there are, or that the buffer has room
 // for; or nothing that may be used, since a read failed.
-#[derive(Drop)]
+#[derive(Clone, Copy)]
 pub enum Came {
     More(usize),
     All(usize),

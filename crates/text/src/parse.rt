@@ -10,14 +10,14 @@ use super::pieces::{find, in_two, skip, tail};
 use rules::{Component, Profile, Template, Text};
 
 // What the text of a number comes to.
-#[derive(Drop)]
+#[derive(Clone, Copy)]
 pub(crate) enum Number {
     Value(u64),
     Malformed,
 }
 
 // What the text of a component comes to.
-#[derive(Drop)]
+#[derive(Clone, Copy)]
 pub(crate) enum Piece {
     Component(Component),
     Malformed,

@@ -70,7 +70,7 @@ pub(crate) fn skip(b: u8, n: usize, text: &[u8]) -> usize
 }
 
 // How many pieces come before the last one, and where that starts.
-#[derive(Drop)]
+#[derive(Clone, Copy)]
 pub(crate) struct Rest {
     pub before: usize,
     pub start: usize,

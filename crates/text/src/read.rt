@@ -13,7 +13,7 @@ use super::print::write_bytes;
 use rules::{Checked, Refusal, Template, Text};
 
 // Where a line stands.
-#[derive(Drop)]
+#[derive(Clone, Copy)]
 struct Span {
     start: usize,
     end: usize,
@@ -104,7 +104,7 @@ pub fn read_quorum(input: &[u8]) -> u64
 }
 
 // How many sequences were read, and how many letters.
-#[derive(Drop)]
+#[derive(Clone, Copy)]
 pub struct Sequences {
     pub sequences: usize,
     pub letters: usize,

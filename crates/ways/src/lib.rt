@@ -1,5 +1,7 @@
 // How many occurrences a motif has in one sequence, from each position: what recovery goes by. An inner crate: its functions require
 // what the checks show of the sequences and the template.
+#![tactic(auto)]
+
 ghost use Rattle.std.specs.Prelude.{◌≡◌, map, ℕ, suc, ◌+◌, ◌^◌, ◌≤◌, ◌<◌, length, drop};
 ghost use Rattle.rules.specs.Limits.{template_length, template_gap};
 ghost use Rattle.rules.specs.Lists.{run, sum};

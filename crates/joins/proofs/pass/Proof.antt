@@ -6,7 +6,7 @@ use native.Mathlib.Omega.{arith}
 use lib.ListN.{length, get_or}
 use borrow.Author.Rules.{rules}
 use Rattle.rules.specs.Join.{partnered}
-use Rattle.rules.specs.Limits.{sequenceset_letters}
+use Rattle.rules.specs.Limits.{sequence_set_letters}
 use Rattle.rules.proofs.Apart.{Apart, apart}
 use Rattle.rules.proofs.Sound.{join_sound}
 use Rattle.joins.specs.Pass.{is_partner}
@@ -40,7 +40,7 @@ shared-slice-read-p : tie.Need-shared-slice-read-p invariant-loop decreases-loop
 shared-slice-read-p c = search rules
 
 -- a position of the first list is none past the last letter, and the distances are small, so no sum wraps
-in_letters : (c : tie.In-loop invariant-loop decreases-loop) → get_or c.before.before.before.before.before.before.args.first.now c.before.loop.i 0 ≤ sequenceset_letters
+in_letters : (c : tie.In-loop invariant-loop decreases-loop) → get_or c.before.before.before.before.before.before.args.first.now c.before.loop.i 0 ≤ sequence_set_letters
 in_letters c = (rising_at 0 _ (join_sound _ _ _ _ _ _ c.before.before.before.before.before.before.requires).first_rising c.before.loop.i (search rules)).1
 
 small : (c : tie.After-over invariant-loop decreases-loop) → Apart c.over.result

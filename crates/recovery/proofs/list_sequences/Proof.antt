@@ -7,7 +7,7 @@ use native.Mathlib.Omega.{arith}
 use lib.ListN.{length, drop, length-take, length-drop}
 use Rattle.descent.specs.Buffer.{buffer, progress, InBuffer}
 use Rattle.recovery.proofs.SequenceBySequence.{going_through, through_all, through_none, through_again, left, left_all, left_none, left_more, left_few}
-use Rattle.rules.specs.Limits.{sequenceset_letters, template_components}
+use Rattle.rules.specs.Limits.{sequence_set_letters, template_components}
 use Rattle.rules.specs.Lists.{sum}
 use Rattle.rules.specs.Support.{parts}
 use Rattle.rules.specs.Template.{size}
@@ -20,8 +20,8 @@ invariant-loop letters lengths template motif first ways₀ flags₀ out₀ prog
     let cs = parts template (size template) motif in
     let through = going_through (suc template.count) cs lengths letters in
     (i ≤ length lengths)
-    × (length ways ≡ sequenceset_letters)
-    × (length flags ≡ template_components * sequenceset_letters)
+    × (length ways ≡ sequence_set_letters)
+    × (length flags ≡ template_components * sequence_set_letters)
     × (length out ≡ length out₀)
     × InBuffer done (length out)
     × (begin + sum (drop i lengths) ≡ length letters)

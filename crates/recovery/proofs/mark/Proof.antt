@@ -8,7 +8,7 @@ use lib.ListN.{length, take, drop, length-map}
 use Rattle.descent.specs.Paths.{Flagged}
 use Rattle.recovery.proofs.FlagsFromWays.{flagged_more, flagged_none}
 use Rattle.rules.specs.Letters.{value}
-use Rattle.rules.specs.Limits.{sequenceset_letters, template_components, template_letters}
+use Rattle.rules.specs.Limits.{sequence_set_letters, template_components, template_letters}
 use Rattle.rules.specs.Support.{parts}
 use Rattle.rules.specs.Template.{components, size}
 use Rattle.ways.specs.Counts.{counts, aligned}
@@ -19,8 +19,8 @@ use Rattle.recovery.proofs.mark.Tie as tie
 abbrev invariant-loop : tie.invariant-loop
 invariant-loop sequence template motif ways₀ flags₀ word c₀ ways flags c =
     (c ≤ template.count)
-    × (length ways ≡ sequenceset_letters)
-    × (length flags ≡ template_components * sequenceset_letters)
+    × (length ways ≡ sequence_set_letters)
+    × (length flags ≡ template_components * sequence_set_letters)
     × Flagged (parts template (size template) motif) (map value sequence) flags c
     × (c < template.count → take (length sequence) ways ≡ counts (aligned (drop c (components template)) word) sequence)
 

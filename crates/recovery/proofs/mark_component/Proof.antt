@@ -7,7 +7,7 @@ use lib.ListN.{drop, length-take, length-drop}
 use lib.Seq.{length-take-le}
 use Rattle.descent.proofs.Parts.{put_back}
 use Rattle.recovery.proofs.FlagsFromWays.{front_counts}
-use Rattle.rules.specs.Limits.{sequenceset_letters}
+use Rattle.rules.specs.Limits.{sequence_set_letters}
 use Rattle.rules.specs.Template.{components}
 use Rattle.ways.specs.Counts.{aligned}
 use Rattle.recovery.proofs.mark_component.Statement.{statement}
@@ -58,7 +58,7 @@ returns : tie.Need-returns
 returns c =
     let a = c.before.before.before.before.before.before.before.before.before.before.before.before.before.args in
     let e = c.before.before.before.before.before.before.before.step.ensures in
-    (front_counts (aligned (drop a.component (components a.template)) a.word.now) a.sequence.now a.ways.now e, put_back (a.component * sequenceset_letters) _ a.flags.now (omega arith) c.before.before.set-flags.ensures)
+    (front_counts (aligned (drop a.component (components a.template)) a.word.now) a.sequence.now a.ways.now e, put_back (a.component * sequence_set_letters) _ a.flags.now (omega arith) c.before.before.set-flags.ensures)
 
 pub mark-component-spec : {M : Type 1} → statement M
 mark-component-spec =

@@ -2,7 +2,7 @@
 use borrow.Author.Rules.{rules}
 use Prim.Native.Nat.{ℕ, ◌*◌}
 use lib.ListN.{length-replicate}
-use Rattle.rules.specs.Limits.{sequenceset_letters, template_components}
+use Rattle.rules.specs.Limits.{sequence_set_letters, template_components}
 use Rattle.recovery.proofs.Rule.{past_the_end, listed}
 use Rattle.recovery.proofs.recover_rows.Statement.{statement}
 use Rattle.recovery.proofs.recover_rows.Tie as tie
@@ -16,7 +16,7 @@ slice-aggregate-list-sequences-2 c = search rules
 list-sequences-requires : tie.Need-list-sequences-requires
 list-sequences-requires c κs =
     let b = c.before.before.before.before.before.before in
-    (b.requires.0, (b.requires.1, (length-replicate {A = ℕ} sequenceset_letters 0, length-replicate {A = ℕ} (template_components * sequenceset_letters) 0)))
+    (b.requires.0, (b.requires.1, (length-replicate {A = ℕ} sequence_set_letters 0, length-replicate {A = ℕ} (template_components * sequence_set_letters) 0)))
 
 same_length : tie.Need-same-length
 same_length c = search rules

@@ -4,7 +4,7 @@ use mathlib.Core.List.{List, map}
 use mathlib.Core.Path.{◌≡◌}
 use Prim.Native.Nat.{ℕ, ◌+◌, ◌-◌, ◌*◌, ◌≤◌, ◌<◌}
 use native.Mathlib.Omega.{arith}
-use Rattle.rules.specs.Limits.{sequenceset_sequences}
+use Rattle.rules.specs.Limits.{sequence_set_sequences}
 use Rattle.rules.specs.Lists.{run, sum}
 use Rattle.rows.specs.Set.{row_marks}
 use Rattle.matching.specs.Weights.{weight_at, weight_of}
@@ -13,7 +13,7 @@ use Rattle.matching.proofs.weights.add_all.Statement.{statement}
 use Rattle.matching.proofs.weights.add_all.Tie as tie
 
 abbrev invariant-loop : tie.invariant-loop
-invariant-loop lengths firsts offsets row counts total₀ w₀ total w = (w ≤ row_marks) × (total + weights_up lengths row counts sequenceset_sequences (w * 64) ≡ weight_of lengths row counts)
+invariant-loop lengths firsts offsets row counts total₀ w₀ total w = (w ≤ row_marks) × (total + weights_up lengths row counts sequence_set_sequences (w * 64) ≡ weight_of lengths row counts)
 
 abbrev decreases-loop : tie.decreases-loop
 decreases-loop lengths firsts offsets row counts total₀ w₀ total w = row_marks - w
@@ -35,8 +35,8 @@ module _ (t : tie.In-loop invariant-loop decreases-loop) where
   abbrev counts : List ℕ
   counts = t.before.before.before.before.before.before.before.args.counts.now
 
-  more : weights_up ns row counts sequenceset_sequences (w * 64) ≡ sum (map (weight_at ns row counts) (run (w * 64) 64)) + weights_up ns row counts sequenceset_sequences ((w + 1) * 64)
-  more = weights_more ns row counts sequenceset_sequences w (omega (arith, top))
+  more : weights_up ns row counts sequence_set_sequences (w * 64) ≡ sum (map (weight_at ns row counts) (run (w * 64) 64)) + weights_up ns row counts sequence_set_sequences ((w + 1) * 64)
+  more = weights_more ns row counts sequence_set_sequences w (omega (arith, top))
 
 loop-holds : tie.Need-loop-init invariant-loop decreases-loop
 loop-holds c =
@@ -65,7 +65,7 @@ returns c =
     let a = c.before.before.before.before.before.before.before.args in
     let l = c.before.loop in
     let q : row_marks ≤ l.w = search rules in
-    omega (arith, weights_none a.lengths.now a.row.now a.counts.now sequenceset_sequences (l.w * 64) (λ m h u. absurd (omega (arith, q))))
+    omega (arith, weights_none a.lengths.now a.row.now a.counts.now sequence_set_sequences (l.w * 64) (λ m h u. absurd (omega (arith, q))))
 
 pub add-all-spec : {M : Type 1} → statement M
 add-all-spec =

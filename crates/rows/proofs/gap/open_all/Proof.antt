@@ -4,7 +4,7 @@ use mathlib.Core.Path.{◌≡◌, ◌∙◌}
 use Prim.Native.Nat.{◌-◌, ◌*◌, ◌≤◌}
 use native.Mathlib.Omega.{arith}
 use lib.ListN.{length}
-use Rattle.rules.specs.Limits.{sequenceset_sequences}
+use Rattle.rules.specs.Limits.{sequence_set_sequences}
 use Rattle.rows.specs.Set.{row_marks, is_marked, window_at}
 use Rattle.rows.proofs.RowsRewritten.{Rewritten, same_bounds, rewritten_none, opened_word, opened_marks, opened_all}
 use Rattle.rows.proofs.gap.open_all.Statement.{statement}
@@ -53,7 +53,7 @@ returns : tie.Need-returns invariant-loop decreases-loop
 returns c =
     let p = c.before.before.before.before.before.before.requires in
     let l = c.before.loop in
-    let n : sequenceset_sequences ≤ l.w * 64 = omega (arith, c.loop-test.false) in
+    let n : sequence_set_sequences ≤ l.w * 64 = omega (arith, c.loop-test.false) in
     (opened_marks _ _ _ _ _ _ n l.invariant.3, (opened_all _ _ _ _ _ _ n l.invariant.3 p.0.0, (l.invariant.2, l.invariant.1)))
 
 pub open-all-spec : {M : Type 1} → statement M

@@ -4,7 +4,7 @@ use mathlib.Core.Path.{◌≡◌, refl, ◌∙◌}
 use Prim.Native.Nat.{◌-◌, ◌≤◌, ◌<◌}
 use native.Mathlib.Omega.{arith}
 use lib.ListN.{length}
-use Rattle.rules.specs.Limits.{sequenceset_sequences}
+use Rattle.rules.specs.Limits.{sequence_set_sequences}
 use Rattle.rows.specs.Set.{row_marks}
 use Rattle.rows.proofs.Start.{Begun, begun_none, begun_long, begun_turn, begun_end}
 use Rattle.rows.proofs.set.mark_first.Statement.{statement}
@@ -51,7 +51,7 @@ loop-again : tie.Need-loop-preserved invariant-loop decreases-loop
 loop-again c =
     let s = c.before.before.before in
     let l = c.before.before.loop in
-    let h : l.k < sequenceset_sequences = omega (arith, s.requires.0, c.before.loop-test.true) in
+    let h : l.k < sequence_set_sequences = omega (arith, s.requires.0, c.before.loop-test.true) in
     let long : row_marks ≤ length l.row = omega (arith, l.invariant.1, s.requires.0) in
     (search rules, begun_long _ _ _ l.invariant.2 h long ∙ l.invariant.1, begun_turn _ _ _ l.invariant.2 h long)
 

@@ -15,8 +15,7 @@ use Rattle.rules.specs.declared.Template.{Template}
 use native.Mathlib.Omega.{arith}
 use borrow.Author.Rules.{rules}
 use borrow.Author.Tests.{le-leb}
-use Rattle.rules.proofs.Template.letters.Statement.{statement}
-use Rattle.rules.proofs.Template.letters.Tie as tie
+use Rattle.rules.proofs.Template.letters.Goals as goal
 
 -- K is the sum over all slots, since those past the last component hold none
 in_all : (p : Profile) (n : ℕ) (a b c d e f : Component) → sum (map (λ c. c.length) (take n (a ∷ b ∷ c ∷ d ∷ e ∷ f ∷ [])))
@@ -38,59 +37,5 @@ all_slots : (t u : Template) → u ≡ trimmed t
 unfolding components size trimmed
 all_slots t u e = rw e (sym (in_all t.profile t.count t.c1 t.c2 t.c3 t.c4 t.c5 t.c6))
 
-trim-requires : tie.Need-trim-requires
-trim-requires c κs = search rules
-
-cast-k1 : tie.Need-overflow-cast-k1
-cast-k1 c = search rules
-
-cast-k2 : tie.Need-overflow-cast-k2
-cast-k2 c = search rules
-
-cast-k3 : tie.Need-overflow-cast-k3
-cast-k3 c = search rules
-
-cast-k4 : tie.Need-overflow-cast-k4
-cast-k4 c = omega (arith, c.struct-known4.given.1.1.1.1.1)
-
-cast-k5 : tie.Need-overflow-cast-k5
-cast-k5 c = omega (arith, c.struct-known5.given.1.1.1.1.1.1)
-
-cast-k6 : tie.Need-overflow-cast-k6
-cast-k6 c = omega (arith, c.struct-known6.given.1.1.1.1.1.1.1)
-
-add-result : tie.Need-overflow-add-result
-add-result c = search rules
-
-add-result-2 : tie.Need-overflow-add-result-2
-add-result-2 c = search rules
-
-add-result-3 : tie.Need-overflow-add-result-3
-add-result-3 c = omega (arith, c.struct-known6.given.1.1.1.1)
-
-add-result-4 : tie.Need-overflow-add-result-4
-add-result-4 c = omega (arith, c.struct-known6.given.1.1.1.1.1)
-
-add-result-5 : tie.Need-overflow-add-result-5
-add-result-5 c = omega (arith, c.struct-known6.given.1.1.1.1.1)
-
-returns : tie.Need-returns
-returns c = all_slots _ _ c.before.before.before.before.before.before.trim.ensures
-
-pub letters-spec : {M : Type 1} → statement M
-letters-spec =
-    tie.close
-    (tie.spec
-    trim-requires
-    cast-k1
-    cast-k2
-    cast-k3
-    cast-k4
-    cast-k5
-    cast-k6
-    add-result
-    add-result-2
-    add-result-3
-    add-result-4
-    add-result-5
-    returns)
+pub returns : goal.returns
+returns c = all_slots c.args.self c.trim-t.result c.trim-t.ensures

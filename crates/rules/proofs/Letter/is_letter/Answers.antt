@@ -7,12 +7,11 @@ use lib.Dec.{eqb, ltb}
 use Rattle.rules.specs.Letters.{A, C, G, T, value, is_letter}
 use Rattle.rules.specs.Limits.{letter_mark}
 use Rattle.rules.specs.Lists.{if}
-use Rattle.rules.proofs.Letter.is_letter.Statement.{statement}
-use Rattle.rules.proofs.Letter.is_letter.Tie as tie
+use Rattle.rules.proofs.Letter.is_letter.Goals as goal
 
-below-the-mark : (b : ℕ) → ltb (value b) letter_mark ≡ is_letter b
+below_the_mark : (b : ℕ) → ltb (value b) letter_mark ≡ is_letter b
 unfolding value is_letter
-below-the-mark b = go (eqb b 65) (eqb b 67) (eqb b 71) (eqb b 84)
+below_the_mark b = go (eqb b 65) (eqb b 67) (eqb b 71) (eqb b 84)
   where
     go : (a c g t : Bool) → ltb (if a A (if c C (if g G (if t T letter_mark)))) letter_mark ≡ not (eqb (if a A (if c C (if g G (if t T letter_mark)))) letter_mark)
     go true c g t = refl
@@ -21,11 +20,5 @@ below-the-mark b = go (eqb b 65) (eqb b 67) (eqb b 71) (eqb b 84)
     go false false false true = refl
     go false false false false = refl
 
-value-requires : tie.Need-value-requires
-value-requires c κs = search rules
-
-returns : tie.Need-returns
-returns c = rw c.value.ensures (below-the-mark c.before.args.b)
-
-pub is-letter-spec : {M : Type 1} → statement M
-is-letter-spec = tie.close (tie.spec value-requires returns)
+pub returns : goal.returns
+returns c = rw c.value.ensures (below_the_mark c.args.b)

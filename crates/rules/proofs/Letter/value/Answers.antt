@@ -5,17 +5,15 @@ use mathlib.Core.Path.{◌≡◌, ◌∙◌, refl, sym}
 use Prim.Native.Nat.{ℕ}
 use native.Mathlib.Omega.{arith}
 use lib.Dec.{eqb}
-use borrow.Author.Rules.{rules}
 use borrow.Author.Tests.{eqb-true}
 use Rattle.rules.specs.Letters.{A, C, G, T, value}
 use Rattle.rules.specs.Limits.{letter_mark}
 use Rattle.rules.specs.Lists.{if}
-use Rattle.rules.proofs.Letter.value.Statement.{statement}
-use Rattle.rules.proofs.Letter.value.Tie as tie
+use Rattle.rules.proofs.Letter.value.Goals as goal
 
-last-decides : (b : ℕ) → if (eqb b 84) T (if (eqb b 71) G (if (eqb b 67) C (if (eqb b 65) A letter_mark))) ≡ value b
+last_decides : (b : ℕ) → if (eqb b 84) T (if (eqb b 71) G (if (eqb b 67) C (if (eqb b 65) A letter_mark))) ≡ value b
 unfolding value
-last-decides b = go (eqb b 65) (eqb b 67) (eqb b 71) (eqb b 84) refl refl refl refl
+last_decides b = go (eqb b 65) (eqb b 67) (eqb b 71) (eqb b 84) refl refl refl refl
   where
     both : (x y : ℕ) → eqb b x ≡ true → eqb b y ≡ true → x ≡ y
     both x y p q = sym (eqb-true b x p) ∙ eqb-true b y q
@@ -32,23 +30,5 @@ last-decides b = go (eqb b 65) (eqb b 67) (eqb b 71) (eqb b 84) refl refl refl r
     go false true false true p q r s = absurd (omega (arith, both 67 84 q s))
     go false false true true p q r s = absurd (omega (arith, both 71 84 r s))
 
-when-requires : tie.Need-when-requires
-when-requires c κs = search rules
-
-when-requires-2 : tie.Need-when-requires-2
-when-requires-2 c κs = search rules
-
-when-requires-3 : tie.Need-when-requires-3
-when-requires-3 c κs = search rules
-
-when-requires-4 : tie.Need-when-requires-4
-when-requires-4 c κs = search rules
-
-returns : tie.Need-returns
-returns c =
-    let d = c.before in
-    rw (c.when4.ensures, d.when3.ensures, d.before.when2.ensures, d.before.before.when.ensures)
-    (last-decides d.before.before.before.args.b)
-
-pub value_spec : {M : Type 1} → statement M
-value_spec = tie.close (tie.spec when-requires when-requires-2 when-requires-3 when-requires-4 returns)
+pub returns : goal.returns
+returns c = rw (c.when.ensures, c.when-v-3.ensures, c.when-v-2.ensures, c.when-v.ensures) (last_decides c.args.b)
