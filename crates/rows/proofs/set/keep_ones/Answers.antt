@@ -85,13 +85,12 @@ pub loop-rest-smaller : goal.loop-rest-smaller
 loop-rest-smaller c = lowest_less c.loop-rest.invariant.1.going.rests (some t)
 
 pub loop-rest-preserved : goal.loop-rest-preserved
-loop-rest-preserved c =
-    (
-      length-set c.loop-rest.out (at t) _ ∙ c.loop-rest.invariant.0,
-      kept_turn c.args.i c.args.lengths.now c.args.letter.now (row t) (w t) (fits t) c.args.out.now c.loop-rest.out (rest t) c.loop-rest.marks c.loop-rest.invariant.1 (some t) c.args.firsts.now c.requires.firsts c.requires.firsts_value c.requires.bounded c.requires.w_bound.0 c.requires.lengths_in_bounds.0 refl
-          c.requires.w_bound.2 c.requires.lengths_in_bounds.1 (c.loop-rest.invariant.0 ∙ c.requires.lengths_in_bounds.2)
-          (c.shared_slice_known-in-loop-rest-2-1.given (at t)).fits (c.shared_slice_known-in-loop-rest-1.given (at t)).fits c.one.ensures,
-    )
+loop-rest-preserved c = (
+  length-set c.loop-rest.out (at t) _ ∙ c.loop-rest.invariant.0,
+  kept_turn c.args.i c.args.lengths.now c.args.letter.now (row t) (w t) (fits t) c.args.out.now c.loop-rest.out (rest t) c.loop-rest.marks c.loop-rest.invariant.1 (some t) c.args.firsts.now c.requires.firsts c.requires.firsts_value c.requires.bounded c.requires.w_bound.0 c.requires.lengths_in_bounds.0 refl
+      c.requires.w_bound.2 c.requires.lengths_in_bounds.1 (c.loop-rest.invariant.0 ∙ c.requires.lengths_in_bounds.2)
+      (c.shared_slice_known-in-loop-rest-2-1.given (at t)).fits (c.shared_slice_known-in-loop-rest-1.given (at t)).fits c.one.ensures,
+)
 
 -- TODO 2 parts for the clauses ['by_index', 'out_unchanged', 'by_index_2']
 pub returns : goal.returns

@@ -11,17 +11,16 @@ use Rattle.rows.proofs.Offsets.{offset_of, offset_none, offset_next, offset_most
 use Rattle.rows.proofs.set.lay_out.Goals as goal
 
 pub loop-k-init : goal.loop-k-init
-loop-k-init c =
-    (
-      search rules,
-      refl,
-      refl,
-      first_none _,
-      offset_none c.args.lengths.now,
-      tabled_first _ c.args.firsts.now (first_none _) (search rules),
-      tabled_first _ c.args.offsets.now (offset_none c.args.lengths.now) (search rules),
-      short_none _,
-    )
+loop-k-init c = (
+  search rules,
+  refl,
+  refl,
+  first_none _,
+  offset_none c.args.lengths.now,
+  tabled_first _ c.args.firsts.now (first_none _) (search rules),
+  tabled_first _ c.args.offsets.now (offset_none c.args.lengths.now) (search rules),
+  short_none _,
+)
 
 pub words_of-words-requires : goal.words_of-words-requires
 words_of-words-requires c =
