@@ -12,9 +12,6 @@ use Rattle.rows.proofs.set.keep_all.Goals as goal
 pub overflow_sub-last : goal.overflow_sub-last
 overflow_sub-last c = omega (arith, c.requires.firsts.long)
 
-pub offset_bounds-firsts-last : goal.offset_bounds-firsts-last
-offset_bounds-firsts-last c = ?
-
 pub bounds-firsts-last : goal.bounds-firsts-last
 bounds-firsts-last c = omega (arith, c.requires.firsts.long)
 

@@ -17,7 +17,7 @@ bounds-row-w c =
 pub loop-rest-init : goal.loop-rest-init
 loop-rest-init c =
     let a = c.args in
-    (refl, record { lost = 0; going = going_begin a.i a.lengths.now a.letter.now a.row.now a.w (c.shared_slice_known-5-1.given a.w).fits a.out.now })
+    (refl, record { lost = 0; going = going_begin a.i a.lengths.now a.letter.now a.row.now a.w (c.type_inv.row a.w).fits a.out.now })
 
 pub overflow_cast-at : goal.overflow_cast-at
 overflow_cast-at c =
@@ -49,7 +49,7 @@ bounds-row-at c =
     let a = c.args in
     let some : 0 < l.rest = omega (arith, c.loop-rest-test.true) in
     let inside : row_marks + a.w * 64 + count_trailing_zeros 64 l.rest < length a.row.now =
-    word_in a.i a.lengths.now a.letter.now a.row.now a.w (c.shared_slice_known-5-1.given a.w).fits a.out.now l.out l.rest l.marks l.invariant.1 some a.firsts.now c.requires.firsts c.requires.firsts_value c.requires.bounded c.requires.w_bound.0 c.requires.lengths_in_bounds.0 refl in
+    word_in a.i a.lengths.now a.letter.now a.row.now a.w (c.type_inv.row a.w).fits a.out.now l.out l.rest l.marks l.invariant.1 some a.firsts.now c.requires.firsts c.requires.firsts_value c.requires.bounded c.requires.w_bound.0 c.requires.lengths_in_bounds.0 refl in
     inside
 
 pub offset_bounds-letter-at : goal.offset_bounds-letter-at
@@ -66,7 +66,7 @@ bounds-letter-at c =
     let a = c.args in
     let some : 0 < l.rest = omega (arith, c.loop-rest-test.true) in
     let inside : row_marks + a.w * 64 + count_trailing_zeros 64 l.rest < length a.row.now =
-    word_in a.i a.lengths.now a.letter.now a.row.now a.w (c.shared_slice_known-5-1.given a.w).fits a.out.now l.out l.rest l.marks l.invariant.1 some a.firsts.now c.requires.firsts c.requires.firsts_value c.requires.bounded c.requires.w_bound.0 c.requires.lengths_in_bounds.0 refl in
+    word_in a.i a.lengths.now a.letter.now a.row.now a.w (c.type_inv.row a.w).fits a.out.now l.out l.rest l.marks l.invariant.1 some a.firsts.now c.requires.firsts c.requires.firsts_value c.requires.bounded c.requires.w_bound.0 c.requires.lengths_in_bounds.0 refl in
     omega (arith, inside, c.requires.lengths_in_bounds)
 
 pub offset_bounds-out-at : goal.offset_bounds-out-at
@@ -83,7 +83,7 @@ bounds-out-at c =
     let a = c.args in
     let some : 0 < l.rest = omega (arith, c.loop-rest-test.true) in
     let inside : row_marks + a.w * 64 + count_trailing_zeros 64 l.rest < length a.row.now =
-    word_in a.i a.lengths.now a.letter.now a.row.now a.w (c.shared_slice_known-5-1.given a.w).fits a.out.now l.out l.rest l.marks l.invariant.1 some a.firsts.now c.requires.firsts c.requires.firsts_value c.requires.bounded c.requires.w_bound.0 c.requires.lengths_in_bounds.0 refl in
+    word_in a.i a.lengths.now a.letter.now a.row.now a.w (c.type_inv.row a.w).fits a.out.now l.out l.rest l.marks l.invariant.1 some a.firsts.now c.requires.firsts c.requires.firsts_value c.requires.bounded c.requires.w_bound.0 c.requires.lengths_in_bounds.0 refl in
     omega (arith, inside, c.requires.lengths_in_bounds, l.invariant.0)
 
 pub overflow_cast-marks : goal.overflow_cast-marks
@@ -115,9 +115,9 @@ loop-rest-preserved c =
     let some : 0 < l.rest = omega (arith, c.loop-rest-test.true) in
     let at : ℕ = row_marks + a.w * 64 + count_trailing_zeros 64 l.rest in (
       length-set l.out at _ ∙ l.invariant.0,
-      kept_turn a.i a.lengths.now a.letter.now a.row.now a.w (c.shared_slice_known-5-1.given a.w).fits a.out.now l.out l.rest l.marks l.invariant.1 some a.firsts.now c.requires.firsts c.requires.firsts_value c.requires.bounded c.requires.w_bound.0 c.requires.lengths_in_bounds.0 refl
+      kept_turn a.i a.lengths.now a.letter.now a.row.now a.w (c.type_inv.row a.w).fits a.out.now l.out l.rest l.marks l.invariant.1 some a.firsts.now c.requires.firsts c.requires.firsts_value c.requires.bounded c.requires.w_bound.0 c.requires.lengths_in_bounds.0 refl
           c.requires.w_bound.2 c.requires.lengths_in_bounds.1 (l.invariant.0 ∙ c.requires.lengths_in_bounds.2)
-          (c.shared_slice_known-in-loop-rest-2-1.given at).fits (c.shared_slice_known-in-loop-rest-1.given at).fits c.one.ensures,
+          (c.type_inv.letter at).fits (c.type_inv.row at).fits c.one.ensures,
     )
 
 pub returns : goal.returns
@@ -125,7 +125,7 @@ returns c =
     let l = c.loop-rest in
     let a = c.args in
     let g = l.invariant.1.going in
-    let fits = (c.shared_slice_known-5-1.given a.w).fits in
+    let fits = (c.type_inv.row a.w).fits in
     let none : l.rest ≡ 0 = omega (arith, c.loop-rest-test.false) in
     record {
       by_index = end_left a.i a.lengths.now a.letter.now a.row.now a.w fits a.out.now l.out l.rest l.marks _ g none;

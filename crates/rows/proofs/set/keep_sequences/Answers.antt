@@ -15,12 +15,12 @@ bounds-row-w c =
 
 pub loop-rest-init : goal.loop-rest-init
 loop-rest-init c =
-    (refl, going_begin c.args.i c.args.lengths.now c.args.letter.now c.args.row.now c.args.w (c.shared_slice_known-5-1.given c.args.w).fits c.args.out.now)
+    (refl, going_begin c.args.i c.args.lengths.now c.args.letter.now c.args.row.now c.args.w (c.type_inv.row c.args.w).fits c.args.out.now)
 
 pub returns-then-most-lost : goal.returns-then-most-lost
 returns-then-most-lost c =
     let l = c.loop-rest in
-    let fits = (c.shared_slice_known-5-1.given c.args.w).fits in
+    let fits = (c.type_inv.row c.args.w).fits in
     let over = c.if-most-lost.true in
     record {
       lost_bound = going_most c.args.i c.args.lengths.now c.args.letter.now c.args.row.now c.args.w fits c.args.out.now l.out l.rest l.left l.lost l.invariant.1;
@@ -33,7 +33,7 @@ returns-then-most-lost c =
 pub overflow_cast-at : goal.overflow_cast-at
 overflow_cast-at c =
     let l = c.loop-rest in
-    let fits = (c.shared_slice_known-5-1.given c.args.w).fits in
+    let fits = (c.type_inv.row c.args.w).fits in
     let some = c.loop-rest-test.true in
     let n = going_next c.args.i c.args.lengths.now c.args.letter.now c.args.row.now c.args.w fits c.args.out.now l.out l.rest l.left l.lost l.invariant.1 (omega (arith, some)) c.args.firsts.now c.requires.bounded c.requires.firsts c.requires.w_bound.0 in
     omega (arith, n.in_word, c.requires.w_bound)
@@ -41,7 +41,7 @@ overflow_cast-at c =
 pub overflow_add-at : goal.overflow_add-at
 overflow_add-at c =
     let l = c.loop-rest in
-    let fits = (c.shared_slice_known-5-1.given c.args.w).fits in
+    let fits = (c.type_inv.row c.args.w).fits in
     let some = c.loop-rest-test.true in
     let n = going_next c.args.i c.args.lengths.now c.args.letter.now c.args.row.now c.args.w fits c.args.out.now l.out l.rest l.left l.lost l.invariant.1 (omega (arith, some)) c.args.firsts.now c.requires.bounded c.requires.firsts c.requires.w_bound.0 in
     omega (arith, n.in_word, c.requires.w_bound)
@@ -49,7 +49,7 @@ overflow_add-at c =
 pub offset_bounds-firsts-at : goal.offset_bounds-firsts-at
 offset_bounds-firsts-at c =
     let l = c.loop-rest in
-    let fits = (c.shared_slice_known-5-1.given c.args.w).fits in
+    let fits = (c.type_inv.row c.args.w).fits in
     let some = c.loop-rest-test.true in
     let n = going_next c.args.i c.args.lengths.now c.args.letter.now c.args.row.now c.args.w fits c.args.out.now l.out l.rest l.left l.lost l.invariant.1 (omega (arith, some)) c.args.firsts.now c.requires.bounded c.requires.firsts c.requires.w_bound.0 in
     omega (arith, n.in_word, c.requires.w_bound)
@@ -57,7 +57,7 @@ offset_bounds-firsts-at c =
 pub bounds-firsts-at : goal.bounds-firsts-at
 bounds-firsts-at c =
     let l = c.loop-rest in
-    let fits = (c.shared_slice_known-5-1.given c.args.w).fits in
+    let fits = (c.type_inv.row c.args.w).fits in
     let some = c.loop-rest-test.true in
     let n = going_next c.args.i c.args.lengths.now c.args.letter.now c.args.row.now c.args.w fits c.args.out.now l.out l.rest l.left l.lost l.invariant.1 (omega (arith, some)) c.args.firsts.now c.requires.bounded c.requires.firsts c.requires.w_bound.0 in
     omega (arith, n.inside, c.requires.firsts.long)
@@ -65,7 +65,7 @@ bounds-firsts-at c =
 pub overflow_add-to : goal.overflow_add-to
 overflow_add-to c =
     let l = c.loop-rest in
-    let fits = (c.shared_slice_known-5-1.given c.args.w).fits in
+    let fits = (c.type_inv.row c.args.w).fits in
     let some = c.loop-rest-test.true in
     let n = going_next c.args.i c.args.lengths.now c.args.letter.now c.args.row.now c.args.w fits c.args.out.now l.out l.rest l.left l.lost l.invariant.1 (omega (arith, some)) c.args.firsts.now c.requires.bounded c.requires.firsts c.requires.w_bound.0 in
     omega (arith, n.in_word, c.requires.w_bound)
@@ -73,7 +73,7 @@ overflow_add-to c =
 pub offset_bounds-firsts-at-in-loop-rest : goal.offset_bounds-firsts-at-in-loop-rest
 offset_bounds-firsts-at-in-loop-rest c =
     let l = c.loop-rest in
-    let fits = (c.shared_slice_known-5-1.given c.args.w).fits in
+    let fits = (c.type_inv.row c.args.w).fits in
     let some = c.loop-rest-test.true in
     let n = going_next c.args.i c.args.lengths.now c.args.letter.now c.args.row.now c.args.w fits c.args.out.now l.out l.rest l.left l.lost l.invariant.1 (omega (arith, some)) c.args.firsts.now c.requires.bounded c.requires.firsts c.requires.w_bound.0 in
     omega (arith, n.in_word, c.requires.w_bound)
@@ -81,7 +81,7 @@ offset_bounds-firsts-at-in-loop-rest c =
 pub bounds-firsts-at-in-loop-rest : goal.bounds-firsts-at-in-loop-rest
 bounds-firsts-at-in-loop-rest c =
     let l = c.loop-rest in
-    let fits = (c.shared_slice_known-5-1.given c.args.w).fits in
+    let fits = (c.type_inv.row c.args.w).fits in
     let some = c.loop-rest-test.true in
     let n = going_next c.args.i c.args.lengths.now c.args.letter.now c.args.row.now c.args.w fits c.args.out.now l.out l.rest l.left l.lost l.invariant.1 (omega (arith, some)) c.args.firsts.now c.requires.bounded c.requires.firsts c.requires.w_bound.0 in
     omega (arith, n.inside, c.requires.firsts.long)
@@ -89,7 +89,7 @@ bounds-firsts-at-in-loop-rest c =
 pub keep_sequence-found-requires : goal.keep_sequence-found-requires
 keep_sequence-found-requires c =
     let l = c.loop-rest in
-    let fits = (c.shared_slice_known-5-1.given c.args.w).fits in
+    let fits = (c.type_inv.row c.args.w).fits in
     let some = c.loop-rest-test.true in
     let n = going_next c.args.i c.args.lengths.now c.args.letter.now c.args.row.now c.args.w fits c.args.out.now l.out l.rest l.left l.lost l.invariant.1 (omega (arith, some)) c.args.firsts.now c.requires.bounded c.requires.firsts c.requires.w_bound.0 in
     let t = turn_lies _ _ n.inside n.begins n.ends in
@@ -98,35 +98,35 @@ keep_sequence-found-requires c =
 pub overflow_cast-left : goal.overflow_cast-left
 overflow_cast-left c =
     let l = c.loop-rest in
-    let fits = (c.shared_slice_known-5-1.given c.args.w).fits in
+    let fits = (c.type_inv.row c.args.w).fits in
     let some = c.loop-rest-test.true in
     omega (arith, lowest_in l.invariant.1.rests (omega (arith, some)))
 
 pub overflow_shl-left : goal.overflow_shl-left
 overflow_shl-left c =
     let l = c.loop-rest in
-    let fits = (c.shared_slice_known-5-1.given c.args.w).fits in
+    let fits = (c.type_inv.row c.args.w).fits in
     let some = c.loop-rest-test.true in
     omega (arith, lowest_in l.invariant.1.rests (omega (arith, some)))
 
 pub overflow_add-lost : goal.overflow_add-lost
 overflow_add-lost c =
     let l = c.loop-rest in
-    let fits = (c.shared_slice_known-5-1.given c.args.w).fits in
+    let fits = (c.type_inv.row c.args.w).fits in
     let some = c.loop-rest-test.true in
     omega (arith, lost_few c.args.i c.args.lengths.now c.args.letter.now c.args.row.now c.args.w fits c.args.out.now l.out l.rest l.left l.lost l.invariant.1, bit_few (not c.keep_sequence-found.result) c.none-lost.ensures)
 
 pub loop-rest-smaller : goal.loop-rest-smaller
 loop-rest-smaller c =
     let l = c.loop-rest in
-    let fits = (c.shared_slice_known-5-1.given c.args.w).fits in
+    let fits = (c.type_inv.row c.args.w).fits in
     let some = c.loop-rest-test.true in
     lowest_less l.invariant.1.rests (omega (arith, some))
 
 pub loop-rest-preserved : goal.loop-rest-preserved
 loop-rest-preserved c =
     let l = c.loop-rest in
-    let fits = (c.shared_slice_known-5-1.given c.args.w).fits in
+    let fits = (c.type_inv.row c.args.w).fits in
     let some = c.loop-rest-test.true in
     let n = going_next c.args.i c.args.lengths.now c.args.letter.now c.args.row.now c.args.w fits c.args.out.now l.out l.rest l.left l.lost l.invariant.1 (omega (arith, some)) c.args.firsts.now c.requires.bounded c.requires.firsts c.requires.w_bound.0 in
     let e = c.keep_sequence-found.ensures in
@@ -140,7 +140,7 @@ loop-rest-preserved c =
 pub returns : goal.returns
 returns c =
     let l = c.loop-rest in
-    let fits = (c.shared_slice_known-5-1.given c.args.w).fits in
+    let fits = (c.type_inv.row c.args.w).fits in
     let none = c.loop-rest-test.false in
     record {
       lost_bound = going_most c.args.i c.args.lengths.now c.args.letter.now c.args.row.now c.args.w fits c.args.out.now l.out l.rest l.left l.lost l.invariant.1;

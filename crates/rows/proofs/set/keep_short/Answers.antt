@@ -60,7 +60,7 @@ overflow_sub-able c =
     let a = c.args in
     let k = c.keep_ones-left in
     let lost : tally (is_extended_marked a.i a.lengths.now a.letter.now a.row.now) (l.w * 64) 64 + ones (bit_xor (get_or a.row.now l.w 0) k.result) ≤ tally (is_marked a.row.now) (l.w * 64) 64 =
-    ones_lost a.i a.lengths.now a.letter.now a.row.now l.w k.result (search rules) (c.shared_slice_known-in-loop-w-1.given l.w).fits k.ensures.by_index in
+    ones_lost a.i a.lengths.now a.letter.now a.row.now l.w k.result (search rules) (c.type_inv.row l.w).fits k.ensures.by_index in
     lost_most c.args.i c.args.lengths.now c.args.letter.now c.args.row.now c.args.quorum l.out l.able l.w l.invariant.2 (omega (arith, h)) i _ lost
 
 pub loop-w-preserved : goal.loop-w-preserved
@@ -72,7 +72,7 @@ loop-w-preserved c =
     let a = c.args in
     let k = c.keep_ones-left in
     let lost : tally (is_extended_marked a.i a.lengths.now a.letter.now a.row.now) (l.w * 64) 64 + ones (bit_xor (get_or a.row.now l.w 0) k.result) ≤ tally (is_marked a.row.now) (l.w * 64) 64 =
-    ones_lost a.i a.lengths.now a.letter.now a.row.now l.w k.result (search rules) (c.shared_slice_known-in-loop-w-1.given l.w).fits k.ensures.by_index in
+    ones_lost a.i a.lengths.now a.letter.now a.row.now l.w k.result (search rules) (c.type_inv.row l.w).fits k.ensures.by_index in
     let long = marks_in _ _ e.out_unchanged.1 l.invariant.1 c.requires.lengths_in_bounds.2 c.requires.lengths_in_bounds.0 in (
       search rules,
       length-set k.new.out l.w k.result ∙ e.out_unchanged.1 ∙ l.invariant.1,

@@ -66,9 +66,6 @@ pub overflow_sub-last : goal.overflow_sub-last
 overflow_sub-last c =
     omega (arith, c.loop-k.invariant.1, length-set c.args.firsts.now 0 row_marks, c.requires.lengths_in_bounds.0)
 
-pub offset_bounds-firsts-last : goal.offset_bounds-firsts-last
-offset_bounds-firsts-last c = ?
-
 pub bounds-firsts-last : goal.bounds-firsts-last
 bounds-firsts-last c =
     omega (arith, c.loop-k.invariant.1, length-set c.args.firsts.now 0 row_marks, c.requires.lengths_in_bounds.0)
