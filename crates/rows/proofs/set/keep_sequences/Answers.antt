@@ -1,5 +1,3 @@
--- TODO goal overflow-cast-from is not asked now: let s = c.before.before.before.before.before.before.before.before.before.before in     let l = c.before.before.before.loop in     omega (arith, (c.shared-slice-known6.given (s.args.w * 64 + count_trailing_zeros 64 l.rest)).fits)
--- TODO goal overflow-cast-to is not asked now: let s = c.before.before.before.before.before.before.before.before.before.before.before in     let l = c.before.before.before.before.loop in     omega (arith, (c.shared-slice-known7.given (s.args.w * 64 + count_trailing_zeros 64 l.rest + 1)).fits)
 use mathlib.Core.Bool.{not}
 use mathlib.Core.Path.{refl, sym, ◌∙◌}
 use native.Mathlib.Omega.{arith}
@@ -9,11 +7,6 @@ use Rattle.rows.proofs.Kept.{going_begin, lost_few, going_most, end_tallied, end
 use Rattle.rows.proofs.Lowest.{lowest_in, lowest_less}
 use Rattle.rows.proofs.Tally.{bit_few}
 use Rattle.rows.proofs.MarksWalk.{mark_left}
-use Rattle.rows.proofs.set.keep_sequences.Reads as reads
-use Rattle.rows.proofs.set.keep_sequences.Lts as lts
-use Rattle.rows.proofs.set.keep_sequence.Reads as keep-sequence-reads
-use Rattle.rows.proofs.words.none.Reads as none_reads
-use Rattle.rows.proofs.words.one.Reads as one-reads
 use Rattle.rows.proofs.set.keep_sequences.Goals as goal
 
 pub bounds-row-w : goal.bounds-row-w
@@ -24,13 +17,18 @@ pub loop-rest-init : goal.loop-rest-init
 loop-rest-init c =
     (refl, going_begin c.args.i c.args.lengths.now c.args.letter.now c.args.row.now c.args.w (c.shared_slice_known-5-1.given c.args.w).fits c.args.out.now)
 
--- TODO 2 parts for the clauses ['lost_bound', 'b_value', 'out_unchanged', 'out_after', 'lost_value']
 pub returns-then-most-lost : goal.returns-then-most-lost
 returns-then-most-lost c =
     let l = c.loop-rest in
     let fits = (c.shared_slice_known-5-1.given c.args.w).fits in
     let over = c.if-most-lost.true in
-    (going_most c.args.i c.args.lengths.now c.args.letter.now c.args.row.now c.args.w fits c.args.out.now l.out l.rest l.left l.lost l.invariant.1, ((λ h. absurd (omega (arith, h, over))), ((l.invariant.1.so_far.walked.kept, l.invariant.0), ((λ h. absurd (omega (arith, h, over))), (λ h. absurd (omega (arith, h, over)))))))
+    record {
+      lost_bound = going_most c.args.i c.args.lengths.now c.args.letter.now c.args.row.now c.args.w fits c.args.out.now l.out l.rest l.left l.lost l.invariant.1;
+      b_value = λ h. absurd (omega (arith, h, over));
+      out_unchanged = (l.invariant.1.so_far.walked.kept, l.invariant.0);
+      out_after = λ h. absurd (omega (arith, h, over));
+      lost_value = λ h. absurd (omega (arith, h, over));
+    }
 
 pub overflow_cast-at : goal.overflow_cast-at
 overflow_cast-at c =
@@ -133,16 +131,21 @@ loop-rest-preserved c =
     let n = going_next c.args.i c.args.lengths.now c.args.letter.now c.args.row.now c.args.w fits c.args.out.now l.out l.rest l.left l.lost l.invariant.1 (omega (arith, some)) c.args.firsts.now c.requires.bounded c.requires.firsts c.requires.w_bound.0 in
     let e = c.keep_sequence-found.ensures in
     let x = extended_is_at _ _ n.inside n.begins n.ends c.args.i c.args.letter.now c.args.row.now in (
-      e.0.1 ∙ l.invariant.0,
-      going_turn c.args.i c.args.lengths.now c.args.letter.now c.args.row.now c.args.w fits c.args.out.now l.out l.rest l.left l.lost l.invariant.1 (omega (arith, some)) c.args.firsts.now c.requires.bounded c.requires.firsts c.requires.w_bound.0 _ (kept_from _ _ n.begins e.0.0)
-          (sym (bits_are_at _ _ n.inside n.begins n.ends _) ∙ e.1.0 ∙ x)
-          c.one.ensures (mark_left _ _ _ _ _ n.marked e.1.1 x) c.none-lost.ensures,
+      e.out_unchanged.1 ∙ l.invariant.0,
+      going_turn c.args.i c.args.lengths.now c.args.letter.now c.args.row.now c.args.w fits c.args.out.now l.out l.rest l.left l.lost l.invariant.1 (omega (arith, some)) c.args.firsts.now c.requires.bounded c.requires.firsts c.requires.w_bound.0 _ (kept_from _ _ n.begins e.out_unchanged.0)
+          (sym (bits_are_at _ _ n.inside n.begins n.ends _) ∙ e.out_after ∙ x)
+          c.one.ensures (mark_left _ _ _ _ _ n.marked e.value x) c.none-lost.ensures,
     )
 
--- TODO 2 parts for the clauses ['lost_bound', 'b_value', 'out_unchanged', 'out_after', 'lost_value']
 pub returns : goal.returns
 returns c =
     let l = c.loop-rest in
     let fits = (c.shared_slice_known-5-1.given c.args.w).fits in
     let none = c.loop-rest-test.false in
-    (going_most c.args.i c.args.lengths.now c.args.letter.now c.args.row.now c.args.w fits c.args.out.now l.out l.rest l.left l.lost l.invariant.1, ((λ h. end_left c.args.i c.args.lengths.now c.args.letter.now c.args.row.now c.args.w fits c.args.out.now l.out l.rest l.left l.lost l.invariant.1 (omega (arith, none))), ((l.invariant.1.so_far.walked.kept, l.invariant.0), ((λ h. end_walked c.args.i c.args.lengths.now c.args.letter.now c.args.row.now c.args.w fits c.args.out.now l.out l.rest l.left l.lost l.invariant.1 (omega (arith, none))), (λ h. end_tallied c.args.i c.args.lengths.now c.args.letter.now c.args.row.now c.args.w fits c.args.out.now l.out l.rest l.left l.lost l.invariant.1 (omega (arith, none)))))))
+    record {
+      lost_bound = going_most c.args.i c.args.lengths.now c.args.letter.now c.args.row.now c.args.w fits c.args.out.now l.out l.rest l.left l.lost l.invariant.1;
+      b_value = λ h. end_left c.args.i c.args.lengths.now c.args.letter.now c.args.row.now c.args.w fits c.args.out.now l.out l.rest l.left l.lost l.invariant.1 (omega (arith, none));
+      out_unchanged = (l.invariant.1.so_far.walked.kept, l.invariant.0);
+      out_after = λ h. end_walked c.args.i c.args.lengths.now c.args.letter.now c.args.row.now c.args.w fits c.args.out.now l.out l.rest l.left l.lost l.invariant.1 (omega (arith, none));
+      lost_value = λ h. end_tallied c.args.i c.args.lengths.now c.args.letter.now c.args.row.now c.args.w fits c.args.out.now l.out l.rest l.left l.lost l.invariant.1 (omega (arith, none));
+    }

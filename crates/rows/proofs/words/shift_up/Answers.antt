@@ -1,5 +1,5 @@
 -- The first words get no bits, the next those of the first word alone, and the others, by the loop, those of two; a shift past all words leaves nothing.
--- TODO goal same-length-2 is not asked now: let a = c.before.before.before.before.before.before.before.before.before.before.before.before.before.args in     let u = c.before.before.before.before.up in     let f = c.before.before.before.before.before.before.before.before.fill2 in     c.before.before.shift-words.auto.1.1.1.0 ∙ shift_length a.d 
+-- TODO goal same-length-2 is not asked now: let a = c.before.before.before.before.before.before.before.before.before.before.before.before.before.args in     let u = c.before.before.before.before.up in     let f = c.before.before.before.before.before.before.before.before.fill2 in     c.before.before.shift-words.auto.1.1.1.0 ∙ shift_length a.d
 use borrow.Author.Rules.{rules}
 use lib.Seq.{length-take-le}
 use Rattle.rows.proofs.WordByWord.{shift_begun, shift_length, shift_whole, shift_out}
