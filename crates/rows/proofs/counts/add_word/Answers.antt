@@ -1,13 +1,8 @@
-use mathlib.Core.List.{List}
-use mathlib.Core.Path.{◌≡◌}
-use Prim.Native.Nat.{ℕ, ◌+◌, ◌<◌}
+use Prim.Native.Nat.{◌<◌}
 use native.Mathlib.Omega.{arith}
-use lib.Count.{count_trailing_zeros}
-use lib.ListN.{length, get_or}
 use borrow.Author.Rules.{rules}
-use Rattle.rows.proofs.Adding.{left_from, left_all, left_end, next_inside, left_next}
-use Rattle.rows.proofs.Lowest.{Walk, walk_begin, walk_turn, lowest_in, lowest_less}
-use Rattle.rows.proofs.counts.add_word.Invariants.{Added}
+use Rattle.rows.proofs.Adding.{left_all, left_end, next_inside, left_next}
+use Rattle.rows.proofs.Lowest.{walk_begin, walk_turn, lowest_in, lowest_less}
 use Rattle.rows.proofs.counts.add_word.Goals as goal
 
 pub loop-rest-init : goal.loop-rest-init

@@ -1,13 +1,8 @@
-use mathlib.Core.List.{List, [], ◌∷◌}
-use mathlib.Core.Path.{◌≡◌}
-use Prim.Native.Nat.{ℕ, ◌+◌, ◌-◌, ◌*◌, ◌^◌, ◌≤◌, ◌<◌}
+use Prim.Native.Nat.{◌*◌, ◌^◌, ◌≤◌, ◌<◌}
 use native.Mathlib.Omega.{arith}
 use lib.ListN.{length, get_or}
 use borrow.Author.Rules.{rules}
-use Rattle.rules.specs.Lists.{sum}
-use Rattle.rows.specs.Bits.{held}
-use Rattle.rows.specs.Flags.{masked}
-use Rattle.rows.proofs.Adding.{part, row_left, row_all, row_end, word_next, word_few, word_fits}
+use Rattle.rows.proofs.Adding.{row_all, row_end, word_next, word_few, word_fits}
 use Rattle.rows.proofs.counts.add_words.Goals as goal
 
 pub loop-q-init : goal.loop-q-init

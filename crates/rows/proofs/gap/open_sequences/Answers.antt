@@ -1,11 +1,10 @@
-use mathlib.Core.List.{List}
 use mathlib.Core.Path.{◌≡◌, refl, ◌∙◌}
-use Prim.Native.Nat.{ℕ, ◌+◌, ◌*◌, ◌<◌}
+use Prim.Native.Nat.{◌+◌, ◌*◌, ◌<◌}
 use native.Mathlib.Omega.{arith}
 use lib.Count.{count_trailing_zeros}
 use lib.ListN.{length}
 use Rattle.rows.proofs.Sets.{first_past, window_is_at, turn_lies}
-use Rattle.rows.proofs.MarksWalk.{Next, walked_end, no_rest, next}
+use Rattle.rows.proofs.MarksWalk.{walked_end, no_rest, next}
 use Rattle.rows.proofs.Lowest.{walk_begin, walk_turn, lowest_less}
 use Rattle.rows.proofs.RowsRewritten.{later_words, later_window, rewritten_none, rewritten_turn}
 use Rattle.rows.proofs.gap.open_sequences.Goals as goal

@@ -1,8 +1,6 @@
 use borrow.Author.Rules.{rules}
-use Prim.Native.Nat.{◌-◌}
 use native.Mathlib.Omega.{arith}
 use lib.Count.{ones-le}
-use Rattle.rules.specs.Lists as lists
 use Rattle.rows.proofs.Marks.{counted_step, counted_end}
 use Rattle.rows.proofs.set.count.Goals as goal
 

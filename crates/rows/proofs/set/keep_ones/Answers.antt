@@ -1,9 +1,8 @@
-use mathlib.Core.List.{List}
 use mathlib.Core.Path.{◌≡◌, refl, ◌∙◌}
-use Prim.Native.Nat.{ℕ, ◌+◌, ◌*◌, ◌^◌, ◌<◌}
+use Prim.Native.Nat.{ℕ, ◌+◌, ◌*◌, ◌<◌}
 use native.Mathlib.Omega.{arith}
 use lib.Count.{count_trailing_zeros}
-use lib.ListN.{length, length-set, get_or}
+use lib.ListN.{length, length-set}
 use Rattle.rows.specs.Set.{row_marks}
 use Rattle.rows.proofs.Sets.{first_past}
 use Rattle.rows.proofs.Kept.{going_begin, end_left, end_walked, word_in, kept_turn}
