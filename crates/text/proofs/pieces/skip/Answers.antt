@@ -6,7 +6,6 @@ use native.Mathlib.Omega.{arith}
 use lib.ListN.{drop}
 use Rattle.text.specs.Pieces.{find, after_pieces}
 use Rattle.text.proofs.Scan.{scan_to, after_more}
-use Rattle.text.proofs.pieces.skip.Invariants.{)}
 use Rattle.text.proofs.pieces.skip.Goals as goal
 
 pub loop-k-init : goal.loop-k-init

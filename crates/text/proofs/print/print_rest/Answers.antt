@@ -1,4 +1,3 @@
--- TODO goal same-length is not asked now: wrote_length c.before.loop.invariant.3.1
 use mathlib.Core.Path.{refl, sym, ap, ◌∙◌}
 use mathlib.Core.List.{List, [], ◌++◌, append-nil}
 use Prim.Native.Nat.{ℕ, ◌-◌}

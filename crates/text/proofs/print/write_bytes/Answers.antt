@@ -1,4 +1,3 @@
--- TODO goal same-length is not asked now: wrote_length c.before.loop.invariant.2
 use borrow.Author.Rules.{rules}
 use Prim.Native.Nat.{◌-◌}
 use native.Mathlib.Nat.{add-zero}
