@@ -1,6 +1,5 @@
 use borrow.Author.Rules.{rules}
 use mathlib.Core.Path.{refl, sym, ◌∙◌}
-use Prim.Native.Nat.{◌-◌}
 use Rattle.rules.specs.Text.{is_in_range}
 use Rattle.text.proofs.DigitByDigit.{all_more, all_fails, all_end}
 use Rattle.text.proofs.parse.all_between.Goals as goal

@@ -1,7 +1,4 @@
-use Prim.Native.Nat.{◌-◌, ◌≤◌, ◌<◌}
 use native.Mathlib.Omega.{arith}
-use lib.ListN.{length}
-use Rattle.rules.specs.Limits.{text_bytes}
 use Rattle.text.proofs.Lines.{text_short}
 use Rattle.text.proofs.Printed.{wrote_length}
 use Rattle.text.proofs.SequenceLines.{taken_none, taken_more, taken_all}
