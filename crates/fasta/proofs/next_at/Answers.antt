@@ -19,4 +19,3 @@ hand_out-requires c =
     let f = c.first_line-line.ensures in
     let l = f.some c.if-file-start.false in
     record { lines = f.lines; line = l.0; some = l.1; mark = c.if-file-start-ne62.false }
-

@@ -1,5 +1,4 @@
 use mathlib.Core.Path.{refl, ◌∙◌}
-use Prim.Native.Nat.{◌-◌}
 use native.Mathlib.Omega.{arith}
 use Rattle.fasta.proofs.FileLines.{line_skip, first_some, first_none}
 use Rattle.fasta.proofs.lines.first_line.Goals as goal

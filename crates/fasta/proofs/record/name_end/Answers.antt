@@ -1,6 +1,5 @@
 use borrow.Author.Rules.{rules}
 use mathlib.Core.Path.{refl}
-use Prim.Native.Nat.{◌-◌}
 use native.Mathlib.Omega.{arith}
 use Rattle.fasta.proofs.Names.{blank_here, blank_on, blank_end}
 use Rattle.fasta.proofs.record.name_end.Goals as goal
