@@ -1,6 +1,5 @@
 use borrow.Author.Tests.{lt-ltb, le-ltb}
 use mathlib.Core.Path.{◌∙◌, ap}
-use Prim.Native.Nat.{◌-◌}
 use Rattle.rules.specs.Refusals.{bad_allowance, check24}
 use Rattle.rules.specs.Template.{components}
 use Rattle.checks.proofs.Laws.{none_passed, found, none_found, one_more, anywhere, unplaced, any_bad}

@@ -4,8 +4,8 @@ use Rattle.checks.proofs.check_contents.Goals as goal
 
 pub returns-in-Refused : goal.returns-in-Refused
 unfolding ◌else◌
-returns-in-Refused c = rw (← c.check_sum-sum.ensures, c.sum-1.given.1)
+returns-in-Refused c = rw (← c.check_sum-sum.ensures, c.in-Refused.is)
 
 pub returns-in-Fine : goal.returns-in-Fine
 unfolding ◌else◌
-returns-in-Fine c = rw (← c.check_sum-sum.ensures, c.enum_told-1.is{-TODO-}) c.check_bytes.ensures
+returns-in-Fine c = rw (← c.check_sum-sum.ensures, c.in-Fine.is) c.check_bytes.ensures

@@ -1,5 +1,4 @@
 use mathlib.Core.Path.{◌∙◌, sym}
-use Prim.Native.Nat.{◌-◌}
 use Rattle.rules.specs.Refusals.{bad_gap, check8}
 use Rattle.checks.proofs.Laws.{none_passed, found, none_found, one_more}
 use Rattle.checks.proofs.check_gaps.Goals as goal

@@ -1,5 +1,4 @@
 use mathlib.Core.Path.{◌∙◌, sym}
-use Prim.Native.Nat.{◌-◌}
 use Rattle.rules.specs.Refusals.{bad_length, check6}
 use Rattle.checks.proofs.Laws.{none_passed, found, none_found, one_more}
 use Rattle.checks.proofs.check_lengths.Goals as goal

@@ -7,9 +7,9 @@ use Rattle.checks.proofs.check_set.Goals as goal
 pub returns-in-Refused : goal.returns-in-Refused
 unfolding ◌else◌
 returns-in-Refused c =
-    rw (in_two, ← c.check_sequences.ensures, ← c.check_letters.ensures, ← c.then-counts.ensures, c.counts-1.given.1)
+    rw (in_two, ← c.check_sequences.ensures, ← c.check_letters.ensures, ← c.then-counts.ensures, c.in-Refused.is)
 
 pub returns-in-Fine : goal.returns-in-Fine
 unfolding ◌else◌
 returns-in-Fine c =
-    rw (in_two, ← c.check_sequences.ensures, ← c.check_letters.ensures, ← c.then-counts.ensures, c.enum_told-1.is{-TODO-}) c.check_contents.ensures
+    rw (in_two, ← c.check_sequences.ensures, ← c.check_letters.ensures, ← c.then-counts.ensures, c.in-Fine.is) c.check_contents.ensures

@@ -1,5 +1,3 @@
--- TODO goal overflow-cast-n is not asked now: omega (arith, c.shared-slice-known3.given c.before.before.loop.i)
-use Prim.Native.Nat.{◌-◌}
 use native.Mathlib.Omega.{arith}
 use lib.ListN.{length}
 use borrow.Author.Tests.{ne_eqb}

@@ -1,8 +1,7 @@
 use mathlib.Core.Path.{◌∙◌, sym}
-use Prim.Native.Nat.{◌+◌, ◌-◌}
+use Prim.Native.Nat.{◌+◌}
 use native.Mathlib.Nat.{zero-add}
 use native.Mathlib.Omega.{arith}
-use Rattle.rules.proofs.Tests.{not_false}
 use Rattle.checks.proofs.Laws.{letters_past}
 use Rattle.checks.proofs.pass_letters.Goals as goal
 
@@ -17,7 +16,7 @@ loop-i-preserved c =
     let l = c.loop-i in
     let xs = c.args.bytes.now in (
       omega arith,
-      λ o. l.invariant.1 o ∙ letters_past o l.i (l.i + 64) xs (omega arith) (omega arith) (sym c.all_letters.ensures ∙ (not_false _).0 c.if-not-all_letters.false),
+      λ o. l.invariant.1 o ∙ letters_past o l.i (l.i + 64) xs (omega arith) (omega arith) (sym c.all_letters.ensures ∙ c.if-not-all_letters.false),
     )
 
 pub returns : goal.returns

@@ -5,14 +5,15 @@ use Rattle.joins.proofs.Checks.{rule_refused, rule_fine}
 use Rattle.joins.proofs.join.Goals as goal
 
 pub pass-requires : goal.pass-requires
-pass-requires c = sym c.check_join-checked.ensures ∙ ap told_checked c.enum_told-1.is{-TODO-}
+pass-requires c = sym c.check_join-checked.ensures ∙ ap told_checked c.in-Fine.is
 
--- TODO the clauses are ['result_value', 'out_after']
 pub returns-in-Refused : goal.returns-in-Refused
-returns-in-Refused c = rule_refused _ _ _ _ _ _ (sym c.check_join-checked.ensures ∙ ap told_checked c.checked-1.given.1)
+returns-in-Refused c =
+    let r = rule_refused _ _ _ _ _ _ (sym c.check_join-checked.ensures ∙ ap told_checked c.in-Refused.is) in
+    record { result_value = r.0; out_after = r.1 }
 
--- TODO the clauses are ['result_value', 'out_after']
 pub returns-in-Fine : goal.returns-in-Fine
 returns-in-Fine c =
     let p = c.pass in
-    rule_fine _ _ _ _ _ _ (pass-requires c.before.before.before p.lifetimes) p.ensures.0 p.ensures.1
+    let r = rule_fine _ _ _ _ _ _ (sym c.check_join-checked.ensures ∙ ap told_checked c.in-Fine.is) p.ensures.value p.ensures.out_after in
+    record { result_value = r.0; out_after = r.1 }

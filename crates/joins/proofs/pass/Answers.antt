@@ -1,11 +1,11 @@
--- TODO a context in in_letters
--- TODO a context in small
-use mathlib.Core.Path.{refl, sym, ◌∙◌}
-use Prim.Native.Nat.{◌-◌, ◌≤◌}
+use mathlib.Core.Bool.{true}
+use mathlib.Core.List.{List}
+use mathlib.Core.Path.{◌≡◌, refl, sym, ◌∙◌}
+use Prim.Native.Nat.{ℕ, ◌≤◌, ◌<◌}
 use native.Mathlib.Omega.{arith}
-use lib.ListN.{get_or}
+use lib.ListN.{length, get_or}
 use borrow.Author.Rules.{rules}
-use Rattle.rules.specs.Join.{partnered}
+use Rattle.rules.specs.Join.{is_rising, partnered}
 use Rattle.rules.specs.Limits.{sequence_set_letters}
 use Rattle.rules.proofs.Apart.{Apart, apart}
 use Rattle.rules.proofs.Sound.{join_sound}
@@ -17,22 +17,27 @@ use Rattle.joins.proofs.pass.Goals as goal
 pub loop-i-init : goal.loop-i-init
 loop-i-init c = (search rules, search rules, search rules, kept_none _ _ 0 _, passed_none _ _ _ _)
 
--- a position of the first list is none past the last letter, and the distances are small, so no sum wraps
-in_letters : (c : goal.In-loop-i) → get_or c.before.before.before.before.before.before.args.first.now c.before.loop.i 0 ≤ sequence_set_letters
-in_letters c = (rising_at 0 _ (join_sound _ _ _ _ _ _ c.before.before.before.before.before.before.requires).first_rising c.before.loop.i (search rules)).1
-
-small : (c : goal.After-over-apart) → Apart c.over.result
-small c = let s = join_sound _ _ _ _ _ _ c.before.before.before.before.requires in rw c.over.ensures (apart _ _ _ s.some s.short s.ordered s.near)
+-- a position of a list that rises is none past the last letter
+in_letters : (xs : List ℕ) (i : ℕ) → is_rising 0 xs ≡ true → i < length xs → get_or xs i 0 ≤ sequence_set_letters
+in_letters xs i r h = (rising_at 0 xs r i h).1
 
 pub overflow_cast-from : goal.overflow_cast-from
-overflow_cast-from c = omega (arith, in_letters c.before)
+overflow_cast-from c =
+    let s = join_sound _ _ _ _ _ _ c.requires in
+    omega (arith, in_letters _ c.loop-i.i s.first_rising (search rules))
 
+-- such positions are small, and so are the distances: no sum wraps
 pub overflow_add-from : goal.overflow_add-from
-overflow_add-from c = omega (arith, in_letters c.before, (small c.before.before.before).near)
+overflow_add-from c =
+    let s = join_sound _ _ _ _ _ _ c.requires in
+    let t : Apart c.over-apart.result = rw c.over-apart.ensures (apart _ _ _ s.some s.short s.ordered s.near) in
+    omega (arith, in_letters _ c.loop-i.i s.first_rising (search rules), t.near)
 
 pub overflow_add-end : goal.overflow_add-end
 overflow_add-end c =
-    omega (arith, in_letters c.before, (small c.before.before.before).near, (small c.before.before.before).few)
+    let s = join_sound _ _ _ _ _ _ c.requires in
+    let t : Apart c.over-apart.result = rw c.over-apart.ensures (apart _ _ _ s.some s.short s.ordered s.near) in
+    omega (arith, in_letters _ c.loop-i.i s.first_rising (search rules), t.near, t.few)
 
 pub skip-j-requires : goal.skip-j-requires
 skip-j-requires c = let l = c.loop-i in (l.invariant.1, l.invariant.4.before l.i (search rules) (search rules))
@@ -57,7 +62,8 @@ loop-i-preserved c =
       passed_on _ _ _ _ _ s.first_rising t,
     )
 
--- TODO the clauses are ['value', 'out_after']
 pub returns : goal.returns
 unfolding partnered
-returns c = kept_all _ _ _ _ c.loop-i.invariant.3 (search rules)
+returns c =
+    let k = kept_all _ _ _ _ c.loop-i.invariant.3 (search rules) in
+    record { value = k.0; out_after = k.1 }

@@ -1,5 +1,3 @@
--- TODO goal overflow-cast-p is not asked now: omega (arith, c.shared-slice-known.given c.before.before.loop.j)
-use Prim.Native.Nat.{◌-◌}
 use native.Mathlib.Omega.{arith}
 use borrow.Author.Count.{below_more}
 use borrow.Author.Rules.{rules}

@@ -1,5 +1,4 @@
 -- By the two cases of the index: below the length, or not.
--- TODO goal overflow-cast-p is not asked now: omega (arith, c.shared-slice-known.given c.before.before.args.at)
 use borrow.Author.Tests.{lt-ltb, le-ltb}
 use Rattle.joins.specs.Pass.{is_within}
 use Rattle.joins.proofs.within.Goals as goal

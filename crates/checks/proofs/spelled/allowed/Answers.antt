@@ -1,4 +1,3 @@
-use Prim.Native.Nat.{◌-◌}
 use Rattle.checks.proofs.Dealt.{none_given, one_given, all_given}
 use Rattle.checks.proofs.spelled.allowed.Goals as goal
 

@@ -1,6 +1,4 @@
--- TODO a context in module
 use borrow.Author.Rules.{rules}
-use mathlib.Core.List.{List}
 use mathlib.Core.Path.{◌≡◌, refl, sym, ◌∙◌}
 use Prim.Native.Nat.{ℕ, ◌-◌, ◌*◌, ◌/◌, ◌≤◌, ◌<◌}
 use native.Mathlib.Omega.{arith}
@@ -19,65 +17,50 @@ loop-to-init c =
 pub slice_bounds-lead_word-end-in-loop-to : goal.slice_bounds-lead_word-end-in-loop-to
 slice_bounds-lead_word-end-in-loop-to c = sym (length-take-le _ _ (search rules))
 
--- what a turn hands over
-module _ (c : goal.After-lead-word-arg) where
-  abbrev s : goal.Start
-  s = c.before.before.before.before.before.before.before.before
-
-  abbrev row : List ℕ
-  row = s.args.row.now
-
-  abbrev opened : List ℕ
-  opened = s.args.opened.now
-
-  abbrev l : List ℕ
-  l = s.args.counts.now
-
-  abbrev d : ℕ
-  d = s.args.d
-
-  abbrev n : ℕ
-  n = s.args.n
-
-  abbrev to : ℕ
-  to = c.before.before.loop.to
-
-  abbrev x : List ℕ
-  x = c.before.before.loop.counts
-
-  many : length (take to x) ≡ to
-  many = let i = c.before.before.loop.invariant in handed_length row opened l d n to s.pre.0.0 i.0 x i.1 i.2
-
-  most : (k : ℕ) → get_or (masked (held row) (take to x)) k 0 ≤ get_or (masked (held row) l) k 0
-  most = let i = c.before.before.loop.invariant in handed_most row opened l d n to s.pre.0.0 i.0 x i.1 i.2
-
-  sums : (o : ℕ) → o ≤ to → recent (masked (held row) (take to x)) o d n ≡ recent (masked (held row) l) o d n
-  sums = let i = c.before.before.loop.invariant in handed_recent row opened l d n to s.pre.0.0 i.0 x i.1 i.2
-
--- TODO 2 parts for the clauses ['le_d', 'from_in_bounds', 'total_value', 'by_index', 'by_index_2']
+-- a turn hands over the counts before its place, still as they were
 pub lead_word-total-requires : goal.lead_word-total-requires
 lead_word-total-requires c =
-    let p = (s c).requires in
+    let p = c.requires in
     let i = c.loop-to.invariant in
-    let z : length (take (to c) (x c)) ≡ to c = many c in
-    let w : (to c - 1) / 64 * 64 / 64 ≡ (to c - 1) / 64 = omega arith in
-    let total : 0 < get_or (opened c) ((to c - 1) / 64 * 64 / 64) 0
-    → c.loop-to.total ≡ recent (masked (held (row c)) (take (to c) (x c))) (length (take (to c) (x c))) (d c) (n c) =
-    λ h. i.4 (rw w at h) ∙ rw z (sym (sums c (to c) (omega arith))) in (
-      search rules,
-      ((omega arith, omega arith, omega arith, omega arith), (total, ((λ k. omega (arith, most c k, p.1.1.0 k)), handed_dark (row c) (opened c) (l c) (d c) (n c) (to c) p.0.0 i.0 (x c) i.1 i.2 p.0.2 p.1.1.1))),
-    )
+    let row = c.args.row.now in
+    let opened = c.args.opened.now in
+    let l = c.args.counts.now in
+    let d = c.args.d in
+    let n = c.args.n in
+    let to = c.loop-to.to in
+    let x = c.loop-to.counts in
+    let many : length (take to x) ≡ to = handed_length row opened l d n to p.le_d.0 i.0 x i.1 i.2 in
+    let most : (k : ℕ) → get_or (masked (held row) (take to x)) k 0 ≤ get_or (masked (held row) l) k 0 = handed_most row opened l d n to p.le_d.0 i.0 x i.1 i.2 in
+    let sums : (o : ℕ) → o ≤ to → recent (masked (held row) (take to x)) o d n ≡ recent (masked (held row) l) o d n = handed_recent row opened l d n to p.le_d.0 i.0 x i.1 i.2 in
+    let w : (to - 1) / 64 * 64 / 64 ≡ (to - 1) / 64 = omega arith in
+    let total : 0 < get_or opened ((to - 1) / 64 * 64 / 64) 0 → c.loop-to.total ≡ recent (masked (held row) (take to x)) (length (take to x)) d n =
+    λ h. i.4 (rw w at h) ∙ rw many (sym (sums to (omega arith))) in record {
+      le_d = search rules;
+      from_in_bounds = (omega (arith, many), omega arith, omega (arith, many), omega (arith, many));
+      total_value = total;
+      by_index = λ k. omega (arith, most k, p.by_index k);
+      by_index_2 = handed_dark row opened l d n to p.le_d.0 i.0 x i.1 i.2 p.le_d.2 p.by_index_2;
+    }
 
 pub loop-to-preserved : goal.loop-to-preserved
 loop-to-preserved c =
+    let p = c.requires in
     let i = c.loop-to.invariant in
     let r = c.lead_word-total.ensures in
-    let from = (to h - 1) / 64 * 64 in (
+    let row = c.args.row.now in
+    let opened = c.args.opened.now in
+    let l = c.args.counts.now in
+    let d = c.args.d in
+    let n = c.args.n in
+    let to = c.loop-to.to in
+    let x = c.loop-to.counts in
+    let sums : (o : ℕ) → o ≤ to → recent (masked (held row) (take to x)) o d n ≡ recent (masked (held row) l) o d n = handed_recent row opened l d n to p.le_d.0 i.0 x i.1 i.2 in
+    let from : ℕ = (to - 1) / 64 * 64 in (
       search rules,
       search rules,
-      turn_front (row h) (opened h) (l h) (d h) (n h) (to h) (s h).requires.0.0 i.0 (x h) i.1 i.2 i.3 from (omega arith) _ r.1.0 r.1.1,
-      turn_written (row h) (opened h) (l h) (d h) (n h) (to h) (s h).requires.0.0 i.0 (x h) i.1 i.2 i.3 from (omega arith) _ r.1.0 r.1.1,
-      (λ _. r.0 ∙ sums h from (omega arith)),
+      turn_front row opened l d n to p.le_d.0 i.0 x i.1 i.2 i.3 from (omega arith) _ r.counts_unchanged r.counts_after,
+      turn_written row opened l d n to p.le_d.0 i.0 x i.1 i.2 i.3 from (omega arith) _ r.counts_unchanged r.counts_after,
+      (λ _. r.value ∙ sums from (omega arith)),
     )
 
 pub returns : goal.returns

@@ -1,55 +1,31 @@
--- TODO a context in module
--- TODO a context in module
--- TODO a context in module
 use mathlib.Core.List.{List}
 use mathlib.Core.Path.{◌≡◌, ◌∙◌}
-use Prim.Native.Nat.{ℕ, ◌+◌, ◌-◌, ◌^◌, ◌≤◌, ◌<◌}
+use Prim.Native.Nat.{ℕ, ◌+◌, ◌-◌, ◌/◌, ◌%◌, ◌^◌, ◌≤◌, ◌<◌}
+use lib.Dec.{eqb}
 use native.Mathlib.Omega.{arith}
-use lib.ListN.{get_or}
+use lib.Bits.{bit_and}
+use lib.ListN.{length, get_or}
 use borrow.Author.Rules.{rules}
+use Rattle.rules.specs.Lists.{if}
 use Rattle.rows.specs.Bits.{held}
-use Rattle.rows.specs.Flags.{count_most, ago, recent, around, masked}
+use Rattle.rows.specs.Flags.{count_most, ago, recent, around, back, masked}
+use Rattle.rows.specs.Words.{behind_word}
 use Rattle.rows.proofs.Back.{back_none, back_put, back_keeps, ago_kept}
 use Rattle.rows.proofs.Gaps.{back_least, back_bound, recent_back}
 use Rattle.rows.proofs.Sliding.{count_read, still_sum, still_written}
 use Rattle.rows.proofs.counts.slide.Goals as goal
 
--- at a turn, what the sum gets and what it loses
-module _ (t : goal.In-loop-o) where
-  abbrev s : goal.Start
-  s = t.before.before.before.before.before.before.before
-
-  abbrev row : List ℕ
-  row = s.args.row.now
-
-  abbrev counts : List ℕ
-  counts = s.args.counts.now
-
-  abbrev kept : List ℕ
-  kept = masked (held row) counts
-
-  abbrev d : ℕ
-  d = s.args.d
-
-  abbrev n : ℕ
-  n = s.args.n
-
-  abbrev o : ℕ
-  o = t.before.loop.o
-
-  abbrev small : (i : ℕ) → get_or kept i 0 ≤ count_most
-  small = s.pre.1.1.1
-
-  fits : (q : ℕ) → get_or row q 0 < 2 ^ 64
-  fits q = omega (arith, t.before.before.before.before.before.before.shared-slice-known.given q)
-
-  same : (k : ℕ) → 1 ≤ k → ago t.before.loop.counts o k ≡ ago counts o k
-  same k h = let i = t.before.loop.inv in ago_kept counts _ o k (back_keeps (around kept d n) counts o i.2 i.0) h
+-- what a turn reads `k` places before its own: the counts there are not written yet
+reads : (row counts x : List ℕ) (from d n o k word v r : ℕ) → ((q : ℕ) → get_or row q 0 < 2 ^ 64) → from % 64 ≡ 0 → o ≤ length counts → from < o → o ≤ from + 64
+    → x ≡ back (around (masked (held row) counts) d n) o counts → 1 ≤ k → word ≡ behind_word ((k - 1) / 64) ((k - 1) % 64) row (from / 64)
+    → v ≡ ago x o k → r ≡ if (eqb (bit_and (word / 2 ^ (o - 1 - from)) 1) 1) v 0 → r ≡ ago (masked (held row) counts) o k
+reads row counts x from d n o k word v r fits whole within past few kept near e b w =
+    count_read row fits counts from whole k near e o past few (b ∙ ago_kept counts x o k (back_keeps (around (masked (held row) counts) d n) counts o kept within) near) w
 
 pub returns-then-come-gone-eq0 : goal.returns-then-come-gone-eq0
 returns-then-come-gone-eq0 c =
     let row = c.args.row.now in
-    let f : (q : ℕ) → get_or row q 0 < 2 ^ 64 = λ q. omega (arith, c.shared_slice_known-1.given q) in
+    let f : (q : ℕ) → get_or row q 0 < 2 ^ 64 = λ q. omega (arith, c.type_inv.row q) in
     let p = c.requires in
     let come = c.shifted-come.ensures in
     let gone = c.shifted-gone.ensures in record {
@@ -60,35 +36,36 @@ returns-then-come-gone-eq0 c =
 pub loop-o-init : goal.loop-o-init
 loop-o-init c = (search rules, search rules, back_none _ _, c.requires.total_value, search rules)
 
--- what comes in and what goes out
-module _ (c : goal.After-when) where
-  comes : c.when.result ≡ ago (kept c.before.before.before) (o c.before.before.before) (d c.before.before.before + n c.before.before.before)
-  comes =
-      let t = c.before.before.before in
-      count_read (row t) (fits t) (counts t) (s t).args.from (s t).requires.1.0.1 (d t + n t) (omega arith) t.before.before.before.shifted2.ensures (o t) (omega arith) (omega arith)
-      (c.before.before2.ensures ∙ same t _ (omega arith)) c.when.ensures
-
-module _ (c : goal.After-when-in-loop-o) where
-  goes : c.when2.result ≡ ago (kept c.before.before.before.before.before.before) (o c.before.before.before.before.before.before) (d c.before.before.before.before.before.before)
-  goes =
-      let t = c.before.before.before.before.before.before in
-      count_read (row t) (fits t) (counts t) (s t).args.from (s t).requires.1.0.1 (d t) (omega arith) t.before.before.before.before.shifted.ensures (o t) (omega arith) (omega arith)
-      (c.before.before3.ensures ∙ same t _ (omega arith)) c.when2.ensures
-
 pub overflow_add-sum : goal.overflow_add-sum
 overflow_add-sum c =
-    omega (arith, comes c, back_bound (kept t) (o t) (d t) (n t) c.loop-o.invariant.3 count_most (small t))
+    let a = c.args in
+    let l = c.loop-o in
+    let i = l.invariant in
+    let f : (q : ℕ) → get_or a.row.now q 0 < 2 ^ 64 = λ q. omega (arith, c.type_inv.row q) in
+    let comes = reads a.row.now a.counts.now l.counts a.from a.d a.n l.o (a.d + a.n) _ _ _ f c.requires.from_in_bounds.1 i.0 (omega arith) (omega arith) i.2 (omega arith) c.shifted-gone.ensures c.before-in-loop-o.ensures c.when.ensures in
+    omega (arith, comes, back_bound (masked (held a.row.now) a.counts.now) l.o a.d a.n i.3 count_most c.requires.by_index)
 
 pub overflow_sub-sum : goal.overflow_sub-sum
 overflow_sub-sum c =
-    omega (arith, comes c.before.before.before, goes c, back_least (kept t) (o t) (d t) (n t) c.loop-o.invariant.3)
+    let a = c.args in
+    let l = c.loop-o in
+    let i = l.invariant in
+    let f : (q : ℕ) → get_or a.row.now q 0 < 2 ^ 64 = λ q. omega (arith, c.type_inv.row q) in
+    let comes = reads a.row.now a.counts.now l.counts a.from a.d a.n l.o (a.d + a.n) _ _ _ f c.requires.from_in_bounds.1 i.0 (omega arith) (omega arith) i.2 (omega arith) c.shifted-gone.ensures c.before-in-loop-o.ensures c.when.ensures in
+    let goes = reads a.row.now a.counts.now l.counts a.from a.d a.n l.o a.d _ _ _ f c.requires.from_in_bounds.1 i.0 (omega arith) (omega arith) i.2 c.requires.le_d.0 c.shifted-come.ensures c.before-in-loop-o-2.ensures c.when-in-loop-o.ensures in
+    omega (arith, comes, goes, back_least (masked (held a.row.now) a.counts.now) l.o a.d a.n i.3)
 
 pub loop-o-preserved : goal.loop-o-preserved
 loop-o-preserved c =
+    let a = c.args in
     let l = c.loop-o in
-    let r : l.sum + c.when.result - c.when-in-loop-o.result ≡ recent (kept t) (o t - 1) (d t) (n t) =
-    omega (arith, comes c.before.before.before, goes c, recent_back (kept t) (o t) (d t) (n t) l.invariant.3 (omega arith)) in
-    (search rules, search rules, back_put _ _ _ l.invariant.2 r (search rules) (search rules), r, search rules)
+    let i = l.invariant in
+    let f : (q : ℕ) → get_or a.row.now q 0 < 2 ^ 64 = λ q. omega (arith, c.type_inv.row q) in
+    let comes = reads a.row.now a.counts.now l.counts a.from a.d a.n l.o (a.d + a.n) _ _ _ f c.requires.from_in_bounds.1 i.0 (omega arith) (omega arith) i.2 (omega arith) c.shifted-gone.ensures c.before-in-loop-o.ensures c.when.ensures in
+    let goes = reads a.row.now a.counts.now l.counts a.from a.d a.n l.o a.d _ _ _ f c.requires.from_in_bounds.1 i.0 (omega arith) (omega arith) i.2 c.requires.le_d.0 c.shifted-come.ensures c.before-in-loop-o-2.ensures c.when-in-loop-o.ensures in
+    let r : l.sum + c.when.result - c.when-in-loop-o.result ≡ recent (masked (held a.row.now) a.counts.now) (l.o - 1) a.d a.n =
+    omega (arith, comes, goes, recent_back (masked (held a.row.now) a.counts.now) l.o a.d a.n i.3 (omega arith)) in
+    (search rules, search rules, back_put _ _ _ i.2 r (search rules) (search rules), r, search rules)
 
 pub returns : goal.returns
 returns c =

@@ -12,14 +12,16 @@ open_gap-requires c =
     let a = c.args in
     (mid_len a.from a.to a.spare.now (search rules) ∙ sym (mid_len a.from a.to a.row.now (search rules)), search rules)
 
--- TODO 2 parts for the clauses ['row_unchanged', 'row_len_unchanged', 'row_after']
 pub returns : goal.returns
 unfolding between
 returns c =
     let a = c.args in
     let o = c.open_gap in
-    let ys = o.new.1.1.1.0 in
-    let n = o.auto.1.1.1.0 in
+    let ys = o.new.row in
+    let n = o.auto.row in
     let e = part_opened a.from a.to a.row.now (search rules) (search rules) ys n o.ensures in
-    let f = drop_put a.from a.to a.row.now ys (search rules) (search rules) (n ∙ mid_len a.from a.to a.row.now (search rules)) in
-    ((e.0, f), ((e.1, same_len_mid a.from (a.to - a.from) a.spare.now o.new.1.1.0 o.auto.1.1.0), e.2))
+    let f = drop_put a.from a.to a.row.now ys (search rules) (search rules) (n ∙ mid_len a.from a.to a.row.now (search rules)) in record {
+      row_unchanged = (e.0, f);
+      row_len_unchanged = (e.1, same_len_mid a.from (a.to - a.from) a.spare.now o.new.spare o.auto.spare);
+      row_after = e.2;
+    }

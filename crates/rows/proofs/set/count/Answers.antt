@@ -1,18 +1,16 @@
 use borrow.Author.Rules.{rules}
-use Prim.Native.Nat.{◌-◌}
 use native.Mathlib.Omega.{arith}
 use lib.Count.{ones-le}
-use Rattle.rules.specs.Lists as lists
 use Rattle.rows.proofs.Marks.{counted_step, counted_end}
 use Rattle.rows.proofs.set.count.Goals as goal
 
 pub overflow_add-sum : goal.overflow_add-sum
-overflow_add-sum c = omega (arith, ones-le 64 _ (c.shared_slice_known-1.given c.loop-w.w).fits)
+overflow_add-sum c = omega (arith, ones-le 64 _ (c.type_inv.row c.loop-w.w).fits)
 
 pub loop-w-preserved : goal.loop-w-preserved
 loop-w-preserved c =
     let w = c.loop-w.w in
-    let fits = (c.shared_slice_known-1.given w).fits in (
+    let fits = (c.type_inv.row w).fits in (
       search rules,
       search rules,
       omega (arith, ones-le 64 _ fits),

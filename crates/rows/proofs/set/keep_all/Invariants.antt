@@ -6,11 +6,6 @@ use Prim.Native.Nat.{◌-◌, ◌≤◌}
 use lib.ListN.{length}
 use Rattle.rows.specs.Set.{row_marks}
 use Rattle.rows.proofs.Possible.{Possible}
-use Rattle.rows.proofs.set.keep_all.Reads as reads
-use Rattle.rows.proofs.set.keep_all.Lts as lts
-use Rattle.rows.proofs.set.count.Reads as count-reads
-use Rattle.rows.proofs.set.keep_sequences.Reads as keep-sequences-reads
-use Rattle.rows.proofs.set.keep_short.Reads as keep-short-reads
 use Rattle.rows.proofs.set.keep_all.Given as goal
 
 abbrev pub invariant-loop-w : goal.invariant-loop-w

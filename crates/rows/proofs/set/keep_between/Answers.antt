@@ -12,9 +12,9 @@ keep_letter-requires c =
     let n = mid_len a.from a.to a.row.now (search rules) in
     (mid_len a.from a.to a.letter.now (search rules) ∙ sym n, mid_len a.from a.to a.out.now (search rules) ∙ sym n, search rules)
 
--- TODO the clauses are ['out_unchanged', 'out_after', 'value']
 pub returns : goal.returns
 unfolding between
 returns c =
     let a = c.args in
-    part_kept a.from a.to a.out.now (search rules) (search rules) c.keep_letter.new.out c.keep_letter.auto.out c.keep_letter.ensures.out_after c.keep_letter.ensures.value
+    let k = part_kept a.from a.to a.out.now (search rules) (search rules) c.keep_letter.new.out c.keep_letter.auto.out c.keep_letter.ensures.out_after c.keep_letter.ensures.value in
+    record { out_unchanged = k.0; out_after = k.1.0; value = k.1.1 }

@@ -3,9 +3,6 @@
 use mathlib.Core.Path.{◌≡◌}
 use lib.ListN.{length}
 use Rattle.rows.proofs.Kept.{Kept}
-use Rattle.rows.proofs.set.keep_ones.Reads as reads
-use Rattle.rows.proofs.set.keep_ones.Lts as lts
-use Rattle.rows.proofs.words.one.Reads as one-reads
 use Rattle.rows.proofs.set.keep_ones.Given as goal
 
 abbrev pub invariant-loop-rest : goal.invariant-loop-rest

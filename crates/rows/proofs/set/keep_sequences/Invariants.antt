@@ -2,11 +2,6 @@
 use mathlib.Core.Path.{◌≡◌}
 use lib.ListN.{length}
 use Rattle.rows.proofs.Kept.{Going}
-use Rattle.rows.proofs.set.keep_sequences.Reads as reads
-use Rattle.rows.proofs.set.keep_sequences.Lts as lts
-use Rattle.rows.proofs.set.keep_sequence.Reads as keep-sequence-reads
-use Rattle.rows.proofs.words.none.Reads as none_reads
-use Rattle.rows.proofs.words.one.Reads as one-reads
 use Rattle.rows.proofs.set.keep_sequences.Given as goal
 
 abbrev pub invariant-loop-rest : goal.invariant-loop-rest

@@ -5,10 +5,6 @@ use Prim.Native.Nat.{◌-◌, ◌≤◌}
 use lib.ListN.{length}
 use Rattle.rows.specs.Set.{row_marks}
 use Rattle.rows.proofs.Possible.{Possible}
-use Rattle.rows.proofs.set.keep_short.Reads as reads
-use Rattle.rows.proofs.set.keep_short.Lts as lts
-use Rattle.rows.proofs.set.count.Reads as count-reads
-use Rattle.rows.proofs.set.keep_ones.Reads as keep-ones-reads
 use Rattle.rows.proofs.set.keep_short.Given as goal
 
 abbrev pub invariant-loop-w : goal.invariant-loop-w

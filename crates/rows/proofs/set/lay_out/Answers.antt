@@ -1,8 +1,6 @@
--- TODO goal same-length is not asked now: let s = c.before.before.before.before.before in     length-set c.before.loop.firsts _ _ ∙ c.before.loop.invariant.1 ∙ length-set s.args.firsts.now 0 row_marks
--- TODO goal same-length-2 is not asked now: let s = c.before.before.before.before.before in c.before.loop.invariant.2 ∙ length-set s.args.offsets.now 0 0
 use borrow.Author.Rules.{rules}
 use mathlib.Core.Path.{◌≡◌, refl, ◌∙◌}
-use Prim.Native.Nat.{◌+◌, ◌-◌, ◌<◌}
+use Prim.Native.Nat.{◌+◌, ◌<◌}
 use native.Mathlib.Omega.{arith}
 use lib.ListN.{length, length-set, get_or}
 use Rattle.rows.specs.Set.{row_marks, first_word}
@@ -11,17 +9,16 @@ use Rattle.rows.proofs.Offsets.{offset_of, offset_none, offset_next, offset_most
 use Rattle.rows.proofs.set.lay_out.Goals as goal
 
 pub loop-k-init : goal.loop-k-init
-loop-k-init c =
-    (
-      search rules,
-      refl,
-      refl,
-      first_none _,
-      offset_none c.args.lengths.now,
-      tabled_first _ c.args.firsts.now (first_none _) (search rules),
-      tabled_first _ c.args.offsets.now (offset_none c.args.lengths.now) (search rules),
-      short_none _,
-    )
+loop-k-init c = (
+  search rules,
+  refl,
+  refl,
+  first_none _,
+  offset_none c.args.lengths.now,
+  tabled_first _ c.args.firsts.now (first_none _) (search rules),
+  tabled_first _ c.args.offsets.now (offset_none c.args.lengths.now) (search rules),
+  short_none _,
+)
 
 pub words_of-words-requires : goal.words_of-words-requires
 words_of-words-requires c =
@@ -69,17 +66,17 @@ pub overflow_sub-last : goal.overflow_sub-last
 overflow_sub-last c =
     omega (arith, c.loop-k.invariant.1, length-set c.args.firsts.now 0 row_marks, c.requires.lengths_in_bounds.0)
 
-pub offset_bounds-firsts-last : goal.offset_bounds-firsts-last
-offset_bounds-firsts-last c = omega (arith, c.loop-k.invariant.1, length-set c.args.firsts.now 0 row_marks, c.well-formed.1.0)
-
 pub bounds-firsts-last : goal.bounds-firsts-last
 bounds-firsts-last c =
     omega (arith, c.loop-k.invariant.1, length-set c.args.firsts.now 0 row_marks, c.requires.lengths_in_bounds.0)
 
--- TODO 2 parts for the clauses ['firsts', 'offsets', 'firsts_len_unchanged']
 pub returns : goal.returns
 returns c =
     let l = c.loop-k in
-    let f = l.invariant.1 ∙ length-set c.args.firsts.now 0 row_marks in
-    let o = l.invariant.2 ∙ length-set c.args.offsets.now 0 0 in
-    (tabled_firsts _ _ _ (search rules) (omega (arith, f, c.requires.lengths_in_bounds.0)) l.invariant.5 _ l.invariant.7, (tabled_offsets _ _ _ (search rules) (omega (arith, o, c.requires.lengths_in_bounds.1)) l.invariant.6, (length-set l.firsts _ _ ∙ f, o)))
+    let f : length l.firsts ≡ length c.args.firsts.now = l.invariant.1 ∙ length-set c.args.firsts.now 0 row_marks in
+    let o : length l.offsets ≡ length c.args.offsets.now = l.invariant.2 ∙ length-set c.args.offsets.now 0 0 in
+    record {
+      firsts = tabled_firsts _ _ _ (search rules) (omega (arith, f, c.requires.lengths_in_bounds.0)) l.invariant.5 _ l.invariant.7;
+      offsets = tabled_offsets _ _ _ (search rules) (omega (arith, o, c.requires.lengths_in_bounds.1)) l.invariant.6;
+      firsts_len_unchanged = (length-set l.firsts _ _ ∙ f, o);
+    }

@@ -1,9 +1,6 @@
--- TODO goal overflow-cast-from is not asked now: omega (arith, (c.shared-slice-known4.given c.before.before.loop.k).fits)
--- TODO goal overflow-cast-to is not asked now: omega (arith, (c.shared-slice-known5.given (c.before.before.before.loop.k + 1)).fits)
 use borrow.Author.Rules.{rules}
-use mathlib.Core.Bool.{true}
 use mathlib.Core.Path.{refl, ◌∙◌}
-use Prim.Native.Nat.{◌+◌, ◌-◌, ◌<◌}
+use Prim.Native.Nat.{◌+◌, ◌<◌}
 use native.Mathlib.Omega.{arith}
 use lib.ListN.{length}
 use Rattle.rows.proofs.Sets.{filled_none, filled_end, filled_turn, turn_lies}
@@ -36,8 +33,8 @@ loop-k-preserved c =
     let t = c.requires.firsts.same (l.k + 1) (omega arith) in
     let o = c.shift_between.ensures in (
       search rules,
-      o.0.1 ∙ l.invariant.1,
-      filled_turn _ _ _ l.out _ _ h l.invariant.2 f t o.0.0 (λ _. shifted_is_at _ _ h f t c.args.i c.args.row.now o.1),
+      o.out_unchanged.1 ∙ l.invariant.1,
+      filled_turn _ _ _ l.out _ _ h l.invariant.2 f t o.out_unchanged.0 (λ _. shifted_is_at _ _ h f t c.args.i c.args.row.now o.out_after),
     )
 
 pub returns : goal.returns

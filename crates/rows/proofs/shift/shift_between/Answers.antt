@@ -16,7 +16,7 @@ unfolding between
 returns c =
     let a = c.args in
     let o = c.shift_down in
-    let e = part_opened a.from a.to a.out.now (search rules) (search rules) o.new.1.1.0 o.auto.1.1.0 o.ensures in
+    let e = part_opened a.from a.to a.out.now (search rules) (search rules) o.new.out o.auto.out o.ensures in
     record {
       out_unchanged = (e.0, e.1);
       out_after = e.2;

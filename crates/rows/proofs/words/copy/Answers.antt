@@ -1,6 +1,5 @@
 use borrow.Author.Rules.{rules}
 use mathlib.Core.Path.{refl, ◌∙◌}
-use Prim.Native.Nat.{◌-◌}
 use Rattle.rules.proofs.Over.{over_none, over_put, over_all}
 use Rattle.rows.proofs.Joined.{map_word}
 use Rattle.rows.proofs.words.copy.Goals as goal

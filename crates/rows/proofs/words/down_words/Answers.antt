@@ -1,5 +1,4 @@
 use borrow.Author.Rules.{rules}
-use Prim.Native.Nat.{◌-◌}
 use Rattle.rules.proofs.Over.{over_none, over_put, over_end}
 use Rattle.rows.proofs.Shifted.{ahead_is}
 use Rattle.rows.proofs.words.down_words.Goals as goal

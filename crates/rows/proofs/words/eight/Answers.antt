@@ -7,7 +7,7 @@ use Rattle.rows.proofs.words.eight.Goals as goal
 pub returns : goal.returns
 returns c =
     let bs = c.args.bytes.now in
-    let b : Bytes bs = λ i. (c.shared_slice_known-1.given i).fits in
+    let b : Bytes bs = λ i. (c.type_inv.bytes i).fits in
     let r1 = read_first bs c.wide.ensures in
     let r2 = read_more bs b 1 (omega arith) r1 c.wide-2.ensures in
     let r3 = read_more bs b 2 (omega arith) r2 c.wide-3.ensures in

@@ -1,6 +1,5 @@
 use borrow.Author.Rules.{rules}
 use mathlib.Core.Path.{refl}
-use Prim.Native.Nat.{◌-◌}
 use Rattle.rules.proofs.Over.{over_none, over_put, over_value}
 use Rattle.rows.proofs.words.fill.Goals as goal
 

@@ -1,7 +1,6 @@
 use borrow.Author.Rules.{rules}
 use Rattle.rows.proofs.WordByWord.{either_is}
 use mathlib.Core.Path.{ap, ◌∙◌}
-use Prim.Native.Nat.{◌-◌}
 use Rattle.rules.proofs.Over.{over_none, over_put, over_keeps, over_all}
 use Rattle.rows.specs.Bits.{held}
 use Rattle.rows.proofs.Bits.{either_row}

@@ -1,6 +1,5 @@
 use borrow.Author.Rules.{rules}
 use mathlib.Core.Path.{refl}
-use Prim.Native.Nat.{◌-◌}
 use Rattle.rules.proofs.Over.{over_none, over_put, over_end}
 use Rattle.rows.proofs.Joined.{joined_none, joined_more, joined_end}
 use Rattle.rows.proofs.WordByWord.{extended_plain}

@@ -1,7 +1,7 @@
 use borrow.Author.Rules.{rules}
 use Rattle.rows.proofs.WordByWord.{extended_is}
 use mathlib.Core.Path.{refl, ap, ◌∙◌}
-use Prim.Native.Nat.{ℕ, ◌+◌, ◌-◌}
+use Prim.Native.Nat.{ℕ, ◌+◌}
 use lib.ListN.{get_or}
 use Rattle.rules.proofs.Over.{over_none, over_put, over_end}
 use Rattle.rows.specs.Words.{shifted_down}

@@ -34,7 +34,7 @@ eight-bytes-requires c = simp (length-take, length-drop) (omega arith)
 pub loop-p-2-preserved : goal.loop-p-2-preserved
 loop-p-2-preserved c =
     let s = c.args.sequence.now in
-    let b : Bytes s = λ i. (c.shared_slice_known-1.given i).fits in
+    let b : Bytes s = λ i. (c.type_inv.sequence i).fits in
     let l = c.loop-p-2 in
     let q : l.p ≡ l.p - 8 + 8 = search rules in
     let m : l.p ≤ length s = search rules in

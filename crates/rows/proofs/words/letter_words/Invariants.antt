@@ -1,6 +1,6 @@
 -- A turn puts the letters before those that were read below them, in each of the three planes.
 use mathlib.Core.Path.{◌≡◌}
-use Prim.Native.Nat.{◌-◌, ◌%◌, ◌≤◌}
+use Prim.Native.Nat.{◌%◌, ◌≤◌}
 use lib.ListN.{length}
 use Rattle.rows.proofs.Planes.{Plane}
 use Rattle.rows.proofs.words.letter_words.Given as goal

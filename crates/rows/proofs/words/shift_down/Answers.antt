@@ -5,11 +5,9 @@ use Rattle.rows.proofs.words.shift_down.Goals as goal
 
 pub returns-then-n-eq0 : goal.returns-then-n-eq0
 returns-then-n-eq0 c =
-    let ws = c.shared_slice_known-1 in
-    ahead_empty _ _ (search rules) (λ q. (ws.given q).fits) _ (search rules) (search rules)
+    ahead_empty _ _ (search rules) (λ q. (c.type_inv.row q).fits) _ (search rules) (search rules)
 
 pub returns : goal.returns
 returns c =
-    let ws = c.shared_slice_known-1 in
     let d = c.down_words in
-    ahead_whole _ _ (search rules) (λ q. (ws.given q).fits) c.args.out.now (search rules) _ (search rules) d.ensures c.down.ensures
+    ahead_whole _ _ (search rules) (λ q. (c.type_inv.row q).fits) c.args.out.now (search rules) _ (search rules) d.ensures c.down.ensures

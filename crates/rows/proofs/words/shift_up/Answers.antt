@@ -1,5 +1,4 @@
 -- The first words get no bits, the next those of the first word alone, and the others, by the loop, those of two; a shift past all words leaves nothing.
--- TODO goal same-length-2 is not asked now: let a = c.before.before.before.before.before.before.before.before.before.before.before.before.before.args in     let u = c.before.before.before.before.up in     let f = c.before.before.before.before.before.before.before.before.fill2 in     c.before.before.shift-words.auto.1.1.1.0 ∙ shift_length a.d 
 use borrow.Author.Rules.{rules}
 use lib.Seq.{length-take-le}
 use Rattle.rows.proofs.WordByWord.{shift_begun, shift_length, shift_whole, shift_out}
@@ -10,8 +9,7 @@ use Rattle.rows.proofs.words.shift_up.Goals as goal
 pub returns-then-n-e : goal.returns-then-n-e
 returns-then-n-e c =
     let a = c.args in
-    let ws = c.shared_slice_known-1 in
-    shift_out _ _ a.out.now (search rules) (λ q. (ws.given q).fits) (search rules) c.fill.ensures
+    shift_out _ _ a.out.now (search rules) (λ q. (c.type_inv.row q).fits) (search rules) c.fill.ensures
 
 pub slice_bounds-fill-end-2 : goal.slice_bounds-fill-end-2
 slice_bounds-fill-end-2 c = sym (length-take-le _ _ (search rules))
@@ -28,7 +26,6 @@ shift_words-requires c =
 pub returns : goal.returns
 returns c =
     let a = c.args in
-    let ws = c.shared_slice_known-1 in
     let u = c.up in
     let f = c.fill-2 in
-    shift_whole _ _ a.out.now (search rules) (λ q. (ws.given q).fits) (search rules) f.ensures u.ensures c.shift_words.ensures
+    shift_whole _ _ a.out.now (search rules) (λ q. (c.type_inv.row q).fits) (search rules) f.ensures u.ensures c.shift_words.ensures

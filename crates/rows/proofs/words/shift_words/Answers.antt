@@ -1,6 +1,5 @@
 use borrow.Author.Rules.{rules}
 use Rattle.rows.proofs.WordByWord.{behind_is}
-use Prim.Native.Nat.{◌-◌}
 use Rattle.rules.proofs.Over.{over_put, over_end}
 use Rattle.rows.proofs.words.shift_words.Goals as goal
 

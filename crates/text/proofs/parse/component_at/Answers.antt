@@ -1,7 +1,6 @@
 -- The piece at the index is found after as many others.
 use mathlib.Core.Path.{sym, ◌∙◌}
 use native.Mathlib.Omega.{arith}
-use Rattle.rules.specs.Template.{none}
 use Rattle.text.proofs.Scan.{scan_from, scan_to}
 use Rattle.text.proofs.ComponentsByPiece.{slot_at, slot_past}
 use Rattle.text.proofs.parse.component_at.Goals as goal

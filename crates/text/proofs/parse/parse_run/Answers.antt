@@ -3,13 +3,13 @@ use native.Mathlib.Omega.{arith}
 use Rattle.text.proofs.parse.parse_run.Goals as goal
 
 pub overflow_cast-least : goal.overflow_cast-least
-overflow_cast-least c = omega (arith, rw c.low-1.given.1 at c.requires.0)
+overflow_cast-least c = omega (arith, rw c.in-Value.is at c.requires.0)
 
 pub overflow_cast-most : goal.overflow_cast-most
-overflow_cast-most c = omega (arith, rw c.high-1.given.1 at c.requires.1)
+overflow_cast-most c = omega (arith, rw c.in-Value-high.is at c.requires.1)
 
 pub returns-then-is_run : goal.returns-then-is_run
-returns-then-is_run c = rw (c.low-1.given.1, c.high-1.given.1, ← c.is_run.ensures, c.if-is_run.true, c.new.ensures)
+returns-then-is_run c = rw (c.in-Value.is, c.in-Value-high.is, ← c.is_run.ensures, c.if-is_run.true, c.new.ensures)
 
 pub returns-else-is_run : goal.returns-else-is_run
-returns-else-is_run c = rw (c.low-1.given.1, c.high-1.given.1, ← c.is_run.ensures, c.if-is_run.false)
+returns-else-is_run c = rw (c.in-Value.is, c.in-Value-high.is, ← c.is_run.ensures, c.if-is_run.false)

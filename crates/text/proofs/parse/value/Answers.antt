@@ -1,7 +1,6 @@
--- TODO a context in small
 use borrow.Author.Rules.{rules}
 use mathlib.Core.Path.{◌≡◌, sym, ◌∙◌}
-use Prim.Native.Nat.{◌-◌, ◌<◌}
+use Prim.Native.Nat.{◌-◌}
 use native.Mathlib.Nat.{zero-mul, zero-add, mul-one}
 use native.Mathlib.Numerals.{add-one}
 use native.Mathlib.Omega.{arith}
@@ -18,15 +17,15 @@ overflow_sub-digit c = digit_low c.loop-i.i 0 c.args.text.now c.loop-i-test.true
 pub overflow_cast-digit : goal.overflow_cast-digit
 overflow_cast-digit c = omega (arith, digit_high c.loop-i.i 0 c.args.text.now c.loop-i-test.true c.requires.0)
 
-small : (c : goal.In-loop-i) → c.before.loop.value < 100000
-small c = digits_small c.before.loop.i c.before.loop.value c.before.before.args.text.now c.loop-test.true c.before.before.requires.1 c.before.loop.invariant.1
-
 pub overflow_mul-value : goal.overflow_mul-value
-overflow_mul-value c = omega (arith, small c.before)
+overflow_mul-value c =
+    let l = c.loop-i in
+    omega (arith, digits_small l.i l.value c.args.text.now c.loop-i-test.true c.requires.1 l.invariant.1)
 
 pub overflow_add-value : goal.overflow_add-value
 overflow_add-value c =
-    omega (arith, small c.before, digit_high c.loop-i.i 0 c.args.text.now c.loop-i-test.true c.requires.0)
+    let l = c.loop-i in
+    omega (arith, digits_small l.i l.value c.args.text.now c.loop-i-test.true c.requires.1 l.invariant.1, digit_high c.loop-i.i 0 c.args.text.now c.loop-i-test.true c.requires.0)
 
 pub loop-i-preserved : goal.loop-i-preserved
 loop-i-preserved c =

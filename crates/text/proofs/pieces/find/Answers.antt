@@ -1,5 +1,4 @@
 use borrow.Author.Rules.{rules}
-use Prim.Native.Nat.{◌-◌}
 use native.Mathlib.Omega.{arith}
 use Rattle.text.proofs.Scan.{find_here, find_on, find_end}
 use Rattle.text.proofs.pieces.find.Goals as goal

@@ -1,5 +1,5 @@
 use mathlib.Core.Path.{◌∙◌, refl, sym}
-use Prim.Native.Nat.{◌+◌, ◌-◌}
+use Prim.Native.Nat.{◌+◌}
 use native.Mathlib.Omega.{arith}
 use Rattle.text.proofs.Scan.{find_past, not_among}
 use Rattle.text.proofs.pieces.pass_eights.Goals as goal

@@ -4,9 +4,8 @@ use Prim.Native.Nat.{ℕ, ◌-◌}
 use native.Mathlib.Nat.{sub-zero}
 use native.Mathlib.Omega.{arith}
 use lib.ListN.{drop}
-use Rattle.text.specs.Pieces.{find, after_pieces}
+use Rattle.text.specs.Pieces.{after_pieces}
 use Rattle.text.proofs.Scan.{scan_to, after_more}
-use Rattle.text.proofs.pieces.skip.Invariants.{)}
 use Rattle.text.proofs.pieces.skip.Goals as goal
 
 pub loop-k-init : goal.loop-k-init
@@ -16,13 +15,11 @@ pub past-at-requires : goal.past-at-requires
 past-at-requires c = scan_to c.args.b c.loop-k.at _ c.args.text.now c.find.ensures c.loop-k.invariant.1
 
 pub loop-k-preserved : goal.loop-k-preserved
-loop-k-preserved c =
-    (
+loop-k-preserved c = (
   search rules,
   omega (arith, c.past-at.ensures),
   c.loop-k.invariant.2
       ∙ after_more c.args.b c.args.n c.loop-k.k c.loop-k.at c.args.text.now c.loop-k-test.true c.find.ensures c.past-at.ensures,
-
 )
 
 pub returns : goal.returns

@@ -5,8 +5,6 @@ use lib.ListN.{length, drop}
 use Rattle.text.specs.Pieces.{after_pieces}
 use Rattle.text.proofs.pieces.skip.Given as goal
 
-pub )
-
 abbrev pub invariant-loop-k : goal.invariant-loop-k
 invariant-loop-k l = (l.k ≤ l.n) × (l.at ≤ length l.text) × (after_pieces l.b l.n l.text ≡ after_pieces l.b (l.n - l.k) (drop l.at l.text))
 

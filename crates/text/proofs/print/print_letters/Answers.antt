@@ -1,7 +1,6 @@
--- TODO goal same-length is not asked now: wrote_length c.before.loop.invariant.1
 use borrow.Author.Rules.{rules}
 use mathlib.Core.Path.{ap}
-use Prim.Native.Nat.{ℕ, ◌-◌}
+use Prim.Native.Nat.{ℕ}
 use native.Mathlib.Omega.{arith}
 use Rattle.text.specs.Printed.{motif_letters}
 use Rattle.text.proofs.Printed.{wrote_none, wrote_as, wrote_length, ◌then◌}
@@ -18,11 +17,9 @@ print_byte-next-requires c =
     omega (arith, w.end, wrote_length w, length_letters i c.args.left c.args.motif (search rules))
 
 pub loop-i-preserved : goal.loop-i-preserved
-loop-i-preserved c =
-    (
+loop-i-preserved c = (
   search rules,
   wrote_as (c.loop-i.invariant.1 then c.print_byte-next.ensures) (letters_more _ _ c.args.motif (search rules) c.byte.ensures),
-
 )
 
 pub returns : goal.returns

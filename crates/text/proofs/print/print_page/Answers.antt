@@ -1,6 +1,5 @@
 use borrow.Author.Rules.{rules}
 use mathlib.Core.Path.{◌≡◌, refl, ◌∙◌}
-use Prim.Native.Nat.{◌-◌}
 use native.Mathlib.Omega.{arith}
 use Rattle.text.proofs.Printed.{wrote_as, wrote_length, ◌then◌}
 use Rattle.text.proofs.PrintedPage.{page_none, page_more, page_done}

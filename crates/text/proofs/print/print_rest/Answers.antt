@@ -1,7 +1,6 @@
--- TODO goal same-length is not asked now: wrote_length c.before.loop.invariant.3.1
 use mathlib.Core.Path.{refl, sym, ap, ◌∙◌}
 use mathlib.Core.List.{List, [], ◌++◌, append-nil}
-use Prim.Native.Nat.{ℕ, ◌-◌}
+use Prim.Native.Nat.{ℕ}
 use native.Mathlib.Omega.{arith}
 use Rattle.text.proofs.Printed.{wrote_none, wrote_as, ◌then◌}
 use Rattle.text.proofs.ShapedMotif.{size_is, shape_from_end, next_fits, next_left, next_done, next_room}

@@ -1,6 +1,4 @@
--- TODO goal same-length is not asked now: wrote_length c.before.loop.invariant.2
 use borrow.Author.Rules.{rules}
-use Prim.Native.Nat.{◌-◌}
 use native.Mathlib.Nat.{add-zero}
 use lib.Seq.{take_all}
 use Rattle.text.proofs.Printed.{wrote_none, wrote_as, wrote_more}

@@ -4,8 +4,8 @@ use Rattle.text.proofs.read.read_quorum.Goals as goal
 
 pub returns-in-Value : goal.returns-in-Value
 unfolding parse_quorum
-returns-in-Value c = rw (← c.find_line-span.ensures.2, ← c.parse_number-number.ensures.0, c.number-1.given.1)
+returns-in-Value c = rw (← c.find_line-span.ensures.2, ← c.parse_number-number.ensures.0, c.in-Value.is)
 
 pub returns-in-Malformed : goal.returns-in-Malformed
 unfolding parse_quorum
-returns-in-Malformed c = rw (← c.find_line-span.ensures.2, ← c.parse_number-number.ensures.0, c.enum_told-1.is{-TODO-})
+returns-in-Malformed c = rw (← c.find_line-span.ensures.2, ← c.parse_number-number.ensures.0, c.in-Malformed.is)
