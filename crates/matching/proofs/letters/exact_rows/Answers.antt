@@ -1,5 +1,4 @@
 use mathlib.Core.Path.{refl, ◌∙◌}
-use Prim.Native.Nat.{◌-◌}
 use native.Mathlib.Omega.{arith}
 use Rattle.matching.proofs.Standing.{Shifted, written_none, written_more, shifted_same}
 use Rattle.matching.proofs.letters.exact_rows.Goals as goal

@@ -1,5 +1,4 @@
 use mathlib.Core.Path.{refl, ◌∙◌}
-use Prim.Native.Nat.{◌-◌}
 use native.Mathlib.Omega.{arith}
 use Rattle.matching.specs.Path.{FromBases}
 use Rattle.matching.proofs.Standing.{written_none, written_more, from_same}

@@ -1,6 +1,6 @@
 use borrow.Author.Rules.{rules}
 use mathlib.Core.Path.{refl, ◌∙◌}
-use Prim.Native.Nat.{◌-◌, ◌*◌}
+use Prim.Native.Nat.{◌*◌}
 use native.Mathlib.Omega.{arith}
 use lib.ListN.{length-take}
 use Rattle.matching.proofs.BaseRows.{spelt_part, begun_none, begun_more, begun_all}
@@ -42,4 +42,4 @@ returns c =
     let l = c.loop-q in
     let all = begun_all a.from a.to a.sequence.now a.standing.now l.q l.standing p.from_le_to.0
     (omega (arith, c.loop-q-test.false, l.invariant.0)) p.from_le_to.1 (omega (arith, l.invariant.1, p.in_bounds)) l.invariant.2 in
-    record { by_index_2 = l.invariant.2.kept; by_index_3 = all; standing_len_unchanged = l.invariant.1; }
+    record { by_index_2 = l.invariant.2.kept; by_index_3 = all; standing_len_unchanged = l.invariant.1 }

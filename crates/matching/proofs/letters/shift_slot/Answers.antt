@@ -22,4 +22,4 @@ returns c =
     let p = c.requires in
     let o = c.shift_all.ensures in
     let w = slot_filled a.s _ a.lengths.now a.standing.now p.i_bound.1 _ o.out_len_unchanged o.filled in
-    record { standing_unchanged = w.0; filled = w.1; }
+    record { standing_unchanged = w.0; filled = w.1 }

@@ -1,7 +1,6 @@
 use mathlib.Core.Path.{◌≡◌, refl, ◌∙◌}
 use Prim.Native.Nat.{◌+◌, ◌-◌}
 use native.Mathlib.Omega.{arith}
-use Rattle.rules.specs.Support.{parts}
 use Rattle.matching.proofs.Replay.{replay_begin, replay_more, replay_end, last_prefix}
 use Rattle.matching.proofs.path.replay.Goals as goal
 

@@ -1,7 +1,6 @@
 use mathlib.Core.Path.{◌≡◌, refl, ◌∙◌}
 use Prim.Native.Nat.{◌+◌, ◌-◌}
 use native.Mathlib.Omega.{arith}
-use Rattle.rules.specs.Support.{parts}
 use Rattle.matching.proofs.Replay.{slot_begin, slot_more, last_prefix}
 use Rattle.matching.proofs.path.shorter.Goals as goal
 

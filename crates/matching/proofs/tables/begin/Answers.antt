@@ -23,10 +23,10 @@ pub letter_slots-requires : goal.letter_slots-requires
 letter_slots-requires c =
     let p = c.requires in
     let o = c.lay_out.ensures in
-    record { sound_set = p.sound_set; firsts = o.firsts; offsets = o.offsets; in_bounds = p.template_in_bounds.3; }
+    record { sound_set = p.sound_set; firsts = o.firsts; offsets = o.offsets; in_bounds = p.template_in_bounds.3 }
 
 pub first_slot-requires : goal.first_slot-requires
-first_slot-requires c = let p = c.requires in record { sound_template = p.sound_template; sound_set = p.sound_set; slot_len = p.template_in_bounds.4; }
+first_slot-requires c = let p = c.requires in record { sound_template = p.sound_template; sound_set = p.sound_set; slot_len = p.template_in_bounds.4 }
 
 pub returns : goal.returns
 returns c =

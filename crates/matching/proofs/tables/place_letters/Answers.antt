@@ -1,5 +1,4 @@
 use mathlib.Core.Path.{refl, ◌∙◌}
-use Prim.Native.Nat.{◌-◌}
 use native.Mathlib.Omega.{arith}
 use Rattle.matching.proofs.LetterPlaces.{letters_none, placed_none, placed_end, read_short, read_next, read_most, read_placed}
 use Rattle.matching.proofs.tables.place_letters.Goals as goal

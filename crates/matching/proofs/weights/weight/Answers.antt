@@ -48,15 +48,15 @@ add_all-requires c =
     let p = c.requires in
     let j = c.if-counted-fresh in
     let leads : Leads a.template a.lengths.now a.letters.now (prefix_of a.template a.motif) j.ways =
-        elim j.branch [
-          | then-counted-fresh w ↦ as_ways w.ways-is w.count_ways.ensures.leads
-          | else-counted-fresh w ↦ as_ways w.ways-is (as_number (sym p.depth_value.2) (same_counted w.if-counted-fresh.false p.counted))
-        ] in
+    elim j.branch [
+      | then-counted-fresh w ↦ as_ways w.ways-is w.count_ways.ensures.leads
+      | else-counted-fresh w ↦ as_ways w.ways-is (as_number (sym p.depth_value.2) (same_counted w.if-counted-fresh.false p.counted))
+    ] in
     let ways_long : length j.ways ≡ length a.ways.now =
-        elim j.branch [
-          | then-counted-fresh w ↦ ap length w.ways-is ∙ w.count_ways.ensures.spare_len_unchanged.1
-          | else-counted-fresh w ↦ ap length w.ways-is
-        ] in
+    elim j.branch [
+      | then-counted-fresh w ↦ ap length w.ways-is ∙ w.count_ways.ensures.spare_len_unchanged.1
+      | else-counted-fresh w ↦ ap length w.ways-is
+    ] in
     let o = p.sound_set in
     let n = p.evens_len in record {
       lengths_len_bound = o.few;
@@ -74,20 +74,20 @@ returns c =
     let p = c.requires in
     let j = c.if-counted-fresh in
     let leads : Leads a.template a.lengths.now a.letters.now (prefix_of a.template a.motif) j.ways =
-        elim j.branch [
-          | then-counted-fresh w ↦ as_ways w.ways-is w.count_ways.ensures.leads
-          | else-counted-fresh w ↦ as_ways w.ways-is (as_number (sym p.depth_value.2) (same_counted w.if-counted-fresh.false p.counted))
-        ] in
+    elim j.branch [
+      | then-counted-fresh w ↦ as_ways w.ways-is w.count_ways.ensures.leads
+      | else-counted-fresh w ↦ as_ways w.ways-is (as_number (sym p.depth_value.2) (same_counted w.if-counted-fresh.false p.counted))
+    ] in
     let ways_long : length j.ways ≡ length a.ways.now =
-        elim j.branch [
-          | then-counted-fresh w ↦ ap length w.ways-is ∙ w.count_ways.ensures.spare_len_unchanged.1
-          | else-counted-fresh w ↦ ap length w.ways-is
-        ] in
+    elim j.branch [
+      | then-counted-fresh w ↦ ap length w.ways-is ∙ w.count_ways.ensures.spare_len_unchanged.1
+      | else-counted-fresh w ↦ ap length w.ways-is
+    ] in
     let spare_long : length j.spare ≡ length a.spare.now =
-        elim j.branch [
-          | then-counted-fresh w ↦ ap length w.spare-is ∙ w.count_ways.ensures.spare_len_unchanged.0
-          | else-counted-fresh w ↦ ap length w.spare-is
-        ] in
+    elim j.branch [
+      | then-counted-fresh w ↦ ap length w.spare-is ∙ w.count_ways.ensures.spare_len_unchanged.0
+      | else-counted-fresh w ↦ ap length w.spare-is
+    ] in
     record {
       value = weighed a.template p.sound_template _ _ p.sound_set a.motif _ p.depth_value.0 _ p.row _ leads c.add_all.ensures;
       leads = as_number p.depth_value.2 leads;
