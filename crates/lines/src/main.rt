@@ -9,7 +9,6 @@ ghost use Rattle.std.specs.Prelude.{◌≡◌, ◌+◌, ◌≤◌, length};
 ghost use Rattle.rules.specs.Limits.{fasta_bytes};
 ghost use Rattle.text.specs.Printed.{line_room};
 
-use libc::{STDERR_FILENO, STDOUT_FILENO};
 use print::{BYTES, print_lines};
 use stdin::{Came, not_read, read_all};
 
@@ -22,30 +21,30 @@ fn room() -> [u8; BYTES]
 }
 
 // Says that the printout was not written whole.
-fn check_written(wrote: bool) {
+fn check_written(errors: &impl Print, wrote: bool) {
     if !wrote {
-        io::write_all(STDERR_FILENO, b"lines: standard output cannot be written\n");
+        let _ = errors.write_all(b"lines: standard output cannot be written\n");
     }
 }
 
 // Answers a file.
-fn answer(file: &[u8], out: &mut [u8])
+fn answer(rt: &impl Print, errors: &impl Print, file: &[u8], out: &mut [u8])
     requires { fasta_bytes + line_room ≤ length out.old }
 {
     let n = print_lines(file, out);
-    let wrote = io::write_all(STDOUT_FILENO, &out[..n]);
-    check_written(wrote);
+    let wrote = rt.write_all(&out[..n]).is_ok();
+    check_written(errors, wrote);
 }
 
-fn main() {
+fn main(rt: HostRuntime) {
     let mut file = room();
-    let came = read_all(&mut file);
+    let came = read_all(&mut rt.stdin(), &mut file);
     match came {
         Came::All(n) => {
             let mut out = room();
-            answer(&file[..n], &mut out);
+            answer(&rt, &rt.stderr(), &file[..n], &mut out);
         }
-        Came::Failed => not_read(b"lines"),
-        Came::More(_) => not_read(b"lines"),
+        Came::Failed => not_read(&rt.stderr(), b"lines"),
+        Came::More(_) => not_read(&rt.stderr(), b"lines"),
     }
 }

@@ -12,13 +12,13 @@ ghost use Rattle.rules.specs.Limits.{text_bytes};
 ghost use Rattle.legs.specs.AcceptedLeg.{room_of};
 ghost use Rattle.motifs.specs.Pages.{page_rows, page_bytes, Printable};
 
-use libc::STDOUT_FILENO;
 use pages::{BYTES, Left, ROWS, if_written, more, next, opening};
 use rules::{Offset, SequenceSet, Text};
 use stdin::{Came, not_read, read_all};
 
 // Writes what is left, one page after another, and stops where a write failed.
 fn write_pages(
+    rt: &impl Print,
     letters: &[u8],
     lengths: &[u32],
     first: Left,
@@ -34,14 +34,14 @@ fn write_pages(
     while more(left) {
         let page = next(letters, lengths, left, motifs, supports, weights, out);
         let n = page.length;
-        let wrote = io::write_all(STDOUT_FILENO, &out[..n]);
+        let wrote = rt.write_all(&out[..n]).is_ok();
         let rest = page.left;
         left = if_written(wrote, rest);
     }
 }
 
 // Answers an input.
-fn answer(input: &[u8], letters: &mut [u8], lengths: &mut [u32], out: &mut [u8])
+fn answer(rt: &impl Print, input: &[u8], letters: &mut [u8], lengths: &mut [u32], out: &mut [u8])
     requires { (text_bytes ≤ length letters.old) × (text_bytes ≤ length lengths.old) × (page_bytes ≤ length out.old) }
 {
     let read = input::read(input, letters, lengths);
@@ -54,6 +54,7 @@ fn answer(input: &[u8], letters: &mut [u8], lengths: &mut [u32], out: &mut [u8])
     let mut weights = [0u64; ROWS];
     let front = SequenceSet::part(letters, Offset(0), Offset(n));
     write_pages(
+        rt,
         front,
         &lengths[..k],
         left,
@@ -64,17 +65,17 @@ fn answer(input: &[u8], letters: &mut [u8], lengths: &mut [u32], out: &mut [u8])
     );
 }
 
-fn main() {
+fn main(rt: HostRuntime) {
     let mut input = [0u8; Text::BYTES + 1];
-    let came = read_all(&mut input);
+    let came = read_all(&mut rt.stdin(), &mut input);
     match came {
         Came::All(n) => {
             let mut letters = [0u8; Text::BYTES];
             let mut lengths = [0u32; Text::BYTES];
             let mut out = [0u8; BYTES];
-            answer(&input[..n], &mut letters, &mut lengths, &mut out);
+            answer(&rt, &input[..n], &mut letters, &mut lengths, &mut out);
         }
-        Came::Failed => not_read(b"motifs"),
-        Came::More(_) => not_read(b"motifs"),
+        Came::Failed => not_read(&rt.stderr(), b"motifs"),
+        Came::More(_) => not_read(&rt.stderr(), b"motifs"),
     }
 }

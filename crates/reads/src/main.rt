@@ -7,7 +7,6 @@ ghost use Rattle.rules.specs.Fasta.{reader_rule};
 ghost use Rattle.rules.specs.Told.{told_handed};
 
 use fasta::Step;
-use libc::STDOUT_FILENO;
 use rules::{FileRefusal, Handed, Offset, SequenceSet, least};
 
 // THE NEXT RECORD, by a reader over the file that is moved on to an offset: what it hands out, and where it stands then. No other
@@ -44,65 +43,65 @@ fn end_of(used: usize, letters: usize, room: usize) -> usize
     used + more
 }
 
-fn text(what: &[u8]) {
-    io::write_all(STDOUT_FILENO, what);
+fn text(rt: &impl Print, what: &[u8]) {
+    let _ = rt.write_all(what);
 }
 
 // A number, after a space.
-fn number(n: u64) {
-    text(b" ");
-    io::print_decimal(STDOUT_FILENO, n);
+fn number(rt: &impl Print, n: u64) {
+    text(rt, b" ");
+    let _ = rt.print(n);
 }
 
 // A refusal: its number and its place.
-fn refused(why: FileRefusal) {
-    text(b"refused");
-    number(why.number());
-    number(why.place());
-    text(b"\n");
+fn refused(rt: &impl Print, why: FileRefusal) {
+    text(rt, b"refused");
+    number(rt, why.number());
+    number(rt, why.place());
+    text(rt, b"\n");
 }
 
 // What a call handed out: of a record its name, its letters, which stand behind the `used` of a buffer, and how many they are. It
 // answers how much of the buffer is used then.
-fn tell(file: &[u8], handed: Handed, letters: &[u8], used: usize) -> usize
+fn tell(rt: &impl Print, file: &[u8], handed: Handed, letters: &[u8], used: usize) -> usize
     requires { used ≤ length letters.now }
     ensures { result ≤ length letters.now }
 {
     match handed {
         Handed::Record { name, letters: n } => {
             let end = end_of(used, n, letters.len());
-            text(fasta::name(file, name));
-            text(b" [");
-            text(SequenceSet::part(letters, Offset(used), Offset(end)));
-            text(b"]");
-            number(n as u64);
-            text(b"\n");
+            text(rt, fasta::name(file, name));
+            text(rt, b" [");
+            text(rt, SequenceSet::part(letters, Offset(used), Offset(end)));
+            text(rt, b"]");
+            number(rt, n as u64);
+            text(rt, b"\n");
             end
         }
         Handed::End => {
-            text(b"end\n");
+            text(rt, b"end\n");
             used
         }
         Handed::Refused(why) => {
-            refused(why);
+            refused(rt, why);
             used
         }
     }
 }
 
 // All of a table, on one line.
-fn rows(table: &[u32]) {
-    text(b"lengths");
+fn rows(rt: &impl Print, table: &[u32]) {
+    text(rt, b"lengths");
     let mut i = 0;
     while i < table.len() {
-        number(table[i] as u64);
+        number(rt, table[i] as u64);
         i += 1;
     }
-    text(b"\n");
+    text(rt, b"\n");
 }
 
 // Reads a file by so many calls, each from where the one before it left the reader, the buffer and the table.
-fn read(file: &[u8], calls: usize) {
+fn read(rt: &impl Print, file: &[u8], calls: usize) {
     let mut letters = [b'.'; 16];
     let mut lengths = [9u32; 4];
     let mut at: usize = 0;
@@ -111,26 +110,27 @@ fn read(file: &[u8], calls: usize) {
     while count < calls {
         let step = next_from(file, at, &mut letters, used, &mut lengths, count);
         let handed = step.handed;
-        used = tell(file, handed, &letters, used);
+        used = tell(rt, file, handed, &letters, used);
         at = step.at;
         count += 1;
     }
-    rows(&lengths);
-    text(b"letters ");
-    text(&letters);
-    text(b"\n");
+    rows(rt, &lengths);
+    text(rt, b"letters ");
+    text(rt, &letters);
+    text(rt, b"\n");
 }
 
-fn main() {
+fn main(rt: HostRuntime) {
     // Lines with and without byte 13, a tab and a space behind a name, a record with no letters, empty lines, and no byte 10 at the end.
     read(
+        &rt,
         b">one\tthe first\r\nACGT\r\nAC\r\n\r\n>two\r\n>three and more\n\nGG\nTT\n>four\nA",
         5,
     );
     // Text before the first record.
-    read(b"AC\n>one\nA\n", 1);
+    read(&rt, b"AC\n>one\nA\n", 1);
     // A byte that is no letter, at offset 15: the reader stays, and nothing of its record is written.
-    read(b">one\nAC\n>two\nACNG\n", 3);
+    read(&rt, b">one\nAC\n>two\nACNG\n", 3);
     // A record that just fits, one with no letters, and one for which there is no room.
-    read(b">one\nACGTACGTACGTACGT\n>two\n>three\nA\n", 3);
+    read(&rt, b">one\nACGTACGTACGTACGT\n>two\n>three\nA\n", 3);
 }

@@ -1,74 +1,73 @@
 // What is printed of an answer: a refusal's number and place, or the counts and the rows.
-use libc::STDOUT_FILENO;
 use rules::{Begun, Leg, LegAnswer, Recovered, Refusal, Search};
 
 // The steps that a leg may take here, so that no run is long.
 const BUDGET: u64 = 1000;
 
 // A number, after a space.
-fn number(n: u64) {
-    io::write_all(STDOUT_FILENO, b" ");
-    io::print_decimal(STDOUT_FILENO, n);
+fn number(rt: &impl Print, n: u64) {
+    let _ = rt.write_all(b" ");
+    let _ = rt.print(n);
 }
 
-fn narrow(n: u32) {
-    number(n as u64);
+fn narrow(rt: &impl Print, n: u32) {
+    number(rt, n as u64);
 }
 
-fn end_line() {
-    io::write_all(STDOUT_FILENO, b"\n");
+fn end_line(rt: &impl Print) {
+    let _ = rt.write_all(b"\n");
 }
 
 // A refusal: its number and its place.
-fn refused(why: Refusal) {
-    io::write_all(STDOUT_FILENO, b": refused");
-    number(why.number());
-    number(why.place());
-    end_line();
+fn refused(rt: &impl Print, why: Refusal) {
+    let _ = rt.write_all(b": refused");
+    number(rt, why.number());
+    number(rt, why.place());
+    end_line(rt);
 }
 
 // Why a leg stopped, where it did not refuse.
-fn stopped(answer: LegAnswer) {
+fn stopped(rt: &impl Print, answer: LegAnswer) {
     match answer {
         LegAnswer::Ended => {
-            io::write_all(STDOUT_FILENO, b": ended");
+            let _ = rt.write_all(b": ended");
         }
         LegAnswer::Spent => {
-            io::write_all(STDOUT_FILENO, b": spent");
+            let _ = rt.write_all(b": spent");
         }
         LegAnswer::Full => {
-            io::write_all(STDOUT_FILENO, b": full");
+            let _ = rt.write_all(b": full");
         }
-        LegAnswer::Refused(why) => refused(why),
+        LegAnswer::Refused(why) => refused(rt, why),
     }
 }
 
 // A leg: why it stopped, its steps and its rows.
-fn told(leg: Leg) {
+fn told(rt: &impl Print, leg: Leg) {
     let answer = leg.answer;
-    stopped(answer);
-    number(leg.steps);
-    number(leg.rows as u64);
-    end_line();
+    stopped(rt, answer);
+    number(rt, leg.steps);
+    number(rt, leg.rows as u64);
+    end_line(rt);
 }
 
 // All of a table, on one line.
-fn wide(table: &[u64]) {
+fn wide(rt: &impl Print, table: &[u64]) {
     for i in 0..table.len() {
-        number(table[i]);
+        number(rt, table[i]);
     }
-    end_line();
+    end_line(rt);
 }
 
-fn table(table: &[u32]) {
+fn table(rt: &impl Print, table: &[u32]) {
     for i in 0..table.len() {
-        narrow(table[i]);
+        narrow(rt, table[i]);
     }
-    end_line();
+    end_line(rt);
 }
 
 // The first leg of a search, and its three tables.
-fn leg(letters: &[u8], lengths: &[u32], search: Search) {
+fn leg(rt: &impl Print, letters: &[u8], lengths: &[u32], search: Search) {
     let mut motifs = [0u64; 8];
     let mut supports = [0u32; 8];
     let mut weights = [0u64; 8];
@@ -81,30 +80,30 @@ fn leg(letters: &[u8], lengths: &[u32], search: Search) {
         &mut supports,
         &mut weights,
     );
-    told(leg);
-    wide(&motifs);
-    table(&supports);
-    wide(&weights);
+    told(rt, leg);
+    wide(rt, &motifs);
+    table(rt, &supports);
+    wide(rt, &weights);
 }
 
 // A new search: refused, or its first leg.
-pub fn begun(letters: &[u8], lengths: &[u32], answer: Begun) {
+pub fn begun(rt: &impl Print, letters: &[u8], lengths: &[u32], answer: Begun) {
     match answer {
-        Begun::Search(search) => leg(letters, lengths, search),
-        Begun::Refused(why) => refused(why),
+        Begun::Search(search) => leg(rt, letters, lengths, search),
+        Begun::Refused(why) => refused(rt, why),
     }
 }
 
 // A recovery: refused, or the rows written and the length of the list, and then all of the table.
-pub fn recovered(answer: Recovered, out: &[u32]) {
+pub fn recovered(rt: &impl Print, answer: Recovered, out: &[u32]) {
     match answer {
         Recovered::Rows { written, length } => {
-            io::write_all(STDOUT_FILENO, b": rows");
-            number(written as u64);
-            number(length);
-            end_line();
-            table(out);
+            let _ = rt.write_all(b": rows");
+            number(rt, written as u64);
+            number(rt, length);
+            end_line(rt);
+            table(rt, out);
         }
-        Recovered::Refused(why) => refused(why),
+        Recovered::Refused(why) => refused(rt, why),
     }
 }

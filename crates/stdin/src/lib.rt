@@ -1,12 +1,12 @@
-// Standard input, read to its end. What a read does is the C library's: its contract says how many bytes it moved, or that it
-// failed, and nothing of the bytes. An inner crate, of the programs.
+// Standard input, read to its end. What a read does is the system's: its contract says how many bytes it moved, or that it failed,
+// and of standard input nothing of the bytes. An inner crate, of the programs.
 #![tactic(auto)]
 
-ghost use Rattle.std.specs.Prelude.{◌≡◌, ◌-◌, ◌≤◌, ◌<◌, ℤ, length};
-ghost use Rattle.libc.specs.Io.{Moved};
-ghost use Rattle.stdin.specs.Came.{came_after, more_of, bytes_of, AtEnd};
+ghost use Rattle.std.specs.Prelude.{◌≡◌, ◌-◌, ◌≤◌, ◌<◌, ℕ, Result, length};
+ghost use Rattle.stdin.specs.Came.{Moved, came_after, more_of, bytes_of, AtEnd};
 
-use libc::{STDERR_FILENO, STDIN_FILENO};
+use std::io;
+use std::io::{Error, Read};
 
 // What came to the front of a buffer: so many bytes, and perhaps more to come; all that there are, or that the buffer has room
 // for; or nothing that may be used, since a read failed.
@@ -40,12 +40,12 @@ fn bytes(came: Came) -> usize
 }
 
 // What came, after a read behind the first n bytes of a buffer answered `got`.
-fn after(n: usize, got: isize, buffer: &[u8]) -> Came
+fn after(n: usize, got: io::Result<usize>, buffer: &[u8]) -> Came
     requires { (n < length buffer.now) × Moved (length buffer.now - n) got }
     ensures { result ≡ came_after (length buffer.now) n got }
 {
-    let whole = got >= 0;
-    let moved = io::count(got, buffer);
+    let whole = got.is_ok();
+    let moved = got.unwrap_or(0);
     let all = n + moved;
     if !whole {
         return Came::Failed;
@@ -58,30 +58,30 @@ fn after(n: usize, got: isize, buffer: &[u8]) -> Came
 }
 
 // One read more.
-fn read_more(n: usize, buffer: &mut [u8]) -> Came
+fn read_more<R: Read>(input: &mut R, n: usize, buffer: &mut [u8]) -> Came
     requires { n < length buffer.old }
-    ensures { (got : ℤ) × Moved (length buffer.old - n) got × (result ≡ came_after (length buffer.old) n got) }
+    ensures { (got : Result ℕ Error) × Moved (length buffer.old - n) got × (result ≡ came_after (length buffer.old) n got) }
 {
-    let got = libc::read(STDIN_FILENO, &mut buffer[n..]);
+    let got = input.read(&mut buffer[n..]);
     after(n, got, buffer)
 }
 
 // Reads until the input ends, the buffer is full or a read fails. A failed read is not the input's end: what came before it may
 // look whole and is not.
-pub fn read_all(buffer: &mut [u8]) -> Came
+pub fn read_all<R: Read>(input: &mut R, buffer: &mut [u8]) -> Came
     requires { 1 ≤ length buffer.old }
     ensures { AtEnd (length buffer.old) result }
 {
     let mut came = Came::More(0);
     while more(came) {
         let n = bytes(came);
-        came = read_more(n, buffer);
+        came = read_more(input, n, buffer);
     }
     came
 }
 
 // A program says on standard error that its input failed.
-pub fn not_read(program: &[u8]) {
-    io::write_all(STDERR_FILENO, program);
-    io::write_all(STDERR_FILENO, b": standard input cannot be read\n");
+pub fn not_read(errors: &impl Print, program: &[u8]) {
+    let _ = errors.write_all(program);
+    let _ = errors.write_all(b": standard input cannot be read\n");
 }
