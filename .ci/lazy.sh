@@ -54,7 +54,7 @@ crate	ways	The counts that recovery goes by.
 crate	descent	Recovery's rows, component by component.
 crate	recovery	`recovery::recover`.
 crate	joins	`joins::join`.
-crate	fasta	The FASTA reader. `new` and `next` are proved by hand, as walks of their code, so of these two the promise is edited: an edit of the code would first break the walk's shape.
+crate	fasta	The FASTA reader. Of `new` and `next` the promise is edited, and not the code.
 crate	exports	The calls for C and Rust: what is passed on to the calls above, and what is told of their answers.
 crate	text	What the printing program reads and prints.
 crate	motifs	The pages of the printing program.
@@ -108,10 +108,10 @@ of different functions (or of a constant or a promise that no other of them rest
 those of the functions that it calls, so what is wrong in one changes nothing of what is asked of another, and each is refused for itself.
 
 The last column is the fact that is false under the edit, FILE: FACT, in the crate's `proofs` unless it begins with `specs`; FUNCTION: FACT
-where it is a goal of that function, which is answered in `proofs/FUNCTION/Answers.antt`, or would be if the prover did not find it alone.
-Refusing the crate is not enough, as it is for `rt ci`, which tries each edit too: `.ci/edits.sh` demands that this fact is among the
-errors, that nothing is refused for a name that is not there, and, where several share an edit, that nothing else is refused. That the
-fact is false is judged by reading. A law that still holds, but whose proof no longer fits, may be refused before it.
+where it is a goal of a function, which `proofs/FUNCTION/Answers.antt` answers, or Rattle by itself. Refusing the crate is not enough:
+`.ci/edits.sh` demands that this fact is among the errors, that nothing is refused for a name that is not there, and, where several share an
+edit, that nothing else is refused. That the fact is false is judged by reading. A law that still holds, but whose proof no longer fits, may
+be refused before it. Each edit is tried over what the crate's own check proved, in `rt ci` and in `.ci/edits.sh`.
 END
 awk -F '\t' '
     function complain(what) { print "lazy.sh: " what >"/dev/stderr"; status = 1 }
@@ -126,7 +126,7 @@ awk -F '\t' '
         order[++n] = key
         crate[key] = $1; fact[key] = $2; label[key] = $3; said[key] = $4
         sub(/^proofs\//, "", fact[key])
-        sub(/\/(Answers|Proof)\.antt: /, ": ", fact[key])
+        sub(/\/Answers\.antt: /, ": ", fact[key])
         next
     }
     $1 == "heading" { print "\n## " $2; next }

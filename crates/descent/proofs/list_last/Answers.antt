@@ -1,8 +1,7 @@
--- TODO goal overflow-add-t17 is not asked now: omega (arith, c.before.before.before.before.before.loop-test.true, c.before.before.before.before.before.before.before.before.before.before.requires.0)
 use borrow.Author.Rules.{rules}
 use mathlib.Core.List.{[], ◌∷◌}
 use mathlib.Core.Path.{refl, sym, ◌∙◌}
-use Prim.Native.Nat.{suc, ◌+◌, ◌-◌}
+use Prim.Native.Nat.{suc, ◌+◌}
 use native.Mathlib.Omega.{arith}
 use lib.ListN.{length-set, length-take}
 use lib.Seq.{take-set-le}
@@ -38,14 +37,14 @@ loop-q-preserved c =
     let r = c.emit-p.ensures in
     let s = c.seek-q-in-loop-q.ensures in
     let flagged = l.invariant.5 (omega arith) in
-    let turn = last_turn a.letters a.flags.now a.row a.component l.q (buffer l.p l.out) flagged l.longer l.invariant.3 (omega arith) refl r.1 in (
+    let turn = last_turn a.letters a.flags.now a.row a.component l.q (buffer l.p l.out) flagged l.longer l.invariant.3 (omega arith) refl r.out_after in (
       search rules,
-      r.0,
+      r.in_buffer,
       length-set l.longer (a.component + 1) l.q ∙ l.invariant.2,
       take-set-le (suc a.component) l.longer (a.component + 1) l.q (omega arith) ∙ l.invariant.3,
       omega arith,
-      s.1,
-      handed_again (none ∷ []) a.letters a.flags.now a.row a.component l.q _ _ (buffer l.p l.out) (omega arith) s.0 turn l.invariant.6,
+      s.result_value,
+      handed_again (none ∷ []) a.letters a.flags.now a.row a.component l.q _ _ (buffer l.p l.out) (omega arith) s.from_le_result turn l.invariant.6,
     )
 
 pub returns : goal.returns

@@ -18,7 +18,11 @@ returns-then-under-skip c =
       out_after = passed_over (take 1 a.row) _ _ a.done a.out.now c.requires.at_value (omega arith) ∙ sym (handed_one a.letters a.flags.now a.row 0 (components a.template) a.at.0 (buffer a.done a.out.now));
     }
 
--- TODO 2 parts for the clauses ['sound_template', 'component_lt_count', 'row_len', 'in_buffer']
 pub descend-requires : goal.descend-requires
 descend-requires c =
-    (c.requires.sound_template, (omega (arith, c.requires.sound_template.some, c.requires.le_at), (c.requires.row_len, c.requires.in_buffer)))
+    record {
+      sound_template = c.requires.sound_template;
+      component_lt_count = omega (arith, c.requires.sound_template.some, c.requires.le_at);
+      row_len = c.requires.row_len;
+      in_buffer = c.requires.in_buffer;
+    }

@@ -1,7 +1,7 @@
 use borrow.Author.Rules.{rules}
 use mathlib.Core.Path.{refl, sym, ◌∙◌}
 use mathlib.Core.List.{◌∷◌}
-use Prim.Native.Nat.{◌+◌, ◌-◌}
+use Prim.Native.Nat.{◌+◌}
 use native.Mathlib.Omega.{arith}
 use lib.ListN.{replicate}
 use Rattle.descent.specs.Buffer.{buffer}
@@ -14,7 +14,7 @@ use Rattle.descent.proofs.list_starts.Goals as goal
 pub loop-at-init : goal.loop-at-init
 loop-at-init c =
     let s = c.seek-at.ensures in
-    (refl, c.requires.in_buffer, s.0.0, refl)
+    (refl, c.requires.in_buffer, s.from_le_result.0, refl)
 
 pub returns-then-full : goal.returns-then-full
 returns-then-full c =
@@ -28,11 +28,16 @@ returns-then-full c =
       out_after = sym left ∙ l.invariant.3 ∙ sym past ∙ handed_all a.template c.requires.sound_template.few a.letters a.flags.now row a.number.0 (buffer a.done a.out.now) refl;
     }
 
--- TODO 2 parts for the clauses ['sound_template', 'le_at', 'row_len', 'in_buffer', 'at_value']
 pub list_start-p-requires : goal.list_start-p-requires
 list_start-p-requires c =
     let l = c.loop-at in
-    (c.requires.sound_template, (omega arith, ((refl, c.requires.flags_len), (l.invariant.1, c.requires.ways_counted l.at (omega arith) (omega arith)))))
+    record {
+      sound_template = c.requires.sound_template;
+      le_at = omega arith;
+      row_len = (refl, c.requires.flags_len);
+      in_buffer = l.invariant.1;
+      at_value = c.requires.ways_counted l.at (omega arith) (omega arith);
+    }
 
 pub overflow_add-at : goal.overflow_add-at
 overflow_add-at c = omega (arith, c.loop-at-test.true, c.requires.number_bound)
@@ -50,7 +55,7 @@ loop-at-preserved c =
     let l = c.loop-at in
     let r = c.list_start-p.ensures in
     let s = c.seek-at-in-loop-at.ensures in
-    (search rules, r.0, omega arith, handed_again (components a.template) a.letters a.flags.now _ 0 l.at _ _ (buffer l.p l.out) c.loop-at-test.true s.0 r.1 l.invariant.3)
+    (search rules, r.in_buffer_2, omega arith, handed_again (components a.template) a.letters a.flags.now _ 0 l.at _ _ (buffer l.p l.out) c.loop-at-test.true s.from_le_result r.out_after l.invariant.3)
 
 pub returns : goal.returns
 returns c =

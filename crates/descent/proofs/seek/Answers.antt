@@ -1,5 +1,4 @@
 use mathlib.Core.Path.{sym, ◌∙◌}
-use Prim.Native.Nat.{◌-◌}
 use native.Mathlib.Omega.{arith}
 use Rattle.descent.proofs.Paths.{unflagged_more}
 use Rattle.descent.proofs.seek.Goals as goal

@@ -1,35 +1,48 @@
--- TODO a context in held
--- TODO a context in module
+use mathlib.Core.List.{List}
 use mathlib.Core.Path.{◌≡◌}
-use Prim.Native.Nat.{suc, ◌+◌, ◌-◌, ◌≤◌}
+use Prim.Native.Nat.{ℕ, suc, ◌+◌, ◌-◌, ◌≤◌, ◌<◌}
 use native.Mathlib.Omega.{arith}
 use lib.ListN.{length, get_or}
 use Rattle.rules.specs.Template as template
+use Rattle.rules.specs.declared.Component.{Component}
+use Rattle.rules.specs.declared.Template.{Template}
 use Rattle.ways.specs.Counts.{letters_taken}
 use Rattle.ways.proofs.Aligned.{Held, onward, begins_none, begins_more}
 use Rattle.ways.proofs.begins.Goals as goal
 
--- what holds from the first call on
-held : (c : goal.After-components-components) → Held c.before.before.args.template c.components.result c.before.before.args.word.now
-held c = record { sound = c.before.before.requires.0; slotted = c.components.ensures; fits = c.before.before.requires.1.1 }
-
 -- in a turn: the letters of the component before `c` end where those of `c` begin
-module _ (l : goal.In-loop-c) where
-  earlier : suc (l.before.loop.c - 1) ≡ l.before.loop.c
-  earlier = omega (arith, l.loop-test.true)
-
-  more : ((get_or l.before.before.before.components.result (l.before.loop.c - 1) template.none).length ≤ l.before.loop.begin)
-      × ((l.before.loop.begin - (get_or l.before.before.before.components.result (l.before.loop.c - 1) template.none).length) + letters_taken (onward l.before.before.before.components.result l.before.before.before.before.before.args.template.count (l.before.loop.c - 1)) ≡ length l.before.before.before.before.before.args.word.now)
-  more = begins_more (held l.before.before.before) (l.before.loop.c - 1) l.before.loop.begin (omega (arith, earlier)) (rw earlier l.before.loop.inv.2)
+more : {t : Template} {cs : List Component} {w : List ℕ} → Held t cs w → (c b : ℕ) → 0 < c → c ≤ t.count → b + letters_taken (onward cs t.count c) ≡ length w
+    → ((get_or cs (c - 1) template.none).length ≤ b) × ((b - (get_or cs (c - 1) template.none).length) + letters_taken (onward cs t.count (c - 1)) ≡ length w)
+more held c b some few e = let earlier : suc (c - 1) ≡ c = omega arith in begins_more held (c - 1) b (omega arith) (rw earlier e)
 
 pub loop-c-init : goal.loop-c-init
-loop-c-init c = (c.requires.component_le_count.0, omega arith, begins_none (held c.before))
+loop-c-init c =
+    let held : Held c.args.template c.components-components.result c.args.word.now = record {
+      sound = c.requires.sound_template;
+      slotted = c.components-components.ensures;
+      fits = c.requires.component_le_count.1;
+    } in
+    (c.requires.component_le_count.0, omega arith, begins_none held)
 
 pub overflow_sub-begin : goal.overflow_sub-begin
-overflow_sub-begin c = (more c.before.before).0
+overflow_sub-begin c =
+    let held : Held c.args.template c.components-components.result c.args.word.now = record {
+      sound = c.requires.sound_template;
+      slotted = c.components-components.ensures;
+      fits = c.requires.component_le_count.1;
+    } in
+    let l = c.loop-c in
+    (more held l.c l.begin (omega arith) (omega arith) l.invariant.2).0
 
 pub loop-c-preserved : goal.loop-c-preserved
-loop-c-preserved c = (omega arith, omega arith, (more c.before.before).1)
+loop-c-preserved c =
+    let held : Held c.args.template c.components-components.result c.args.word.now = record {
+      sound = c.requires.sound_template;
+      slotted = c.components-components.ensures;
+      fits = c.requires.component_le_count.1;
+    } in
+    let l = c.loop-c in
+    (omega arith, omega arith, (more held l.c l.begin (omega arith) (omega arith) l.invariant.2).1)
 
 pub returns : goal.returns
 unfolding template.components

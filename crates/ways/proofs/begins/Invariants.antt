@@ -1,8 +1,7 @@
 -- `begins` meets its contract. The loop's invariant: the letters of the components from `c` on begin at `begin`.
 use mathlib.Core.Path.{◌≡◌}
-use Prim.Native.Nat.{◌+◌, ◌-◌, ◌≤◌}
+use Prim.Native.Nat.{◌+◌, ◌≤◌}
 use lib.ListN.{length}
-use Rattle.rules.specs.Template as template
 use Rattle.ways.specs.Counts.{letters_taken}
 use Rattle.ways.proofs.Aligned.{onward}
 use Rattle.ways.proofs.begins.Given as goal

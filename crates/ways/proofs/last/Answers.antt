@@ -1,5 +1,4 @@
 use borrow.Author.Rules.{rules}
-use Prim.Native.Nat.{◌-◌}
 use Rattle.ways.specs.Counts.{ending}
 use Rattle.rules.proofs.Over.{over_none, over_put}
 use Rattle.ways.proofs.FilledTables.{by_offset, entry_all}

@@ -12,7 +12,7 @@ use Rattle.ways.proofs.pass.Given as goal
 abbrev pub invariant-loop-o : goal.invariant-loop-o
 invariant-loop-o l = (l.o ≤ length l.initial.ways)
     × (length l.ways ≡ length l.initial.ways)
-    × (l.ways ≡ over (by_offset (leading l.word (record { l.near = l.near; l.count = l.count }) l.s l.initial.ways)) l.o l.initial.ways)
+    × (l.ways ≡ over (by_offset (leading l.word (record { near = l.near; count = l.count }) l.s l.initial.ways)) l.o l.initial.ways)
     × (l.total ≡ sum (map (at_position l.initial.ways) (run (suc (l.o + l.near)) l.count)))
 
 abbrev pub decreases-loop-o : goal.decreases-loop-o

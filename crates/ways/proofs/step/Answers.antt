@@ -1,55 +1,68 @@
 -- `step` meets its contract: the component's letters stand where `begins` says, and a pass of them turns the counts of the later
 -- components into its own.
--- TODO a context in module
--- TODO a context in module
+use mathlib.Core.List.{List}
 use mathlib.Core.Path.{◌≡◌}
-use Prim.Native.Nat.{◌+◌, ◌<◌}
+use Prim.Native.Nat.{ℕ, ◌+◌, ◌≤◌, ◌<◌}
 use native.Mathlib.Numerals.{add-one}
 use native.Mathlib.Omega.{arith}
-use lib.ListN.{length}
+use lib.ListN.{length, drop}
+use Rattle.rules.specs.Sound.{SoundTemplate}
 use Rattle.rules.specs.Template as template
+use Rattle.rules.specs.declared.Component.{Component}
+use Rattle.rules.specs.declared.Template.{Template}
 use Rattle.ways.specs.Counts.{counts, letters_taken, aligned}
 use Rattle.ways.proofs.Aligned.{Held, onward, own_ends, last_made, next_near, next_made, counts_small}
 use Rattle.ways.proofs.step.Goals as goal
 
--- what holds once it is known where the letters begin
-module _ (c : goal.After-begins-begin) where
-  held : Held c.before.before.before.before.before.before.before.before.args.template c.before.before.before.before.components.result c.before.before.before.before.before.before.before.before.args.word.now
-  held = record { sound = c.before.before.before.before.before.before.before.before.requires.0; slotted = c.before.before.before.before.components.ensures; fits = c.before.before.before.before.before.before.before.before.requires.1.0.1 }
+module _ (t : Template) {cs : List Component} (w : List ℕ) where
+  held : SoundTemplate t → cs ≡ template.slots t → template.size t ≤ length w → Held t cs w
+  held s e f = record { sound = s; slotted = e; fits = f }
 
-  begun : c.begins.result + letters_taken (onward c.before.before.before.before.components.result c.before.before.before.before.before.before.before.before.args.template.count c.before.before.before.before.before.before.before.before.args.component) ≡ length c.before.before.before.before.before.before.before.before.args.word.now
+  -- where the letters begin, and what the ways of the later components are, by the slots
+  begun : cs ≡ template.slots t → (b c : ℕ) → b + letters_taken (drop c (template.components t)) ≡ length w → b + letters_taken (onward cs t.count c) ≡ length w
   unfolding template.components
-  begun = rw c.before.before.before.before.components.ensures c.begins.ensures
+  begun e b c f = rw e f
 
--- where others follow: the ways are theirs
-module _ (c : goal.Else-next-count) where
-  follows : c.before.before.before.before.before.before.before.before.before.args.component + 1 < c.before.before.before.before.before.before.before.before.before.args.template.count
-  follows = omega (arith, c.if1.false)
-
-  theirs : c.before.before.before.before.before.before.before.before.before.args.ways.now ≡ counts (aligned (onward c.before.before.before.before.before.components.result c.before.before.before.before.before.before.before.before.before.args.template.count (c.before.before.before.before.before.before.before.before.before.args.component + 1)) c.before.before.before.before.before.before.before.before.before.args.word.now) c.before.before.before.before.before.before.before.before.before.args.sequence.now
+  theirs : cs ≡ template.slots t → (d : ℕ) (s : List ℕ) {ways : List ℕ} → ways ≡ counts (aligned (drop d (template.components t)) w) s → ways ≡ counts (aligned (onward cs t.count d) w) s
   unfolding template.components
-  theirs = rw c.before.before.before.before.before.components.ensures (c.before.before.before.before.before.before.before.before.before.requires.1.1 follows)
+  theirs e d s f = rw e f
 
 pub slice_bounds-last-end : goal.slice_bounds-last-end
-slice_bounds-last-end c = own_ends (held c.before) _ _ c.requires.component_lt_count.0 (begun c.before)
+slice_bounds-last-end c =
+    let q = c.requires.component_lt_count in
+    let e = c.components-components.ensures in
+    own_ends (held c.args.template c.args.word.now c.requires.sound_template e q.1) _ _ q.0 (begun c.args.template c.args.word.now e _ _ c.begins-begin.ensures)
 
 pub returns-then-next-count : goal.returns-then-next-count
 unfolding template.components
 returns-then-next-count c =
-    rw c.components-components.ensures at (last_made (held b) _ _ c.requires.component_lt_count.0 (begun b) c.args.sequence.now (omega (arith, c.if-next-count.true)) c.last.ensures)
+    let q = c.requires.component_lt_count in
+    let e = c.components-components.ensures in
+    let h = held c.args.template c.args.word.now c.requires.sound_template e q.1 in
+    rw e at (last_made h _ _ q.0 (begun c.args.template c.args.word.now e _ _ c.begins-begin.ensures) c.args.sequence.now (omega (arith, c.if-next-count.true)) c.last.ensures)
 
 pub slice_bounds-pass-end : goal.slice_bounds-pass-end
 slice_bounds-pass-end c =
-    own_ends (held c.before.before.before) _ _ c.requires.component_lt_count.0 (begun c.before.before.before)
+    let q = c.requires.component_lt_count in
+    let e = c.components-components.ensures in
+    own_ends (held c.args.template c.args.word.now c.requires.sound_template e q.1) _ _ q.0 (begun c.args.template c.args.word.now e _ _ c.begins-begin.ensures)
 
 pub pass-requires : goal.pass-requires
 pass-requires c =
-    let n = next_near (held b) _ _ c.requires.component_lt_count.0 (follows l) in
-    let e = c.after-apart.ensures in
-    (c.requires.component_lt_count.2, rw e n.near, rw e n.few, counts_small (held b) c.args.sequence.now _ (follows l) (theirs l))
+    let q = c.requires.component_lt_count in
+    let e = c.components-components.ensures in
+    let h = held c.args.template c.args.word.now c.requires.sound_template e q.1 in
+    let follows : c.args.component + 1 < c.args.template.count = omega arith in
+    let n = next_near h _ _ q.0 follows in
+    let a = c.after-apart.ensures in
+    (q.2, rw a n.near, rw a n.few, counts_small h c.args.sequence.now _ follows (theirs c.args.template c.args.word.now e _ c.args.sequence.now (c.requires.ways_value follows)))
 
 pub returns : goal.returns
 unfolding template.components
 returns c =
+    let q = c.requires.component_lt_count in
+    let e = c.components-components.ensures in
+    let h = held c.args.template c.args.word.now c.requires.sound_template e q.1 in
+    let follows : c.args.component + 1 < c.args.template.count = omega arith in
     let made = rw c.after-apart.ensures at c.pass.ensures in
-    rw c.components-components.ensures at (next_made (held b) c.args.sequence.now _ _ _ (add-one c.args.component) (follows l) c.requires.component_lt_count.0 (begun b) (theirs l) made)
+    rw e at (next_made h c.args.sequence.now _ _ _ (add-one c.args.component) follows q.0 (begun c.args.template c.args.word.now e _ _ c.begins-begin.ensures) (theirs c.args.template c.args.word.now e _ c.args.sequence.now (c.requires.ways_value follows)) made)

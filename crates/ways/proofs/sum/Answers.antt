@@ -1,4 +1,3 @@
-use Prim.Native.Nat.{◌-◌}
 use native.Mathlib.Omega.{arith}
 use Rattle.rules.proofs.Tables.{sum_more, sum_over}
 use Rattle.ways.proofs.sum.Goals as goal

@@ -1,5 +1,4 @@
 -- `field`: the bytes are read from the last to the first, so that each takes its place below those read before it.
-use Prim.Native.Nat.{◌-◌}
 use Rattle.records.proofs.Fields.{Read}
 use Rattle.records.proofs.read.field.Given as goal
 

@@ -1,27 +1,15 @@
--- TODO a context in kept
--- TODO goal same-length is not asked now: kept c.before
+-- `put_record`: a byte more is the next byte of what is pasted, and all of them are the record.
 use mathlib.Core.Path.{◌≡◌}
-use Prim.Native.Nat.{◌-◌}
 use native.Mathlib.Omega.{arith}
 use native.Mathlib.Numerals.{add-one}
 use lib.ListN.{length}
-use lib.Seq.{paste-zero, paste-suc, length-paste}
+use lib.Seq.{paste-zero, paste-suc}
 use Rattle.rules.specs.Limits.{record_bytes}
 use borrow.Author.Rules.{rules}
 use Rattle.records.proofs.write.put_record.Goals as goal
 
--- the buffer keeps its length
-kept : (c : goal.At-loop-j) → length c.loop.out ≡ length c.before.before.args.out.now
-kept c =
-    let a = c.before.before.args in
-    let n : length a.r.bytes ≡ record_bytes = search rules in
-    rw c.loop.invariant.1 (length-paste a.out.now a.from a.r.bytes c.loop.j (omega arith) (omega arith))
-
 pub loop-j-init : goal.loop-j-init
 loop-j-init c = (omega arith, paste-zero c.args.out.now c.args.from c.args.r.bytes)
-
-pub bounds-out-from : goal.bounds-out-from
-bounds-out-from c = omega (arith, kept c.before)
 
 pub loop-j-preserved : goal.loop-j-preserved
 loop-j-preserved c =

@@ -1,7 +1,6 @@
--- TODO a context in kept
--- TODO goal same-length is not asked now: (kept c.before).0
+-- `write_search`: the save is as long as its records, and a record more is the next part of it.
 use mathlib.Core.Path.{◌≡◌, refl, ap, ◌∙◌}
-use Prim.Native.Nat.{suc, ◌+◌, ◌-◌, ◌*◌, ◌≤◌}
+use Prim.Native.Nat.{suc, ◌+◌, ◌*◌}
 use native.Mathlib.Omega.{arith}
 use native.Mathlib.Numerals.{add-one}
 use lib.ListN.{length}
@@ -11,7 +10,7 @@ use Rattle.rules.specs.Refusals.{check17}
 use Rattle.rules.specs.Saved.{bytes}
 use Rattle.rules.specs.Told.{gives}
 use Rattle.rules.proofs.Records.{bytes_counted}
-use Rattle.records.proofs.Front.{front_length, front_record, front_whole}
+use Rattle.records.proofs.Front.{front_record, front_whole}
 use Rattle.records.proofs.write.write_search.Goals as goal
 
 pub returns-then-out-length : goal.returns-then-out-length
@@ -24,19 +23,8 @@ returns-then-out-length c =
       out_after = refl;
     }
 
--- the buffer keeps its length, and has room for the save
-kept : (c : goal.At-loop-i) → let a = c.before.before.before.before.before.args in
-    (length c.loop.out ≡ length a.out.now) × (record_bytes * (a.s.template.count + record_extra) ≤ length a.out.now)
-kept c =
-    let s = c.before.before.before.before.before in
-    let n = bytes_counted s.args.s s.requires.few in
-    (rw c.loop.invariant.1 (front_length (bytes s.args.s) s.args.out.now (record_bytes * c.loop.i) (omega arith) (omega arith)), omega arith)
-
 pub loop-i-init : goal.loop-i-init
 loop-i-init c = (omega arith, refl)
-
-pub put_record-requires : goal.put_record-requires
-put_record-requires c = omega (arith, kept c.before.before.before)
 
 pub loop-i-preserved : goal.loop-i-preserved
 loop-i-preserved c =
