@@ -54,7 +54,7 @@ crate	ways	The counts that recovery goes by.
 crate	descent	Recovery's rows, component by component.
 crate	recovery	`recovery::recover`.
 crate	joins	`joins::join`.
-crate	fasta	The FASTA reader. `new` and `next` are proved by hand, as walks of their code, so of these two the promise is edited: an edit of the code would first break the walk's shape.
+crate	fasta	The FASTA reader. Of `new` and `next` the promise is edited, and not the code.
 crate	exports	The calls for C and Rust: what is passed on to the calls above, and what is told of their answers.
 crate	text	What the printing program reads and prints.
 crate	motifs	The pages of the printing program.
@@ -62,7 +62,7 @@ crate	lines	The program that prints a FASTA file's sequences.
 crate	stdin	What a read of standard input makes of what came before.
 END
 
-# Each wrong program in a line: crate, fact, label, a mark, sentence. Lines of comment that follow one another are one sentence.
+# Each wrong program in a line: crate, fact, label, sentence. Lines of comment that follow one another are one sentence.
 find crates -path '*/must-fail/*' -name '*.edit' | sort >"$work/edits"
 while IFS= read -r edit; do
     awk -v edit="$edit" '
@@ -70,7 +70,6 @@ while IFS= read -r edit; do
             n = split(edit, part, "/")
             name = part[n]
             sub(/\.edit$/, "", name)
-            mark = n == 4 ? "*" : ""
         }
         function complain(what) { print edit ": " what >"/dev/stderr"; status = 1 }
         /^# refused at: / { fact = substr($0, 15); next }
@@ -85,7 +84,7 @@ while IFS= read -r edit; do
             if (said == "") complain("no sentence: " label)
             if (fact == "") complain("no fact: " label)
             gsub(/\|/, "\\|", said)
-            print part[2] "\t" fact "\t" label "\t" mark "\t" said
+            print part[2] "\t" fact "\t" label "\t" said
             rows++
         }
         { said = ""; fact = "" }
@@ -109,25 +108,25 @@ of different functions (or of a constant or a promise that no other of them rest
 those of the functions that it calls, so what is wrong in one changes nothing of what is asked of another, and each is refused for itself.
 
 The last column is the fact that is false under the edit, FILE: FACT, in the crate's `proofs` unless it begins with `specs`; FUNCTION: FACT
-where it stands in the function's own file, `proofs/FUNCTION/Proof.antt`. Refusing the crate is not enough: `.ci/edits.sh` demands that this
-fact is among the errors, that nothing is refused for a name that is not there, and, where several share an edit, that nothing else is
-refused. That the fact is false is judged by reading. A law that still holds, but whose proof no longer fits, may be refused before it.
-Those marked * are tried from nothing in `rt ci`, the others over the modules that the same run of the gate has just checked.
+where it is a goal of a function, which `proofs/FUNCTION/Answers.antt` answers, or Rattle by itself. Refusing the crate is not enough:
+`.ci/edits.sh` demands that this fact is among the errors, that nothing is refused for a name that is not there, and, where several share an
+edit, that nothing else is refused. That the fact is false is judged by reading. A law that still holds, but whose proof no longer fits, may
+be refused before it. Each edit is tried over what the crate's own check proved, in `rt ci` and in `.ci/edits.sh`.
 END
 awk -F '\t' '
     function complain(what) { print "lazy.sh: " what >"/dev/stderr"; status = 1 }
     function table(what) { print "\n| edit | " what " | refused at |\n|---|---|---|" }
     function row(key, name) {
-        print "| `" name "`" mark[key] " | " said[key] " | `" fact[key] "` |"
+        print "| `" name "` | " said[key] " | `" fact[key] "` |"
         printed[key] = 1
     }
     FNR == NR {
         key = $1 "/" $3
         if (key in said) complain("two wrong programs are named " key)
         order[++n] = key
-        crate[key] = $1; fact[key] = $2; label[key] = $3; mark[key] = $4; said[key] = $5
+        crate[key] = $1; fact[key] = $2; label[key] = $3; said[key] = $4
         sub(/^proofs\//, "", fact[key])
-        sub(/\/Proof\.antt: /, ": ", fact[key])
+        sub(/\/Answers\.antt: /, ": ", fact[key])
         next
     }
     $1 == "heading" { print "\n## " $2; next }

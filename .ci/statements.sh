@@ -65,8 +65,8 @@ calls() {
             /^ *pub (mod|use) / { fail("what it makes public elsewhere is not quoted: " $0) }
             /^ghost use / { print; words++; next }
             inside { text = text $0 "\n" }
-            inside && /^ *requires / { fail("a public call has a requires: " name) }
-            inside && /^ *ensures / { promises++ }
+            inside && /^ *requires\*? / { fail("a public call has a requires: " name) }
+            inside && /^ *ensures\*? / { promises++ }
             inside && /[^ ] *\{$/ { fail("a promise over several lines is not quoted: " name) }
             inside && /^ *\{$/ {
                 if (!promises) fail("a public call promises nothing: " name)
@@ -107,7 +107,7 @@ A reader signs here, with a name and a date. A signature is for the text as it s
 
 $unsigned
 
-The demands are of the rules of the calls (\`begin-rule\`, \`leg-rule\` and so on), which the calls promise to keep. What the rules say stands
+The demands are of the rules of the calls (\`begin_rule\`, \`leg_rule\` and so on), which the calls promise to keep. What the rules say stands
 in the other files of \`crates/rules/specs\`, and what the exported functions make of them in \`crates/exports/specs\`. No public call asks
 anything of its caller: none has a \`requires\`.
 
@@ -121,7 +121,8 @@ EOF
     cat <<EOF
 ## The public calls
 
-What follows \`ensures\` holds of every call, whatever it is given: \`.entry\` is what a lent table held before it, \`.exit\` what it holds after it.
+What follows \`ensures\` holds of every call, whatever it is given: \`.old\` is what a lent table held before it, \`.new\` what it holds after
+it, and \`.now\` what stands in one that is only read. A word before the braces is the promise's name.
 
 EOF
     calls search saved recovery joins fasta exports

@@ -1,6 +1,6 @@
 #!/bin/sh
 # Builds the C programs of this folder over the library, runs each, with promoters.fa to read, and compares what it prints with the
-# .out beside it; build.sh says for which processors.
+# .out beside it.
 set -eu
 cd "$(dirname "$0")/.."
 # shellcheck source=examples/build.sh

@@ -67,9 +67,10 @@ in_little_room() { # COMMAND..
     ) || status=$?
 }
 
-# Runs a command, and keeps what it prints and how it ends.
+# Runs a command, and keeps what it prints and how it ends. It has so many seconds.
+longest=100
 try() {
-    timeout 100 "$@" >"$work/out" 2>"$work/err" || status=$?
+    timeout "$longest" "$@" >"$work/out" 2>"$work/err" || status=$?
 }
 
 # Runs a command on a file with a pipe for its standard output, from which `head` takes a line and which it closes then: once the

@@ -3,7 +3,7 @@ use mathlib.Core.List.{List}
 use mathlib.Core.Path.{◌≡◌, sym, ap, ◌∙◌}
 use Prim.Native.Nat.{ℕ, ◌+◌, ◌-◌, ◌≤◌, ◌<◌}
 use native.Mathlib.Omega.{arith}
-use lib.ListN.{length, take, drop, get_or, replicate, get_or-replicate, length-replicate}
+use lib.ListN.{length, drop, get_or, replicate, get_or-replicate, length-replicate}
 use lib.Seq.{get_or-take, get_or-drop}
 use borrow.Rule.Slice.PartMut.{mid_of, put_mid, mid_len, drop_put}
 use Rattle.rows.specs.Set.{row_marks, between}

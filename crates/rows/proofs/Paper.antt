@@ -55,6 +55,7 @@ keep_behind f p (t ∷ ts) h = go (f (p ∷ t)) (f t) (h t (Memᴰ.head refl)) (
 -- something is kept where a member passes
 keep_one : {A : Type 0} (f : A → Bool) (xs : List A) {x : A} → Memᴰ x xs → f x ≡ true → 1 ≤ length (keep f xs)
 unfolding keep
+keep_one {A = A} f [] m p = elim m [ ]
 keep_one f (y ∷ ys) (Memᴰ.head e) p = rw (← e, p) (omega arith)
 keep_one f (y ∷ ys) (Memᴰ.tail m) p = go (f y) (keep_one f ys m p)
   where

@@ -16,9 +16,9 @@ use Rattle.rows.specs.Flags.{bit}
 use Rattle.rows.specs.Set.{row_marks, words_of, first_word, between, bits_at, is_marked, tally, extended_at, is_extended_marked, Filled, Marked, Bounded}
 use Rattle.rows.proofs.Bits.{held_at, word_bit, digit_none}
 use Rattle.rows.proofs.Digits.{digit, digit_xor}
-use Rattle.rows.proofs.Marks.{filled_word, marked_word, marked_none, marked_end}
+use Rattle.rows.proofs.Marks.{filled_word, marked_word, marked_none}
 use Rattle.rows.proofs.RowsRewritten.{drop_more}
-use Rattle.rows.proofs.Sets.{first_past, filled_none, filled_end}
+use Rattle.rows.proofs.Sets.{first_past, filled_none}
 use Rattle.rows.proofs.Tally.{tally_zero, tally_append, tally_less, tally_same, tally_end, tally_split, word_tally, marks_tally}
 use Rattle.rows.proofs.MarksWalk.{mark_digit, mark_none}
 

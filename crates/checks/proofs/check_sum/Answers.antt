@@ -1,0 +1,27 @@
+use native.Mathlib.Omega.{arith}
+use lib.ListN.{length}
+use borrow.Author.Tests.{ne_eqb}
+use Rattle.rules.specs.Lists.{sum}
+use Rattle.rules.specs.Refusals.{check3}
+use Rattle.rules.proofs.Tables.{sum_more, sum_over}
+use Rattle.checks.proofs.Laws.{same_left}
+use Rattle.checks.proofs.check_sum.Goals as goal
+
+pub returns-then-left-n : goal.returns-then-left-n
+unfolding check3
+returns-then-left-n c =
+    let l = c.loop-i in
+    let a = c.args in
+    simp (ne_eqb (sum a.lengths.now) (length a.letters.now) (λ e. omega (arith, sum_more a.lengths.now l.i c.loop-i-test.true)))
+
+pub loop-i-preserved : goal.loop-i-preserved
+loop-i-preserved c =
+    let l = c.loop-i in
+    omega (arith, sum_more c.args.lengths.now l.i c.loop-i-test.true)
+
+pub returns : goal.returns
+unfolding check3
+returns c =
+    let l = c.loop-i in
+    let a = c.args in
+    rw (same_left l.left (sum a.lengths.now) (length a.letters.now) (omega (arith, sum_over a.lengths.now l.i c.loop-i-test.false))) c.refuse_if.ensures

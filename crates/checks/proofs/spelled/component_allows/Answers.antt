@@ -1,0 +1,11 @@
+-- `component_allows`: what each kind of search allows.
+use Rattle.rules.specs.Profile.{profile_by, exactly, mixed}
+use Rattle.checks.proofs.spelled.component_allows.Goals as goal
+
+pub returns-in-Exact : goal.returns-in-Exact
+unfolding profile_by exactly
+returns-in-Exact c = rw c.in-Exact.is
+
+pub returns-in-Mixed : goal.returns-in-Mixed
+unfolding profile_by mixed
+returns-in-Mixed c = rw c.in-Mixed.is c.mixed_allows.ensures

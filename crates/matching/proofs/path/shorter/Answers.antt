@@ -1,0 +1,43 @@
+use mathlib.Core.Path.{◌≡◌, refl, ◌∙◌}
+use Prim.Native.Nat.{◌+◌, ◌-◌}
+use native.Mathlib.Omega.{arith}
+use Rattle.rules.specs.Support.{parts}
+use Rattle.matching.proofs.Replay.{slot_begin, slot_more, last_prefix}
+use Rattle.matching.proofs.path.shorter.Goals as goal
+
+pub loop-d-init : goal.loop-d-init
+loop-d-init c =
+    let a = c.args in
+    let p = c.requires in
+    let deep = p.le_size in
+    (omega arith, deep.0, slot_begin a.template a.size a.number a.lengths.now a.letters.now a.even.now a.odd.now deep.0 deep.2 p.slot, (λ h. absurd (omega arith)), refl, refl, refl)
+
+-- TODO 2 parts for the clauses ['sound_template', 'sound_set', 'le_size', 'inside', 'firsts', 'base_rows', 'slot', 'letter_len']
+pub take_turn-found-requires : goal.take_turn-found-requires
+take_turn-found-requires c =
+    let p = c.requires in
+    let i = c.loop-d.invariant in
+    let e = c.prefix-prefix.ensures in
+    let z = p.letter_len in
+    (p.sound_template, (p.sound_set, ((i.0, omega (arith, c.loop-d-test.true, p.le_size.1)), (p.inside, (p.firsts, (p.base_rows, (rw e i.2, (i.4 ∙ z.0, i.5 ∙ z.1, i.6 ∙ z.2))))))))
+
+pub loop-d-preserved : goal.loop-d-preserved
+loop-d-preserved c =
+    let a = c.args in
+    let l = c.loop-d in
+    let i = l.invariant in
+    let t = c.loop-d-test.true in
+    let q = c.take_turn-found.ensures in
+    let n = q.1.1 in
+    let e = c.prefix-prefix.ensures in
+    let z : l.d + 1 - 1 ≡ l.d = omega arith in
+    let slot = slot_more a.template a.size a.number a.lengths.now a.letters.now _ _ l.d t (rw e at q.1.0) in
+    (omega (arith, i.0), omega arith, slot, (λ h. rw z (rw e at q.0)), n.0 ∙ i.4, n.1 ∙ i.5, n.2 ∙ i.6)
+
+pub returns : goal.returns
+returns c =
+    let a = c.args in
+    let l = c.loop-d in
+    let i = l.invariant in
+    let e : l.d ≡ a.size = omega (arith, i.1, c.loop-d-test.false) in
+    λ h. rw (← e, ← (last_prefix a.template a.size a.number l.d e i.0)) (i.3 (omega arith))

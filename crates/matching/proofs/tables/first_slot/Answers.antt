@@ -1,0 +1,14 @@
+-- The slot gets every mark and every bit, which is what the first letter is added to.
+use native.Mathlib.Omega.{arith}
+use Rattle.matching.proofs.PathStart.{first_slot}
+use Rattle.matching.proofs.tables.first_slot.Goals as goal
+
+pub returns : goal.returns
+returns c =
+    let a = c.args in
+    let p = c.requires in
+    let o = c.begin.ensures in
+    record {
+      slot = first_slot a.letters.now a.lengths.now p.sound_set _ o.0 (λ q h u. o.1.1 q h (omega (arith, u, p.slot_len))) a.template p.sound_template;
+      slot_len_unchanged = o.1.0;
+    }

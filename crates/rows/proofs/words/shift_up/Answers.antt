@@ -1,0 +1,31 @@
+-- The first words get no bits, the next those of the first word alone, and the others, by the loop, those of two; a shift past all words leaves nothing.
+use borrow.Author.Rules.{rules}
+use lib.Seq.{length-take-le}
+use Rattle.rows.proofs.WordByWord.{shift_begun, shift_length, shift_whole, shift_out}
+use mathlib.Core.Path.{sym, ◌∙◌}
+use Rattle.rules.proofs.Over.{over_again}
+use Rattle.rows.proofs.words.shift_up.Goals as goal
+
+pub returns-then-n-e : goal.returns-then-n-e
+returns-then-n-e c =
+    let a = c.args in
+    shift_out _ _ a.out.now (search rules) (λ q. (c.type_inv.row q).fits) (search rules) c.fill.ensures
+
+pub slice_bounds-fill-end-2 : goal.slice_bounds-fill-end-2
+slice_bounds-fill-end-2 c = sym (length-take-le _ _ (search rules))
+
+pub shift_words-requires : goal.shift_words-requires
+shift_words-requires c =
+    let a = c.args in
+    let u = c.up in
+    let f = c.fill-2 in record {
+      out_len = (shift_length a.d a.row.now a.out.now (search rules) u.result (search rules) f.ensures ∙ search rules, search rules, search rules);
+      out_value = over_again _ _ _ (shift_begun _ _ a.out.now (search rules) (search rules) f.ensures u.ensures);
+    }
+
+pub returns : goal.returns
+returns c =
+    let a = c.args in
+    let u = c.up in
+    let f = c.fill-2 in
+    shift_whole _ _ a.out.now (search rules) (λ q. (c.type_inv.row q).fits) (search rules) f.ensures u.ensures c.shift_words.ensures
