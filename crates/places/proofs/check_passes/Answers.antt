@@ -2,6 +2,5 @@
 use Rattle.places.proofs.ChecksInTurn.{told_13}
 use Rattle.places.proofs.check_passes.Goals as goal
 
--- TODO 2 parts for the clauses ['result_value', 'tables_2', 'made']
 pub returns : goal.returns
-returns c = let p = c.passes-through.ensures in (told_13 _ _ _ p.0 c.refuse_if.ensures, p.1)
+returns c = let p = c.passes-through.ensures in record { result_value = told_13 _ _ _ p.value c.refuse_if.ensures; tables_2 = p.tables_2; made = p.made }

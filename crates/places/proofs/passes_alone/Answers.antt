@@ -10,11 +10,15 @@ returns-then-size-eq0 c = passes_none _ _ _ c.if-size-eq0.true
 pub returns-then-size-eq1 : goal.returns-then-size-eq1
 returns-then-size-eq1 c = passes_one _ _ _ c.requires.place_value c.if-size-eq1.true
 
--- TODO 2 parts for the clauses ['sound_set', 'sound_template', 'place_value', 'le_letters']
 pub candidate_alone-requires : goal.candidate_alone-requires
 candidate_alone-requires c =
     let p = c.requires in
-    (p.sound_set, (p.sound_template, (p.place_value, omega (arith, c.if-size-eq0.false))))
+    record {
+      sound_set = p.sound_set;
+      sound_template = p.sound_template;
+      place_value = p.place_value;
+      le_letters = omega (arith, c.if-size-eq0.false);
+    }
 
 pub returns : goal.returns
 returns c = c.candidate_alone.ensures
