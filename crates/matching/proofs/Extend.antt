@@ -10,7 +10,7 @@ use Rattle.rules.specs.Profile.{base_of}
 use Rattle.rules.specs.Sequences.{sequences}
 use Rattle.rules.specs.Sound.{SoundSet, SoundTemplate}
 use Rattle.rules.specs.Support.{support, parts}
-use Rattle.rules.specs.Template.{none, size, components}
+use Rattle.rules.specs.Template.{size, components}
 use Rattle.rules.specs.declared.Component.{Component}
 use Rattle.rules.specs.declared.Template.{Template}
 use Rattle.rows.specs.Flags.{reached}

@@ -17,7 +17,7 @@ use Rattle.rules.specs.Sequences.{sequences}
 use Rattle.rules.specs.Sound.{SoundTemplate}
 use Rattle.rules.specs.Support.{allowed_in}
 use Rattle.rules.specs.Template.{size}
-use Rattle.rules.specs.Walk.{place, ended_place, walk_in, walk_over, walk_of, candidate, Passing}
+use Rattle.rules.specs.Walk.{ended_place, walk_in, walk_over, walk_of, candidate, Passing}
 use Rattle.rules.specs.declared.Place.{Place}
 use Rattle.rules.specs.declared.Search.{Search}
 use Rattle.rules.specs.declared.Template.{Template}

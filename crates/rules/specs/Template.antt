@@ -1,5 +1,5 @@
 -- Templates: their components, K, and the parts that a prefix of a motif has under one.
-use Rattle.std.specs.Prelude.{Bool, List, [], ◌∷◌, map, ℕ, ◌+◌, ◌-◌, leb, eqb, length, take, drop}
+use Rattle.std.specs.Prelude.{Bool, List, [], ◌∷◌, map, ℕ, ◌+◌, ◌-◌, leb, eqb, take, drop}
 use Rattle.rules.specs.Lists.{if, sum}
 use Rattle.rules.specs.declared.Component.{Component}
 use Rattle.rules.specs.declared.Distances.{Distances}

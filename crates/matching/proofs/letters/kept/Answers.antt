@@ -4,8 +4,8 @@ use Rattle.matching.proofs.letters.kept.Goals as goal
 
 pub returns-in-Exact : goal.returns-in-Exact
 unfolding profile_by exactly
-returns-in-Exact c = rw c.enum_told-1.is{-TODO-}
+returns-in-Exact c = rw c.in-Exact.is
 
 pub returns-in-Mixed : goal.returns-in-Mixed
 unfolding profile_by mixed
-returns-in-Mixed c = rw c.enum_told-in-Mixed-1.is{-TODO-}
+returns-in-Mixed c = rw c.in-Mixed.is

@@ -7,7 +7,6 @@ use Rattle.matching.proofs.Slots.{row_slot_long}
 use Rattle.matching.proofs.BaseRows.{copied_long, shifted_from}
 use Rattle.matching.proofs.letters.later_slot.Goals as goal
 
--- TODO 2 parts for the clauses ['firsts', 'lengths_bound', 'i_bound']
 pub shift_slot-requires : goal.shift_slot-requires
 unfolding row_slot between
 shift_slot-requires c =
@@ -16,7 +15,11 @@ shift_slot-requires c =
     let z = p.le_s in
     let n = row_slot_long (a.s % 4) a.standing.now (omega (arith, z.0, z.2)) in
     let w = copied_long c.copy.ensures n in
-    (p.firsts, ((p.lengths_bound.0, w), (omega (arith, z.1), z.2)))
+    record {
+      firsts = p.firsts;
+      lengths_bound = (p.lengths_bound.0, w);
+      i_bound = (omega (arith, z.1), z.2);
+    }
 
 pub returns : goal.returns
 unfolding row_slot between
@@ -29,6 +32,6 @@ returns c =
     let w = copied_long e n in
     let o = c.shift_slot.ensures in
     record {
-      standing_unchanged = (o.0.0, o.0.1, omega (arith, w, p.lengths_bound.1));
-      filled = shifted_from (a.s / 4) a.lengths.now e o.1;
+      standing_unchanged = (o.standing_unchanged.0, o.standing_unchanged.1, omega (arith, w, p.lengths_bound.1));
+      filled = shifted_from (a.s / 4) a.lengths.now e o.filled;
     }

@@ -1,10 +1,6 @@
--- TODO goal overflow-cast-a is not asked now: omega (arith, (c.shared-slice-known5.given c.before.before.loop.k).fits)
--- TODO goal overflow-cast-e is not asked now: omega (arith, (c.shared-slice-known6.given (c.before.before.before.loop.k + 1)).fits)
--- TODO goal overflow-cast-from is not asked now: omega (arith, (c.shared-slice-known7.given c.before.before.before.before.loop.k).fits)
--- TODO goal overflow-cast-to is not asked now: omega (arith, (c.shared-slice-known8.given (c.before.before.before.before.before.loop.k + 1)).fits)
 use borrow.Author.Rules.{rules}
 use mathlib.Core.Path.{refl, ◌∙◌}
-use Prim.Native.Nat.{◌+◌, ◌-◌, ◌<◌}
+use Prim.Native.Nat.{◌+◌, ◌<◌}
 use native.Mathlib.Omega.{arith}
 use lib.ListN.{length, get_or}
 use borrow.Rule.Slice.PartMut.{mid_len}
@@ -40,7 +36,6 @@ part-sequence-requires c =
     let m = turn_letters _ _ h a e f t in
     (omega (arith, m.0), omega (arith, m.1, c.requires.sound_set.adds))
 
--- TODO 2 parts for the clauses ['by_index', 'from_le_to', 'in_bounds']
 pub sequence_slots-requires : goal.sequence_slots-requires
 sequence_slots-requires c =
     let l = c.loop-k in
@@ -55,13 +50,11 @@ sequence_slots-requires c =
     let begin = get_or c.args.offsets.now l.k 0 in
     let end = get_or c.args.offsets.now (l.k + 1) 0 in
     let n = mid_len begin end g (omega (arith, m.1, c.requires.sound_set.adds)) in
-    rw c.part-sequence.ensures (
-      spelt_part g c.requires.sound_set.spelt begin end,
-      (
-        (w.0, omega (arith, w.1, enough g c.args.lengths.now c.requires.sound_set), omega (arith, n, m.2), omega (arith, n, m.3)),
-        omega (arith, l.invariant.1, c.requires.in_bounds),
-      ),
-    )
+    record {
+      by_index = rw c.part-sequence.ensures (spelt_part g c.requires.sound_set.spelt begin end);
+      from_le_to = rw c.part-sequence.ensures (w.0, omega (arith, w.1, enough g c.args.lengths.now c.requires.sound_set), omega (arith, n, m.2), omega (arith, n, m.3));
+      in_bounds = omega (arith, l.invariant.1, c.requires.in_bounds);
+    }
 
 pub loop-k-preserved : goal.loop-k-preserved
 loop-k-preserved c =
@@ -72,7 +65,7 @@ loop-k-preserved c =
     let f = c.requires.firsts.same l.k (omega arith) in
     let t = c.requires.firsts.same (l.k + 1) (omega arith) in
     let o = c.sequence_slots.ensures in
-    (search rules, o.1.1 ∙ l.invariant.1, whole_more _ c.args.letters.now _ h a e f t c.part-sequence.ensures l.standing _ o.0 o.1.0 l.invariant.2)
+    (search rules, o.standing_len_unchanged ∙ l.invariant.1, whole_more _ c.args.letters.now _ h a e f t c.part-sequence.ensures l.standing _ o.by_index_2 o.by_index_3 l.invariant.2)
 
 pub returns : goal.returns
 returns c =

@@ -1,5 +1,4 @@
 use mathlib.Core.Path.{refl, ◌∙◌}
-use Prim.Native.Nat.{◌-◌}
 use native.Mathlib.Omega.{arith}
 use Rattle.matching.specs.Path.{FromBases}
 use Rattle.matching.proofs.Standing.{written_none, written_more, from_same}
@@ -23,7 +22,7 @@ loop-s-preserved c =
     let l = c.loop-s in
     let i = l.invariant in
     let o = c.mixed_slot.ensures in
-    (omega (arith, c.loop-s-test.true), o.0.1 ∙ i.1, o.0.2 ∙ i.2, written_more (FromBases a.standing.now) a.standing.now l.s l.standing _ i.3 o.0.0 (from_same a.standing.now l.standing l.s _ i.3.kept (omega (arith, i.1, c.requires.0)) o.1))
+    (omega (arith, c.loop-s-test.true), o.standing_unchanged.1 ∙ i.1, o.standing_unchanged.2 ∙ i.2, written_more (FromBases a.standing.now) a.standing.now l.s l.standing _ i.3 o.standing_unchanged.0 (from_same a.standing.now l.standing l.s _ i.3.kept (omega (arith, i.1, c.requires.0)) o.from_bases))
 
 pub returns : goal.returns
 returns c =

@@ -10,8 +10,8 @@ returns c =
     let p = c.requires in
     let made = c.letter_row.ensures in
     let e = c.copy.ensures in
-    let w = slot_copied a.s a.standing.now p.1 e (made.1 ∙ p.2) in
+    let w = slot_copied a.s a.standing.now p.1 e (made.row_len_unchanged ∙ p.2) in
     record {
-      standing_unchanged = (w.0, w.1, made.1);
-      from_bases = from_row a.standing.now a.s w.2 made.0;
+      standing_unchanged = (w.0, w.1, made.row_len_unchanged);
+      from_bases = from_row a.standing.now a.s w.2 made.from_bases;
     }

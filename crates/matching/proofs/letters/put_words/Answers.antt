@@ -1,5 +1,4 @@
 -- Each write goes into the slot of its letter and leaves the three others.
--- TODO goal same-length is not asked now: simp length-set
 use native.Mathlib.Omega.{arith}
 use lib.ListN.{length-set}
 use Rattle.matching.proofs.BaseRows.{slots_put}

@@ -1,6 +1,6 @@
 use borrow.Author.Rules.{rules}
 use mathlib.Core.Path.{refl, ◌∙◌}
-use Prim.Native.Nat.{◌-◌, ◌*◌}
+use Prim.Native.Nat.{◌*◌}
 use native.Mathlib.Omega.{arith}
 use lib.ListN.{length-take}
 use Rattle.matching.proofs.BaseRows.{spelt_part, begun_none, begun_more, begun_all}
@@ -29,13 +29,12 @@ loop-q-preserved c =
     let h = c.loop-q-test.true in
     let o = c.put_words.ensures in (
       search rules,
-      o.1 ∙ l.invariant.1,
+      o.standing_len_unchanged ∙ l.invariant.1,
       begun_more a.from a.to a.sequence.now a.standing.now l.q _ l.standing _ _
           c.least-e.ensures (omega (arith, h, p.from_le_to)) p.from_le_to.1
-          (omega (arith, l.invariant.1, p.in_bounds)) c.letter_words-bases.ensures o.0 l.invariant.2,
+          (omega (arith, l.invariant.1, p.in_bounds)) c.letter_words-bases.ensures o.by_index l.invariant.2,
     )
 
--- TODO 2 parts for the clauses ['by_index_2', 'by_index_3', 'standing_len_unchanged']
 pub returns : goal.returns
 returns c =
     let a = c.args in
@@ -43,4 +42,4 @@ returns c =
     let l = c.loop-q in
     let all = begun_all a.from a.to a.sequence.now a.standing.now l.q l.standing p.from_le_to.0
     (omega (arith, c.loop-q-test.false, l.invariant.0)) p.from_le_to.1 (omega (arith, l.invariant.1, p.in_bounds)) l.invariant.2 in
-    (l.invariant.2.kept, (all, l.invariant.1))
+    record { by_index_2 = l.invariant.2.kept; by_index_3 = all; standing_len_unchanged = l.invariant.1 }

@@ -19,13 +19,18 @@ overflow_cast-component c =
     let p = c.requires in
     omega (arith, inside_small a.template p.sound_template a.size p.le_size.0 p.le_size.1 a.inside.now p.inside)
 
--- TODO 2 parts for the clauses ['sound_template', 'le_component', 'firsts', 'bounded', 'lengths_bound']
 pub open_slot-requires : goal.open_slot-requires
 open_slot-requires c =
     let a = c.args in
     let p = c.requires in
     let t = component_there a.template p.sound_template a.size p.le_size.0 p.le_size.1 a.inside.now p.inside (omega (arith, c.if-place-gt0.false)) in
-    (p.sound_template, ((t.0, t.1, p.le_size.2), (p.firsts, (p.bounded, p.lengths_bound))))
+    record {
+      sound_template = p.sound_template;
+      le_component = (t.0, t.1, p.le_size.2);
+      firsts = p.firsts;
+      bounded = p.bounded;
+      lengths_bound = p.lengths_bound;
+    }
 
 pub returns : goal.returns
 returns c =
@@ -33,6 +38,6 @@ returns c =
     let p = c.requires in
     let o = c.open_slot.ensures in
     record {
-      by_index = (λ l m set is. filled_gap a.template p.sound_template a.size p.le_size.0 p.le_size.1 a.inside.now p.inside l a.lengths.now set m a.slot.now is (omega (arith, c.if-place-gt0.false)) _ o.1.0 o.1.1);
-      spare_len_unchanged = (o.0.1, o.0.0);
+      by_index = (λ l m set is. filled_gap a.template p.sound_template a.size p.le_size.0 p.le_size.1 a.inside.now p.inside l a.lengths.now set m a.slot.now is (omega (arith, c.if-place-gt0.false)) _ o.marked o.filled);
+      spare_len_unchanged = (o.slot_len_unchanged.1, o.slot_len_unchanged.0);
     }

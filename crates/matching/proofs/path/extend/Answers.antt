@@ -5,7 +5,6 @@ use Rattle.matching.proofs.Extend.{below_bounded, kept_row, kept_support}
 use Rattle.matching.proofs.Slots.{enough}
 use Rattle.matching.proofs.path.extend.Goals as goal
 
--- TODO 2 parts for the clauses ['lengths_len_bound', 'firsts', 'bounded', 'lengths_in_bounds']
 pub keep_all-requires : goal.keep_all-requires
 keep_all-requires c =
     let a = c.args in
@@ -13,9 +12,13 @@ keep_all-requires c =
     let deep = p.le_size in
     let long = p.letter_len in
     let bounded = below_bounded a.template p.sound_template a.letters.now a.lengths.now p.sound_set a.size a.number deep.0 deep.1 a.slot.now p.slot in
-    ((p.sound_set.few, omega (arith, deep.2)), (p.firsts, (bounded, (omega (arith, long.1, enough a.letters.now a.lengths.now p.sound_set), omega (arith, long.0, long.1), omega (arith, long.1, long.2)))))
+    record {
+      lengths_len_bound = (p.sound_set.few, omega (arith, deep.2));
+      firsts = p.firsts;
+      bounded = bounded;
+      lengths_in_bounds = (omega (arith, long.1, enough a.letters.now a.lengths.now p.sound_set), omega (arith, long.0, long.1), omega (arith, long.1, long.2));
+    }
 
--- TODO 2 parts for the clauses ['lower_bound', 'value', 'row', 'work_len_unchanged']
 pub returns : goal.returns
 returns c =
     let a = c.args in
@@ -25,4 +28,9 @@ returns c =
     let long = p.letter_len.1 in
     let tests = p.tests_last in
     let all = kept_support a.template p.sound_template a.letters.now a.lengths.now p.sound_set a.size a.number deep.0 deep.1 a.slot.now p.slot long a.letter.now a.by tests in
-    (omega (arith, all, k.0), ((λ h. k.1.0 h ∙ all), ((λ h. kept_row a.template p.sound_template a.letters.now a.lengths.now p.sound_set a.size a.number deep.0 deep.1 a.slot.now p.slot long a.letter.now a.by tests _ (k.1.1.1.0 h) (k.1.1.0 h)), k.1.1.1.1)))
+    record {
+      lower_bound = omega (arith, all, k.lower_bound);
+      value = λ h. k.value h ∙ all;
+      row = λ h. kept_row a.template p.sound_template a.letters.now a.lengths.now p.sound_set a.size a.number deep.0 deep.1 a.slot.now p.slot long a.letter.now a.by tests _ (k.filled h) (k.marked h);
+      work_len_unchanged = k.out_len_unchanged;
+    }

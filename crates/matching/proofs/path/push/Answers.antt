@@ -1,7 +1,4 @@
 -- The slot before is read in one table and the slot filled in the other, where those below it are left.
--- TODO goal same-length-3 is not asked now: c.before.before.before.before.fill-slot.ensures.1.1.1.0
--- TODO goal same-length-4 is not asked now: refl
--- TODO goal same-length-6 is not asked now: c.before.before.before.before.fill-slot2.ensures.1.1.1.0
 use mathlib.Core.Path.{refl}
 use Prim.Native.Nat.{◌-◌, ◌/◌, ◌≤◌}
 use native.Mathlib.Omega.{arith}
@@ -11,21 +8,23 @@ use Rattle.matching.proofs.Push.{pushed_even, pushed_odd}
 use Rattle.matching.proofs.Slots.{parent_even, parent_odd, row_cut, row_slot_long}
 use Rattle.matching.proofs.path.push.Goals as goal
 
--- TODO 2 parts for the clauses ['sound_template', 'le_size', 'template_in_bounds']
 pub test_for-test-requires : goal.test_for-test-requires
 test_for-test-requires c =
     let p = c.requires in
     let deep = p.le_size in
     let ready = p.ready in
-    (p.sound_template, ((deep.0, omega (arith, deep.1), ready.placed), ready.letters.long))
+    record {
+      sound_template = p.sound_template;
+      le_size = (deep.0, omega (arith, deep.1), ready.placed);
+      template_in_bounds = ready.letters.long;
+    }
 
 pub overflow_add-g : goal.overflow_add-g
-overflow_add-g c = omega (arith, c.test_for-test.ensures.at_in_bounds, c.well-formed.1.1.1.1.1.1.1.0)
+overflow_add-g c = omega (arith, c.test_for-test.ensures.at_in_bounds)
 
 pub offset_bounds-standing-c : goal.offset_bounds-standing-c
-offset_bounds-standing-c c = omega (arith, c.test_for-test.ensures.at_in_bounds, c.well-formed.1.1.1.1.1.1.1.0)
+offset_bounds-standing-c c = omega (arith, c.test_for-test.ensures.at_in_bounds)
 
--- TODO 2 parts for the clauses ['sound_template', 'sound_set', 'le_size', 'inside', 'firsts', 'tests_last', 'slot', 'letter_len']
 pub fill_slot-requires : goal.fill_slot-requires
 unfolding row_slot between
 fill_slot-requires c =
@@ -37,13 +36,21 @@ fill_slot-requires c =
     let test = c.test_for-test in
     let slot = parent_odd a.template a.lengths.now a.letters.now a.evens.now a.odds.now a.size a.number p.path deep.0 (omega (arith, c.if-s-eq0.true, deep)) in
     let long = row_slot_long ((a.size - 1) / 2) a.odds.now (omega (arith, z.1, deep, p.sound_template.deep)) in
-    let letter = row_cut test.result.at a.standing.now test.ensures.0.0 in
-    (p.sound_template, (p.sound_set, ((deep.0, deep.1, test.ensures.0.1), (ready.placed, (ready.laid, (test.ensures.1 a.lengths.now a.letters.now ready.letters, (slot, (letter, long, z.2, row_slot_long (a.size / 2) a.evens.now (omega (arith, z.0, deep, p.sound_template.deep))))))))))
+    let letter = row_cut test.result.at a.standing.now test.ensures.at_in_bounds.0 in
+    record {
+      sound_template = p.sound_template;
+      sound_set = p.sound_set;
+      le_size = (deep.0, deep.1, test.ensures.at_in_bounds.1);
+      inside = ready.placed;
+      firsts = ready.laid;
+      tests_last = test.ensures.by_index a.lengths.now a.letters.now ready.letters;
+      slot = slot;
+      letter_len = (letter, long, z.2, row_slot_long (a.size / 2) a.evens.now (omega (arith, z.0, deep, p.sound_template.deep)));
+    }
 
 pub shape_of-evens : goal.shape_of-evens
 shape_of-evens c = refl
 
--- TODO 2 parts for the clauses ['lower_bound', 'value', 'path_2', 'path_3', 'evens_len_unchanged']
 pub returns-then-s-eq0 : goal.returns-then-s-eq0
 returns-then-s-eq0 c =
     let a = c.args in
@@ -51,13 +58,18 @@ returns-then-s-eq0 c =
     let f = c.fill_slot in
     let o = f.ensures in
     let z = p.evens_len in
-    let r = pushed_even a.template a.lengths.now a.letters.now a.evens.now a.odds.now a.size a.number p.path (a.quorum ≤ f.result) f.new.1.1.1.1.1.1.1.1.1.1.1.1.0 o.1.1.0 c.if-s-eq0.true (omega (arith, z.0, p.le_size, p.sound_template.deep)) o.1.1.1.1 in
-    (o.0, (o.1.0, (r.0.0, (r.0.1, (r.1, refl, o.1.1.1.0)))))
+    let r = pushed_even a.template a.lengths.now a.letters.now a.evens.now a.odds.now a.size a.number p.path (a.quorum ≤ f.result) f.new.slot o.slot_2 c.if-s-eq0.true (omega (arith, z.0, p.le_size, p.sound_template.deep)) o.spare_len_unchanged.1 in
+    record {
+      lower_bound = o.lower_bound;
+      value = o.value;
+      path_2 = r.0.0;
+      path_3 = r.0.1;
+      evens_len_unchanged = (r.1, refl, o.spare_len_unchanged.0);
+    }
 
 pub offset_bounds-standing-c-2 : goal.offset_bounds-standing-c-2
-offset_bounds-standing-c-2 c = omega (arith, c.test_for-test.ensures.at_in_bounds, c.well-formed.1.1.1.1.1.1.1.0)
+offset_bounds-standing-c-2 c = omega (arith, c.test_for-test.ensures.at_in_bounds)
 
--- TODO 2 parts for the clauses ['sound_template', 'sound_set', 'le_size', 'inside', 'firsts', 'tests_last', 'slot', 'letter_len']
 pub fill_slot-requires-2 : goal.fill_slot-requires-2
 unfolding row_slot between
 fill_slot-requires-2 c =
@@ -69,10 +81,18 @@ fill_slot-requires-2 c =
     let test = c.test_for-test in
     let slot = parent_even a.template a.lengths.now a.letters.now a.evens.now a.odds.now a.size a.number p.path deep.0 (omega (arith, c.if-s-eq0.false, deep)) in
     let long = row_slot_long ((a.size - 1) / 2) a.evens.now (omega (arith, z.0, deep, p.sound_template.deep)) in
-    let letter = row_cut test.result.at a.standing.now test.ensures.0.0 in
-    (p.sound_template, (p.sound_set, ((deep.0, deep.1, test.ensures.0.1), (ready.placed, (ready.laid, (test.ensures.1 a.lengths.now a.letters.now ready.letters, (slot, (letter, long, z.2, row_slot_long (a.size / 2) a.odds.now (omega (arith, z.1, deep, p.sound_template.deep))))))))))
+    let letter = row_cut test.result.at a.standing.now test.ensures.at_in_bounds.0 in
+    record {
+      sound_template = p.sound_template;
+      sound_set = p.sound_set;
+      le_size = (deep.0, deep.1, test.ensures.at_in_bounds.1);
+      inside = ready.placed;
+      firsts = ready.laid;
+      tests_last = test.ensures.by_index a.lengths.now a.letters.now ready.letters;
+      slot = slot;
+      letter_len = (letter, long, z.2, row_slot_long (a.size / 2) a.odds.now (omega (arith, z.1, deep, p.sound_template.deep)));
+    }
 
--- TODO 2 parts for the clauses ['lower_bound', 'value', 'path_2', 'path_3', 'evens_len_unchanged']
 pub returns : goal.returns
 returns c =
     let a = c.args in
@@ -80,5 +100,11 @@ returns c =
     let f = c.fill_slot-2 in
     let o = f.ensures in
     let z = p.evens_len in
-    let r = pushed_odd a.template a.lengths.now a.letters.now a.evens.now a.odds.now a.size a.number p.path (a.quorum ≤ f.result) f.new.1.1.1.1.1.1.1.1.1.1.1.1.0 o.1.1.0 (omega (arith, c.if-s-eq0.false)) (omega (arith, z.1, p.le_size, p.sound_template.deep)) o.1.1.1.1 in
-    (o.0, (o.1.0, (r.0.0, (r.0.1, (refl, r.1, o.1.1.1.0)))))
+    let r = pushed_odd a.template a.lengths.now a.letters.now a.evens.now a.odds.now a.size a.number p.path (a.quorum ≤ f.result) f.new.slot o.slot_2 (omega (arith, c.if-s-eq0.false)) (omega (arith, z.1, p.le_size, p.sound_template.deep)) o.spare_len_unchanged.1 in
+    record {
+      lower_bound = o.lower_bound;
+      value = o.value;
+      path_2 = r.0.0;
+      path_3 = r.0.1;
+      evens_len_unchanged = (refl, r.1, o.spare_len_unchanged.0);
+    }

@@ -1,7 +1,6 @@
 use mathlib.Core.Path.{◌≡◌, refl, ◌∙◌}
 use Prim.Native.Nat.{◌+◌, ◌-◌}
 use native.Mathlib.Omega.{arith}
-use Rattle.rules.specs.Support.{parts}
 use Rattle.matching.proofs.Replay.{slot_begin, slot_more, last_prefix}
 use Rattle.matching.proofs.path.shorter.Goals as goal
 
@@ -12,14 +11,22 @@ loop-d-init c =
     let deep = p.le_size in
     (omega arith, deep.0, slot_begin a.template a.size a.number a.lengths.now a.letters.now a.even.now a.odd.now deep.0 deep.2 p.slot, (λ h. absurd (omega arith)), refl, refl, refl)
 
--- TODO 2 parts for the clauses ['sound_template', 'sound_set', 'le_size', 'inside', 'firsts', 'base_rows', 'slot', 'letter_len']
 pub take_turn-found-requires : goal.take_turn-found-requires
 take_turn-found-requires c =
     let p = c.requires in
     let i = c.loop-d.invariant in
     let e = c.prefix-prefix.ensures in
     let z = p.letter_len in
-    (p.sound_template, (p.sound_set, ((i.0, omega (arith, c.loop-d-test.true, p.le_size.1)), (p.inside, (p.firsts, (p.base_rows, (rw e i.2, (i.4 ∙ z.0, i.5 ∙ z.1, i.6 ∙ z.2))))))))
+    record {
+      sound_template = p.sound_template;
+      sound_set = p.sound_set;
+      le_size = (i.0, omega (arith, c.loop-d-test.true, p.le_size.1));
+      inside = p.inside;
+      firsts = p.firsts;
+      base_rows = p.base_rows;
+      slot = rw e i.2;
+      letter_len = (i.4 ∙ z.0, i.5 ∙ z.1, i.6 ∙ z.2);
+    }
 
 pub loop-d-preserved : goal.loop-d-preserved
 loop-d-preserved c =
@@ -28,11 +35,11 @@ loop-d-preserved c =
     let i = l.invariant in
     let t = c.loop-d-test.true in
     let q = c.take_turn-found.ensures in
-    let n = q.1.1 in
+    let n = q.letter_len_unchanged in
     let e = c.prefix-prefix.ensures in
     let z : l.d + 1 - 1 ≡ l.d = omega arith in
-    let slot = slot_more a.template a.size a.number a.lengths.now a.letters.now _ _ l.d t (rw e at q.1.0) in
-    (omega (arith, i.0), omega arith, slot, (λ h. rw z (rw e at q.0)), n.0 ∙ i.4, n.1 ∙ i.5, n.2 ∙ i.6)
+    let slot = slot_more a.template a.size a.number a.lengths.now a.letters.now _ _ l.d t (rw e at q.slot_2) in
+    (omega (arith, i.0), omega arith, slot, (λ h. rw z (rw e at q.value)), n.0 ∙ i.4, n.1 ∙ i.5, n.2 ∙ i.6)
 
 pub returns : goal.returns
 returns c =

@@ -9,6 +9,6 @@ returns c =
     let p = c.requires in
     let o = c.begin.ensures in
     record {
-      slot = first_slot a.letters.now a.lengths.now p.sound_set _ o.0 (λ q h u. o.1.1 q h (omega (arith, u, p.slot_len))) a.template p.sound_template;
-      slot_len_unchanged = o.1.0;
+      slot = first_slot a.letters.now a.lengths.now p.sound_set _ o.marked (λ q h u. o.row_len_unchanged.1 q h (omega (arith, u, p.slot_len))) a.template p.sound_template;
+      slot_len_unchanged = o.row_len_unchanged.0;
     }

@@ -1,5 +1,4 @@
 use mathlib.Core.Path.{refl, ◌∙◌}
-use Prim.Native.Nat.{◌-◌}
 use native.Mathlib.Omega.{arith}
 use Rattle.matching.proofs.LetterPlaces.{letters_none, placed_none, placed_end, read_short, read_next, read_most, read_placed}
 use Rattle.matching.proofs.tables.place_letters.Goals as goal
@@ -37,7 +36,7 @@ loop-k-preserved c =
     let l = c.loop-k in
     let h = c.loop-k-test.true in
     let o = c.place_component.ensures in
-    (omega arith, o.1.1 ∙ l.invariant.1, read_next c.args.template c.requires.sound_template _ e refl l.k h l.invariant.2, read_placed c.args.template c.requires.sound_template _ e refl l.k h l.invariant.2 l.inside _ l.invariant.3 o.1.0 o.0)
+    (omega arith, o.inside_unchanged.1 ∙ l.invariant.1, read_next c.args.template c.requires.sound_template _ e refl l.k h l.invariant.2, read_placed c.args.template c.requires.sound_template _ e refl l.k h l.invariant.2 l.inside _ l.invariant.3 o.inside_unchanged.0 o.by_index)
 
 pub returns : goal.returns
 returns c =

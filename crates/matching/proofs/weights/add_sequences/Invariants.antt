@@ -2,7 +2,7 @@
 -- of all of them. So no sum on the way is larger than the last.
 use mathlib.Core.List.{List, map}
 use mathlib.Core.Path.{◌≡◌}
-use Prim.Native.Nat.{ℕ, ◌+◌, ◌-◌, ◌*◌}
+use Prim.Native.Nat.{ℕ, ◌+◌, ◌*◌}
 use lib.ListN.{get_or}
 use Rattle.rules.specs.Lists.{run, sum}
 use Rattle.matching.specs.Weights.{weight_at}

@@ -1,8 +1,10 @@
 -- The two callees write the counts from `a` up to `e`, one after the other, and no others.
--- TODO a context in module
 use borrow.Author.Rules.{rules}
+use mathlib.Core.Bool.{Bool}
+use mathlib.Core.List.{List}
 use mathlib.Core.Path.{◌≡◌, ap, ◌∙◌}
-use Prim.Native.Nat.{◌+◌, ◌-◌}
+use Prim.Native.Nat.{ℕ, ◌+◌, ◌-◌, ◌≤◌}
+use lib.ListN.{length}
 use borrow.Rule.Slice.PartMut.{mid_of, put_mid}
 use Rattle.rows.specs.Bits.{held}
 use Rattle.rows.specs.Flags.{added, masked}
@@ -12,34 +14,34 @@ use Rattle.matching.proofs.Leads.{part_first, part_led}
 use Rattle.matching.proofs.weights.lead_between.Goals as goal
 
 -- what the row keeps after the first of them
-module _ (c : goal.After-begin) where
-  abbrev start : tie.Start
-  start = c.before.before.before.before.before.before
+kept : (first : Bool) (part : List ℕ) (a e : ℕ) (x y : List ℕ) → a ≤ e → e ≤ length x → length y ≡ length (mid_of a (e - a) x)
+    → masked (held part) y ≡ masked (held part) (counted_from first (mid_of a (e - a) x))
+    → masked (held part) (mid_of a (e - a) (put_mid a (e - a) x y)) ≡ masked (held part) (counted_from first (between a e x))
+unfolding between
+kept first part a e x y h g n q = ap (masked (held part)) (part_first a e x y h g n) ∙ q
 
-  kept : masked (held (between start.args.from start.args.to start.args.row.now)) (mid_of start.args.a.0 (start.args.e.0 - start.args.a.0) (put_mid start.args.a.0 (start.args.e.0 - start.args.a.0) start.args.counts.now c.begin.new.1.1.0))
-      ≡ masked (held (between start.args.from start.args.to start.args.row.now)) (counted_from start.args.first (between start.args.a.0 start.args.e.0 start.args.counts.now))
-  unfolding between
-  kept =
-      let s = start in
-      let m = c.begin in
-      ap (masked (held (between s.args.from s.args.to s.args.row.now))) (part_first s.args.a.0 s.args.e.0 s.args.counts.now m.new.1.1.0 s.pre.0.3 s.pre.0.4 m.auto.1.1.0)
-      ∙ m.ensures
-
--- TODO 2 parts for the clauses ['le_d', 'counts_len_bound', 'by_index', 'by_index_2']
 pub lead-requires : goal.lead-requires
 unfolding between
 lead-requires c =
-    let p = (start b).requires in
-    (p.1.0, (search rules, ((λ i. rw (kept b) (p.1.1.0 i)), (λ i z. rw (kept b) (p.1.1.1 i z)))))
+    let p = c.requires in
+    let a = c.args in
+    let k = kept a.first (between a.from a.to a.row.now) a.a.0 a.e.0 a.counts.now c.begin.new.counts p.from_le_to.3 p.from_le_to.4 c.begin.auto.counts c.begin.ensures in record {
+      le_d = p.le_d;
+      counts_len_bound = search rules;
+      by_index = λ i. rw k (p.by_index i);
+      by_index_2 = λ i z. rw k (p.by_index_2 i z);
+    }
 
 pub returns : goal.returns
 unfolding between
 returns c =
-    let s = start b in
+    let p = c.requires in
+    let a = c.args in
     let m = c.begin in
     let r = c.lead in
-    let q = part_led s.args.a.0 s.args.e.0 s.args.counts.now m.new.1.1.0 s.pre.0.3 s.pre.0.4 m.auto.1.1.0 r.new.1.1.1.1.0 r.auto.1.1.1.1.0 in
+    let k = kept a.first (between a.from a.to a.row.now) a.a.0 a.e.0 a.counts.now m.new.counts p.from_le_to.3 p.from_le_to.4 m.auto.counts m.ensures in
+    let q = part_led a.a.0 a.e.0 a.counts.now m.new.counts p.from_le_to.3 p.from_le_to.4 m.auto.counts r.new.counts r.auto.counts in
     record {
       counts_unchanged = q.0;
-      counts_after = ap (masked (held (between s.args.from s.args.to s.args.opened.now))) q.1 ∙ r.ensures ∙ ap (added s.args.d (s.args.d + s.args.n - 1)) (kept b);
+      counts_after = ap (masked (held (between a.from a.to a.opened.now))) q.1 ∙ r.ensures ∙ ap (added a.d (a.d + a.n - 1)) k;
     }

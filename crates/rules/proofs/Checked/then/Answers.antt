@@ -1,5 +1,4 @@
 -- `Checked::then`: it goes by the same two cases as `◌else◌`.
-use borrow.Author.Rules.{rules}
 use Rattle.rules.specs.Refusals.{◌else◌}
 use Rattle.rules.proofs.Checked.then.Goals as goal
 

@@ -1,5 +1,4 @@
 -- The values of the letters lie below the mark, so what has another value than the mark has a smaller one.
-use borrow.Author.Rules.{rules}
 use mathlib.Core.Bool.{Bool, true, false, not}
 use mathlib.Core.Path.{◌≡◌, refl}
 use Prim.Native.Nat.{ℕ}

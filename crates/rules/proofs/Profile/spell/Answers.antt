@@ -1,9 +1,9 @@
 use borrow.Author.Rules.{rules}
-use mathlib.Core.Path.{◌≡◌, ap, ◌∙◌}
-use Prim.Native.Nat.{ℕ, ◌-◌, ◌≤◌, ◌<◌}
+use mathlib.Core.Path.{ap, ◌∙◌}
+use Prim.Native.Nat.{◌≤◌, ◌<◌}
 use native.Mathlib.Omega.{arith}
 use lib.ListN.{length, length-set}
-use Rattle.rules.specs.Profile.{base_sets, profile_by}
+use Rattle.rules.specs.Profile.{profile_by}
 use Rattle.rules.proofs.Spelling.{spelled_none, spelled_rest, spelled_more}
 use Rattle.rules.proofs.Profile.spell.Invariants.{stood_for}
 use Rattle.rules.proofs.Profile.spell.Goals as goal

@@ -13,7 +13,6 @@ use Rattle.rules.specs.declared.Component.{Component}
 use Rattle.rules.specs.declared.Profile.{Profile}
 use Rattle.rules.specs.declared.Template.{Template}
 use native.Mathlib.Omega.{arith}
-use borrow.Author.Rules.{rules}
 use borrow.Author.Tests.{le-leb}
 use Rattle.rules.proofs.Template.letters.Goals as goal
 

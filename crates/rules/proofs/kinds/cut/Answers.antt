@@ -3,7 +3,7 @@
 use borrow.Author.Rules.{rules}
 use mathlib.Core.Path.{◌≡◌, sym, ap}
 use Prim.Native.Nat.{ℕ, zero, suc, ◌*◌, ◌/◌, ◌^◌, ◌≤◌, ◌<◌}
-use native.Mathlib.Nat.{pow-zero, pow-suc, suc-mul, zero-mul, mul-le-mul_left, div-eq_of_lt}
+use native.Mathlib.Nat.{pow-zero, pow-suc, suc-mul, zero-mul, div-eq_of_lt}
 use native.Mathlib.Omega.{arith}
 use lib.Pow.{pow-add, pow_mono}
 use Rattle.rules.proofs.kinds.cut.Goals as goal
