@@ -1,7 +1,7 @@
 // What goes between two calls: a profile's number is checked before one, a new search is written, one that was read runs a leg and is
 // written again, and the shape and allowances of a restored one are told. Nothing is checked twice.
 ghost use Rattle.std.specs.Prelude.{◌≡◌};
-ghost use Rattle.exports.specs.Between.{write_begun, saved-after};
+ghost use Rattle.exports.specs.Between.{write_begun, saved_after};
 ghost use Rattle.exports.specs.Exported.{no_profile, profile_check, checked_written, leg_of, leg_outcome, table_after};
 ghost use Rattle.exports.specs.Shape.{shape_of, allowances_of};
 ghost use Rattle.records.specs.ReadWrite.{read_rule};
@@ -102,7 +102,7 @@ pub fn save_begun(begun: Begun, saved: &mut [u8]) -> Saved
 // Writes the search that a leg leaves, and nothing where the leg was refused.
 fn save_left(answer: LegAnswer, left: Search, saved: &mut [u8])
     requires { SoundTemplate left.template }
-    ensures { saved.new ≡ saved-after (told_answer answer) left saved.old }
+    ensures { saved.new ≡ saved_after (told_answer answer) left saved.old }
 {
     match answer {
         LegAnswer::Refused(_) => {}

@@ -1,5 +1,5 @@
 -- So many zeros are so many.
-use Rattle.std.proofs.Common.{◌≡◌, sym, ◌+◌, ℕ}
+use Rattle.std.proofs.Common.{sym, ◌+◌, ℕ}
 use lib.ListN.{length-replicate}
 use Rattle.rules.specs.Limits.{fasta_bytes}
 use Rattle.text.specs.Printed.{line_room}

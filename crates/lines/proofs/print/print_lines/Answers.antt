@@ -1,8 +1,8 @@
 -- A file that is too long is refused, and that is the whole printout.
-use Rattle.std.proofs.Common.{◌≡◌, List, ℕ}
+use Rattle.std.proofs.Common.{◌≡◌}
 use Rattle.rules.specs.Fasta.{lines_rule}
 use Rattle.rules.specs.Text.{print_refused}
-use Rattle.lines.proofs.Turns.{Stands, too_long, refused_printed}
+use Rattle.lines.proofs.Turns.{too_long, refused_printed}
 use Rattle.lines.proofs.print.print_lines.Goals as goal
 
 pub returns-then-file-gt-BYTES-clause-out_after : goal.returns-then-file-gt-BYTES-clause-out_after

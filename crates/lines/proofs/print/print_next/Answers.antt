@@ -1,5 +1,5 @@
 -- The reader hands out a record for whose line there is room, or none, or refuses: what is printed from there is as before.
-use Rattle.std.proofs.Common.{◌≡◌, refl, sym, subst, arith}
+use Rattle.std.proofs.Common.{refl, sym, subst, arith}
 use Rattle.lines.specs.Printing.{Turned}
 use Rattle.lines.proofs.Turns.{Record, turned}
 use Rattle.lines.proofs.print.print_next.Goals as goal

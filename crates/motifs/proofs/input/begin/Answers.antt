@@ -1,7 +1,6 @@
 -- The search is begun over what was read to the fronts of the tables.
-use Rattle.std.proofs.Common.{◌≡◌, ◌≤◌, length, sym, arith}
+use Rattle.std.proofs.Common.{arith}
 use Rattle.std.proofs.Math.ListN.{length-take}
-use Rattle.rules.specs.Text.{parse_letters, parse_lengths}
 use Rattle.text.proofs.Lines.{text_short}
 use Rattle.motifs.proofs.InputRead.{sound, begin_fronts}
 use Rattle.motifs.proofs.input.begin.Goals as goal

@@ -1,10 +1,7 @@
 -- What the leg leaves at the front of its tables is what is printed.
-use Rattle.std.proofs.Common.{◌≡◌, ap, ◌≤◌, arith}
+use Rattle.std.proofs.Common.{◌≡◌, ap, arith}
 use Rattle.rules.specs.Calls.{leg_rule}
 use Rattle.rules.specs.Told.{LegTold}
-use Rattle.text.specs.Printed.{Page}
-use Rattle.legs.specs.AcceptedLeg.{room_of}
-use Rattle.motifs.specs.Pages.{leg_page}
 use Rattle.motifs.proofs.Leg.{rows_fit, rows_sound, page_left}
 use Rattle.motifs.proofs.page.page.Goals as goal
 

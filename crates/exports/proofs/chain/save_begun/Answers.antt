@@ -1,0 +1,18 @@
+-- `save_begun` goes by what begin answered.
+use mathlib.Core.Path.{refl, ap}
+use Rattle.rules.specs.Told.{told_begun}
+use Rattle.exports.proofs.chain.save_begun.Goals as goal
+
+pub write_search-requires : goal.write_search-requires
+write_search-requires c = c.requires _ (ap told_begun c.begun-1.given.1)
+
+-- TODO the clauses are ['result_value', 'saved_after']
+pub returns-in-Search : goal.returns-in-Search
+returns-in-Search c = rw c.in-Search.is c.write_search.ensures
+
+pub returns-in-Refused : goal.returns-in-Refused
+returns-in-Refused c =
+    rw c.in-Refused.is record {
+      result_value = refl;
+      saved_after = refl;
+    }
