@@ -17,7 +17,7 @@ use Rattle.rules.specs.Sequences.{sequences}
 use Rattle.rules.specs.Support.{support, weight, frequent, parts, valid}
 use Rattle.rules.specs.Template.{size}
 use Rattle.rules.specs.Told.{gives, told_answer, told_leg}
-use Rattle.rules.specs.Walk.{walk_in, place, next, motif, walk_of, Candidate, Passing}
+use Rattle.rules.specs.Walk.{walk_in, next, motif, walk_of, Candidate, Passing}
 use Rattle.rules.specs.declared.Leg.{Leg}
 use Rattle.rules.specs.declared.LegAnswer.{LegAnswer}
 use Rattle.rules.specs.declared.Place.{Place}

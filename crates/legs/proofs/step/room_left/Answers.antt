@@ -1,25 +1,22 @@
--- `room_left`: the number in `inside` says which letter of which component the last one is.
--- TODO a context in code
-use Prim.Native.Nat.{◌-◌, ◌/◌, ◌<◌}
+-- `room_left`: the number in `inside` says which letter of which component the last one is, and the component is one of the template's.
 use native.Mathlib.Omega.{arith}
-use lib.ListN.{get_or}
 use Rattle.legs.proofs.Kind.{code_component, room_is}
 use Rattle.legs.proofs.step.room_left.Goals as goal
 
--- the component is one of the template's
-code : (c : goal.After-shared-slice-known2) → let a = c.before.before.args in get_or a.inside.now (a.letters - 1) 0 / 16 < 6
-code c =
-    let s = c.before.before in
-    code_component s.args.template s.requires.0 s.args.inside.now s.requires.1.0 s.args.letters s.requires.1.1.0 s.requires.1.1.1
-
 pub overflow_cast-k : goal.overflow_cast-k
-overflow_cast-k c = omega (arith, code c)
+overflow_cast-k c =
+    let r = c.requires in
+    omega (arith, code_component c.args.template r.sound_template c.args.inside.now r.inside c.args.letters r.le_letters.0 r.le_letters.1)
 
 pub offset_bounds-components-k : goal.offset_bounds-components-k
-offset_bounds-components-k c = omega (arith, code c.before)
+offset_bounds-components-k c =
+    let r = c.requires in
+    omega (arith, code_component c.args.template r.sound_template c.args.inside.now r.inside c.args.letters r.le_letters.0 r.le_letters.1)
 
 pub bounds-components-k : goal.bounds-components-k
-bounds-components-k c = code c.before
+bounds-components-k c =
+    let r = c.requires in
+    code_component c.args.template r.sound_template c.args.inside.now r.inside c.args.letters r.le_letters.0 r.le_letters.1
 
 pub returns : goal.returns
 returns c =

@@ -1,5 +1,4 @@
 use mathlib.Core.Path.{refl, sym, ◌∙◌}
-use mathlib.Core.Bool.{true}
 use native.Mathlib.Omega.{arith}
 use Rattle.legs.proofs.Kind.{up_go, up_drop, up_none, shorter_ok, rise_fits}
 use Rattle.legs.proofs.step.way_up.Goals as goal
@@ -7,12 +6,11 @@ use Rattle.legs.proofs.step.way_up.Goals as goal
 pub loop-j-init : goal.loop-j-init
 loop-j-init c = let p = c.requires.letters_bound in (p.0, p.1, λ good depth. refl)
 
--- TODO 2 parts for the clauses ['sound_template', 'inside', 'le_letters']
 pub rises-requires : goal.rises-requires
 rises-requires c =
     let p = c.requires in
     let i = c.loop-j.invariant in
-    (p.sound_template, (p.inside, (omega arith, i.0, i.1)))
+    record { sound_template = p.sound_template; inside = p.inside; le_letters = (omega arith, i.0, i.1) }
 
 pub overflow_add-m : goal.overflow_add-m
 overflow_add-m c =
