@@ -189,6 +189,13 @@ hold_names() { # EDIT ERRORS FACTS
     done <"$2"
 }
 
+# Whether the function of a fact calls one that is not proved.
+waits() { # CRATE FACT SAID
+    local function=${2#proofs/}
+    function=${function%/*}
+    grep -q -e "^fn $1::${function//\//::}: .*; it calls " -e "^fn $1::${function//\//::}: no proof: it calls " "$3"
+}
+
 # Tries an edit, and complains of what is amiss.
 try() { # COPY EDIT
     local copy=$1 edit=$2 said facts=$1/facts errors=$1/errors alone=$1/alone number=0 fact error
@@ -211,7 +218,7 @@ try() { # COPY EDIT
     while IFS= read -r fact; do
         number=$((number + 1))
         ! cut -f 1 "$errors" | grep -q -x -F -e "$fact" || continue
-        if [ "$(grep -c . "$facts")" -gt 1 ]; then
+        if [ "$(grep -c . "$facts")" -gt 1 ] && waits "$(crate_of "$edit")" "$fact" "$said.log"; then
             check_with "$copy" "$edit" "$said.$number.log" "$number"
             judged "$edit, $fact" "$said.$number.log" || continue
             errors_of "$said.$number.log" >"$alone"
