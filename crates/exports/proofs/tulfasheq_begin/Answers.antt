@@ -14,4 +14,4 @@ save_begun-answer-requires c =
 pub returns : goal.returns
 unfolding begin_outcome
 returns c =
-    begun_outcome _ _ (profile_check _ _ _) (shaped_template _ _ _ _) _ _ c.check_profile-checked.ensures c.read-t.ensures c.begin-begun.ensures c.saved-told.ensures c.save_begun-answer.ensures
+    begun_outcome _ _ (profile_check _ _ _) (shaped_template _ _ _ _) _ _ c.check_profile-checked.ensures c.read-t.ensures c.begin-begun.ensures c.saved-told.ensures (c.save_begun-answer.ensures.result_value, c.save_begun-answer.ensures.saved_after)

@@ -13,4 +13,6 @@ overflow_add-count c =
     omega (arith, (found_moves _ _ _ _ _ _ c.handed-told.ensures c.next_at-step.ensures.handed_value (2 ^ 64)).1 (omega arith) c.well_formed.1.1.0.0)
 
 pub returns : goal.returns
-returns c = found_outcome _ _ _ _ _ _ c.handed-told.ensures c.next_at-step.ensures
+returns c =
+    let e = c.next_at-step.ensures in
+    found_outcome _ _ _ _ _ _ c.handed-told.ensures (e.handed_value, (e.at_value, (e.letters_after, e.lengths_after)))

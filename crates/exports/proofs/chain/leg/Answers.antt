@@ -6,7 +6,7 @@ use Rattle.exports.specs.Exported.{leg_from, leg_outcome}
 use Rattle.exports.proofs.chain.leg.Goals as goal
 
 pub run-requires : goal.run-requires
-run-requires c = sym (ap told_begun c.read-1.given.1) ∙ c.requires
+run-requires c = sym (ap told_begun c.in-Search.is) ∙ c.requires
 
 pub returns-in-Search : goal.returns-in-Search
 returns-in-Search c = c.run.ensures

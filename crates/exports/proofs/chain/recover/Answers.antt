@@ -2,7 +2,6 @@
 use mathlib.Core.Path.{refl}
 use Rattle.exports.proofs.chain.recover.Goals as goal
 
--- TODO the clauses are ['result_value', 'out_after']
 pub returns-in-Fine : goal.returns-in-Fine
 returns-in-Fine c = rw c.in-Fine.is c.recover.ensures
 

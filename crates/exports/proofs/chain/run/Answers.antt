@@ -14,4 +14,5 @@ save_left-requires c =
 pub returns : goal.returns
 returns c =
     let a = c.args in
-    ran a.letters.now a.lengths.now a.saved.now a.search c.requires a.budget a.motifs.now a.supports.now a.weights.now c.leg-leg.result c.leg-leg.ensures c.save_left.ensures c.leg.ensures
+    ran a.letters.now a.lengths.now a.saved.now a.search c.requires a.budget a.motifs.now a.supports.now a.weights.now c.leg-leg.result
+    (c.leg-leg.ensures.result_value, (c.leg-leg.ensures.motifs_after, (c.leg-leg.ensures.supports_after, c.leg-leg.ensures.weights_after))) c.save_left.ensures c.leg.ensures

@@ -4,11 +4,10 @@ use Rattle.rules.specs.Told.{told_begun}
 use Rattle.exports.proofs.chain.save_begun.Goals as goal
 
 pub write_search-requires : goal.write_search-requires
-write_search-requires c = c.requires _ (ap told_begun c.begun-1.given.1)
+write_search-requires c = c.requires _ (ap told_begun c.in-Search.is)
 
--- TODO the clauses are ['result_value', 'saved_after']
 pub returns-in-Search : goal.returns-in-Search
-returns-in-Search c = rw c.in-Search.is c.write_search.ensures
+returns-in-Search c = rw c.in-Search.is record { result_value = c.write_search.ensures.result_value; saved_after = c.write_search.ensures.out_after }
 
 pub returns-in-Refused : goal.returns-in-Refused
 returns-in-Refused c =

@@ -3,7 +3,6 @@ use mathlib.Core.Path.{refl}
 use Rattle.exports.specs.Exported.{table_after}
 use Rattle.exports.proofs.chain.write.Goals as goal
 
--- TODO the clauses are ['shape_after', 'allowances_after']
 pub returns-in-Search : goal.returns-in-Search
 unfolding table_after
 returns-in-Search c = rw c.in-Search.is c.write.ensures

@@ -1,6 +1,5 @@
 use borrow.Author.Rules.{rules}
 use mathlib.Core.Path.{◌≡◌, ◌∙◌}
-use Prim.Native.Nat.{◌-◌}
 use native.Mathlib.Omega.{arith}
 use Rattle.exports.proofs.Filling.{fill_none, fill_next, fill_all}
 use Rattle.exports.proofs.shape.copy.Goals as goal
