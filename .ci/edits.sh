@@ -245,14 +245,6 @@ worker() { # NUMBER
     done
 }
 
-# The dearest first: those of the crates that kept the most.
-tried=()
-while read -r _ edit; do tried+=("$edit"); done < <(
-    for edit in "${edits[@]}"; do
-        echo "$(du -sk "crates/$(crate_of "$edit")/out" 2>/dev/null | cut -f 1 || :) $edit"
-    done | sort -s -n -r
-)
-
 # What is not proved is proved first.
 prove() {
     local crate
@@ -268,6 +260,14 @@ prove >"$work/check" 2>&1 </dev/null || {
     cat "$work/check"
     exit 1
 }
+
+# The dearest first: those of the crates that kept the most.
+tried=()
+while read -r _ edit; do tried+=("$edit"); done < <(
+    for edit in "${edits[@]}"; do
+        echo "$(du -sk "crates/$(crate_of "$edit")" | cut -f 1) $edit"
+    done | sort -s -n -r
+)
 mkdir "$work/begun" "$work/said" "$work/ended" "$work/copy"
 set -m
 for ((i = 0; i < jobs; i++)); do
