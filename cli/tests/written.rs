@@ -161,7 +161,12 @@ fn as_someone(scratch: &Scratch, words: &[&str]) -> Command {
     use std::os::unix::process::CommandExt;
     let copy = scratch.path("program");
     if !copy.exists() {
-        fs::copy(program().get_program(), &copy).expect("a copy");
+        // By a process of its own: a test beside this one that starts a program
+        // while the copy is open for writing would hold it open, and then it
+        // could not be started.
+        let mut copying = Command::new("cp");
+        copying.arg(program().get_program()).arg(&copy);
+        assert!(copying.status().expect("cp starts").success());
         fs::set_permissions(scratch.path(""), Permissions::from_mode(0o755)).expect("a mode");
     }
     let mut command = Command::new(copy);
