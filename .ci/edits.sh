@@ -74,8 +74,13 @@ copy_crate() { # CRATE PART TO
     for part in src specs proofs; do
         [ ! -d "crates/$1/$part" ] || cp -R "crates/$1/$part" "$3"
     done
+    [ -d "crates/$1/out/$2" ] || return 0
     # rt takes this lock while it works in a crate
-    [ ! -d "crates/$1/out/$2" ] || flock "crates/$1" cp -R "crates/$1/out/$2" "$3/out"
+    if command -v flock >/dev/null 2>&1; then
+        flock "crates/$1" cp -R "crates/$1/out/$2" "$3/out"
+    else
+        cp -R "crates/$1/out/$2" "$3/out"
+    fi
 }
 
 # Applies an edit, or one wrong program of it alone, to a copy of its crate: each `old:` text has to stand there once.
@@ -164,12 +169,12 @@ complain() { # EDIT TEXT
     printf '%s: %s\n' "$1" "$2"
 }
 
-# Says what is amiss where a check says no more than that it is over. $1 what to complain of
+# Whether the crate was refused; complains where it was proved, or where nothing was judged.
 judged() { # EDIT SAID
     if grep -q '^logic=proved' "$2"; then
         complain "$1" 'it is not refused'
     elif ! grep -q '^logic=not-proved' "$2"; then
-        complain "$1" "the prover gives no verdict: $(grep -m 1 -E 'error|stands|changes|there is no' "$2" || :)"
+        complain "$1" "there is no verdict: $(grep -m 1 -E 'error|stands|changes|there is no' "$2" || :)"
     else
         return 0
     fi
