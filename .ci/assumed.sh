@@ -3,6 +3,8 @@
 # functions whose contracts its verdict rests on (`axioms=`), and each public function that has a `requires` (from the sources). The gate
 # compares it with assumed.txt, and fails where they differ. After a change that is meant: .ci/assumed.sh >.ci/assumed.txt
 #
+# What the ghost fields of a type ask of whoever makes a value of it stands at the type, and is proved where one is made; it is not listed.
+#
 # The prover is asked, over what was proved: where the gate has just proved all, over that; else rt check proves first what is not.
 # A verdict that has a word which is not known here is told too, and the status is 1.
 set -eu

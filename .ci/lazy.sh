@@ -54,7 +54,7 @@ crate	ways	The counts that recovery goes by.
 crate	descent	Recovery's rows, component by component.
 crate	recovery	`recovery::recover`.
 crate	joins	`joins::join`.
-crate	fasta	The FASTA reader. Of `new` and `next` the promise is edited, and not the code.
+crate	fasta	The FASTA reader.
 crate	exports	The calls for C and Rust: what is passed on to the calls above, and what is told of their answers.
 crate	text	What the printing program reads and prints.
 crate	motifs	The pages of the printing program.

@@ -76,6 +76,7 @@ calls() {
                 inside = 0; text = ""
             }
             inside { next }
+            /^ *#\[tactic\(/ { next }
             /^ *(\/\/|#\[)/ { text = text $0 "\n"; next }
             /^ *pub (extern "C" )?fn / { inside = 1; promises = 0; name = $0; text = text $0 "\n"; next }
             { text = "" }

@@ -9,7 +9,7 @@ use native.Mathlib.Numerals.{add-one}
 use native.Mathlib.Omega.{arith}
 use lib.ListN.{length, take, drop, get_or, drop_of_length-le}
 use lib.Pow.{pow-add}
-use lib.Seq.{drop-cons, get_or-take, length-take-le}
+use lib.Seq.{drop-cons}
 use Rattle.rules.specs.Limits.{template_components}
 use Rattle.rules.specs.Lists.{all_pass}
 use Rattle.rules.specs.Motif.{spell}
@@ -53,32 +53,25 @@ module _ (f : Component → List ℕ → Bool) (none : (c : Component) → f c [
   dealt c cs zero e = rw (e, min-zero, none c, allowed_nil f cs)
   dealt c cs (suc j) e = rw (e, ← first_letters base m c.length (suc j), ← other_letters base m c.length (suc j))
 
--- how far the dealing is: of the first h slots, c have been given their letters, which are allowed or not, and so many are left
-pub record Given (p : declared.Profile) (number letters : ℕ) (cs : List Component) (h left : ℕ) (all : Bool) (c : ℕ) : Type 0 where
-  pub within : c ≤ h
-  pub fit : h ≤ length cs
-  pub few : length cs ≡ template_components
-  pub rest : allowed (profile_by p).allows (take h cs) (spell (profile_by p).base letters number) ≡ all && allowed (profile_by p).allows (drop c (take h cs)) (spell (profile_by p).base left number)
+-- how far the dealing is: c of the components have been given their letters, which are allowed or not, and so many are left
+pub record Given (p : declared.Profile) (number letters : ℕ) (cs : List Component) (left : ℕ) (all : Bool) (c : ℕ) : Type 0 where
+  pub rest : allowed (profile_by p).allows cs (spell (profile_by p).base letters number) ≡ all && allowed (profile_by p).allows (drop c cs) (spell (profile_by p).base left number)
 
-module _ (t : Template) {cs : List Component} {h : ℕ} (s : cs ≡ slots t) (e : h ≡ min t.count template_components) (number letters : ℕ) where
-  pub none_given : Given t.profile number letters cs h letters true 0
-  none_given = rw s (record { within = omega arith; fit = omega arith; few = refl; rest = refl })
+pub none_given : (p : declared.Profile) (number letters : ℕ) (cs : List Component) → Given p number letters cs letters true 0
+none_given p number letters cs = record { rest = refl }
 
-  pub all_given : {left : ℕ} {all : Bool} {c : ℕ} → Given t.profile number letters cs h left all c → h ≤ c → all ≡ allowed_in (profile_of t) t letters number
-  unfolding allowed_in allowed
-  all_given {left} {all} {c} g l =
-      sym (rw (drop_of_length-le (take h cs) {i = c} (rw (length-take-le h cs g.fit) l), and_true, held_slots t s e) at g.rest)
-
-pub one_given : (p : declared.Profile) (number letters : ℕ) (d : Component) {cs : List Component} {h left : ℕ} {all : Bool} {c n word : ℕ} {ok : Bool}
-    → Given p number letters cs h left all c → c < h → n ≡ min (get_or cs c d).length left → word ≡ number / (profile_by p).base ^ (left - n)
+pub one_given : (p : declared.Profile) (number letters : ℕ) (d : Component) {cs : List Component} {left : ℕ} {all : Bool} {c n word : ℕ} {ok : Bool}
+    → Given p number letters cs left all c → c < length cs → n ≡ min (get_or cs c d).length left → word ≡ number / (profile_by p).base ^ (left - n)
     → ok ≡ (profile_by p).allows (get_or cs c d) (spell (profile_by p).base n word)
-    → Given p number letters cs h (left - n) (all && ok) (c + 1)
-one_given p number letters d {cs} {h} {left} {all} {c} g l en ew eo = record {
-  within = omega arith;
-  fit = g.fit;
-  few = g.few;
+    → Given p number letters cs (left - n) (all && ok) (c + 1)
+one_given p number letters d {cs} {left} {all} {c} g l en ew eo = record {
   rest =
-      let k : c < length (take h cs) = rw (length-take-le h cs g.fit) l in
-      g.rest ∙ rw (drop-cons (take h cs) c d k, get_or-take h cs c d l, eo, ew, add-one, and_assoc)
+      g.rest ∙ rw (drop-cons cs c d l, eo, ew, add-one, and_assoc)
       (ap (λ b. all && b) (dealt (profile_by p).allows (kind_proper p).none (profile_by p).base number (get_or cs c d) _ left en));
 }
+
+module _ (t : Template) {cs : List Component} {h : ℕ} (s : cs ≡ slots t) (e : h ≡ min t.count template_components) (number letters : ℕ) where
+  pub all_given : {left : ℕ} {all : Bool} {c : ℕ} → Given t.profile number letters (take h cs) left all c → length (take h cs) ≤ c → all ≡ allowed_in (profile_of t) t letters number
+  unfolding allowed_in allowed
+  all_given {left} {all} {c} g l =
+      sym (rw (drop_of_length-le (take h cs) {i = c} l, and_true, held_slots t s e) at g.rest)

@@ -1,59 +1,53 @@
-// An inner crate: what a call refuses, each check by its number in the paper, and the orders in which the calls check. Every
-// check is total, so that an order may make all of them and keep the first that applies; but what is long is read only where
-// nothing was refused before.
+// An inner crate: what a call refuses, each check by its number in the paper, and the orders in which the calls check: one after
+// another, up to the first that applies, so that what is long is read only where nothing was refused before.
 #![tactic(auto)]
 
 pub mod spelled;
 
-ghost use Rattle.std.specs.Prelude.{◌≡◌, ℕ, ◌+◌, ltb, length};
-ghost use Rattle.checks.specs.CheckOrders.{template_checks, value_checks_before_13};
-ghost use Rattle.checks.specs.ScannedLetters.{LettersUpTo};
+ghost use Rattle.std.specs.Prelude.{◌≡◌, ℕ, ◌+◌, ◌<◌, length, IfSome};
+ghost use Rattle.checks.specs.CheckOrders.{template_checks, end_before_13, value_checks_before_13};
+ghost use Rattle.checks.specs.ScannedLetters.{LettersUpTo, told_first};
 ghost use Rattle.rules.specs.Letters.{is_letter};
 ghost use Rattle.rules.specs.Limits.{template_length};
-ghost use Rattle.rules.specs.Lists.{if, all_pass};
+ghost use Rattle.rules.specs.Lists.{all_pass};
 ghost use Rattle.rules.specs.Refusals.{◌else◌, first, first_bad, bad_byte, outside, bad_gap, check1, check2, check3, check4, check5, check6, check7, check8, check9, check12, check23, check24, set_checks, new_checks};
 ghost use Rattle.rules.specs.Saved.{meets_place_rule};
-ghost use Rattle.rules.specs.Told.{fine, refused, told_checked};
+ghost use Rattle.rules.specs.Told.{told_checked};
 
 use rules::{
-    Checked, Component, Letter, Offset, Place, RecordNumber, Refusal, Search, SequenceSet, Template,
+    Component, Letter, Offset, Place, RecordNumber, Refusal, Search, SequenceSet, Template,
 };
 use spelled::valid;
 
 // 1: no sequences, or too many.
-pub fn check_sequences(lengths: &[u32]) -> Checked
+pub fn check_sequences(lengths: &[u32]) -> Result<(), Refusal>
     ensures { told_checked result ≡ check1 lengths.now }
 {
     let n = lengths.len();
-    Checked::refuse_if(
-        (n < 1) | (SequenceSet::SEQUENCES < n),
-        Refusal::SequenceCount,
-    )
+    Refusal::SequenceCount.when((n < 1) | (SequenceSet::SEQUENCES < n))
 }
 
 // 2: too many letters in all the sequences.
-pub fn check_letters(letters: &[u8]) -> Checked
+pub fn check_letters(letters: &[u8]) -> Result<(), Refusal>
     ensures { told_checked result ≡ check2 letters.now }
 {
     let n = letters.len();
-    Checked::refuse_if(SequenceSet::LETTERS < n, Refusal::LetterCount)
+    Refusal::LetterCount.when(SequenceSet::LETTERS < n)
 }
 
 // 3: lengths that do not add up to the letters. Each is taken from what is left of the letters, so that no sum is formed.
-pub fn check_sum(letters: &[u8], lengths: &[u32]) -> Checked
+pub fn check_sum(letters: &[u8], lengths: &[u32]) -> Result<(), Refusal>
     ensures { told_checked result ≡ check3 letters.now lengths.now }
 {
     let mut left = letters.len();
-    let mut i = 0;
-    while i < lengths.len() {
-        let n = lengths[i] as usize;
+    for n in lengths {
+        let n = *n as usize;
         if left < n {
-            return Checked::Refused(Refusal::LengthSum);
+            return Err(Refusal::LengthSum);
         }
         left -= n;
-        i += 1;
     }
-    Checked::refuse_if(left != 0, Refusal::LengthSum)
+    Refusal::LengthSum.when(left != 0)
 }
 
 // Whether all bytes are letters. Every byte is looked at, also past one that is none: with no way out of the loop, many bytes
@@ -62,10 +56,8 @@ pub fn all_letters(bytes: &[u8]) -> bool
     ensures { result ≡ all_pass is_letter bytes.now }
 {
     let mut all = true;
-    let mut i = 0;
-    while i < bytes.len() {
-        all = all & Letter::is_letter(bytes[i]);
-        i += 1;
+    for b in bytes {
+        all = all & Letter::is_letter(*b);
     }
     all
 }
@@ -77,50 +69,45 @@ const BLOCK: usize = 64;
 fn pass_letters(bytes: &[u8]) -> usize
     ensures { LettersUpTo bytes.now result }
 {
-    let mut i = 0;
-    while BLOCK <= bytes.len() - i {
-        if !all_letters(&bytes[i..i + BLOCK]) {
-            return i;
+    let mut passed = 0;
+    for block in bytes.chunks_exact(BLOCK) {
+        if !all_letters(block) {
+            return passed;
         }
-        i += BLOCK;
+        passed += BLOCK;
     }
-    i
+    passed
 }
 
-// Where the first byte stands that is no letter; the end where all are letters.
-pub fn find_mark(bytes: &[u8]) -> usize
-    ensures { (o : ℕ) → first_bad 4 bad_byte o bytes.now ≡ if (ltb result (length bytes.now)) (refused 4 (o + result)) fine }
+// Where the first byte stands that is no letter, if there is one.
+pub fn find_mark(bytes: &[u8]) -> Option<usize>
+    ensures inside { IfSome result (λ i. i < length bytes.now) }
+    ensures told { (o : ℕ) → first_bad 4 bad_byte o bytes.now ≡ told_first 4 o result }
 {
-    let mut i = pass_letters(bytes);
-    while i < bytes.len() {
-        if !Letter::is_letter(bytes[i]) {
-            return i;
-        }
-        i += 1;
-    }
-    i
+    let passed = pass_letters(bytes);
+    let mark = bytes[passed..].iter().position(|b| !Letter::is_letter(*b))?;
+    Some(passed + mark)
 }
 
 // 4: the first byte that is no letter.
-pub fn check_bytes(letters: &[u8]) -> Checked
+pub fn check_bytes(letters: &[u8]) -> Result<(), Refusal>
     ensures { told_checked result ≡ check4 letters.now }
 {
     if all_letters(letters) {
-        return Checked::Fine;
+        return Ok(());
     }
-    let mark = find_mark(letters);
-    Checked::refuse_if(mark < letters.len(), Refusal::NotALetter(Offset(mark)))
+    match find_mark(letters) {
+        Some(mark) => Err(Refusal::NotALetter(Offset(mark))),
+        None => Ok(()),
+    }
 }
 
 // 5: no components, or too many.
-pub fn check_count(t: Template) -> Checked
+pub fn check_count(t: Template) -> Result<(), Refusal>
     ensures { told_checked result ≡ check5 t }
 {
     let n = t.count;
-    Checked::refuse_if(
-        (n < 1) | (Template::COMPONENTS < n),
-        Refusal::ComponentCount,
-    )
+    Refusal::ComponentCount.when((n < 1) | (Template::COMPONENTS < n))
 }
 
 // A length that no component may have.
@@ -132,82 +119,72 @@ fn bad_length(c: Component) -> bool
 }
 
 // 6: the first component with such a length.
-pub fn check_lengths(t: Template) -> Checked
+pub fn check_lengths(t: Template) -> Result<(), Refusal>
     ensures { told_checked result ≡ check6 t }
 {
-    let cs = t.components();
-    let n = t.held() as usize;
-    let mut i: usize = 0;
-    while i < n {
-        let at = (i + 1) as u8;
-        if bad_length(cs[i]) {
-            return Checked::Refused(Refusal::ComponentLength(at));
-        }
-        i += 1;
+    let slots = t.components();
+    match slots[..t.held() as usize]
+        .iter()
+        .position(|c| bad_length(*c))
+    {
+        Some(i) => Err(Refusal::ComponentLength((i + 1) as u8)),
+        None => Ok(()),
     }
-    Checked::Fine
 }
 
 // 7: too many letters in all the components, K, for the kind of search.
-pub fn check_size(t: Template) -> Checked
+pub fn check_size(t: Template) -> Result<(), Refusal>
     ensures { told_checked result ≡ check7 t }
 {
     let k = t.letters();
     let profile = t.profile;
     let most = profile.most();
-    Checked::refuse_if(most < k, Refusal::MotifLength)
+    Refusal::MotifLength.when(most < k)
 }
 
-// A gap range that component i may not have: the first has 0, 0.
-fn bad_gap(c: Component, i: u8) -> bool
-    ensures { result ≡ bad_gap i c }
+// A gap range that the component after i others may not have: the first has 0, 0.
+fn bad_gap(c: Component, i: usize) -> bool
+    ensures { result ≡ bad_gap (i + 1) c }
 {
     let low = c.low;
     let high = c.high;
-    ((high < low) | (Template::GAP < high)) | ((i == 1) & !((low == 0) & (high == 0)))
+    ((high < low) | (Template::GAP < high)) | ((i == 0) & !((low == 0) & (high == 0)))
 }
 
 // 8: the first component with such a range.
-pub fn check_gaps(t: Template) -> Checked
+pub fn check_gaps(t: Template) -> Result<(), Refusal>
     ensures { told_checked result ≡ check8 t }
 {
-    let cs = t.components();
-    let n = t.held() as usize;
-    let mut i: usize = 0;
-    while i < n {
-        let at = (i + 1) as u8;
-        if bad_gap(cs[i], at) {
-            return Checked::Refused(Refusal::GapRange(at));
-        }
-        i += 1;
+    let slots = t.components();
+    match slots[..t.held() as usize]
+        .iter()
+        .enumerate()
+        .position(|(i, c)| bad_gap(*c, i))
+    {
+        Some(i) => Err(Refusal::GapRange((i + 1) as u8)),
+        None => Ok(()),
     }
-    Checked::Fine
 }
 
 // 24: an allowance above the component's length. No component is told.
-pub fn check_allowances(t: Template) -> Checked
+pub fn check_allowances(t: Template) -> Result<(), Refusal>
     ensures { told_checked result ≡ check24 t }
 {
+    let slots = t.components();
     let profile = t.profile;
-    let cs = t.components();
-    let n = t.held() as usize;
-    let mut i: usize = 0;
-    while i < n {
-        let c = cs[i];
-        if c.length < c.allowance_in(profile) {
-            return Checked::Refused(Refusal::Allowance);
-        }
-        i += 1;
-    }
-    Checked::Fine
+    Refusal::Allowance.when(
+        slots[..t.held() as usize]
+            .iter()
+            .any(|c| c.length < c.allowance_in(profile)),
+    )
 }
 
 // 9: a quorum of 0, or above the number of sequences.
-pub fn check_quorum(lengths: &[u32], quorum: u64) -> Checked
+pub fn check_quorum(lengths: &[u32], quorum: u64) -> Result<(), Refusal>
     ensures { told_checked result ≡ check9 lengths.now quorum }
 {
     let n = lengths.len() as u64;
-    Checked::refuse_if((quorum < 1) | (n < quorum), Refusal::Quorum)
+    Refusal::Quorum.when((quorum < 1) | (n < quorum))
 }
 
 // The place rule: a place is 0 to K, and its number is that of so many letters.
@@ -219,84 +196,78 @@ pub fn place_rule(t: Template, p: Place) -> bool
 }
 
 // 23: a place that breaks its rule. Its record comes after the size record and those of the components.
-pub fn check_place(s: Search) -> Checked
+pub fn check_place(s: Search) -> Result<(), Refusal>
     ensures { told_checked result ≡ check23 s }
 {
     let t = s.template;
     let at = t.count as u32 + 1;
-    Checked::refuse_if(
-        !place_rule(t, s.place),
-        Refusal::PlaceRule(RecordNumber(at)),
-    )
+    Refusal::PlaceRule(RecordNumber(at)).when(!place_rule(t, s.place))
 }
 
 // 12: a search over other sequences than the lent ones.
-pub fn check_same_set(letters: &[u8], lengths: &[u32], s: Search) -> Checked
+pub fn check_same_set(letters: &[u8], lengths: &[u32], s: Search) -> Result<(), Refusal>
     ensures { told_checked result ≡ check12 letters.now lengths.now s }
 {
     let set = s.set;
     let n = set.sequences as usize;
     let m = set.letters as usize;
-    Checked::refuse_if(
-        !((n == lengths.len()) & (m == letters.len())),
-        Refusal::OtherSet,
-    )
+    Refusal::OtherSet.when(!((n == lengths.len()) & (m == letters.len())))
 }
 
-// 3 and 4. No letter is read where the lengths do not add up.
-fn check_contents(letters: &[u8], lengths: &[u32]) -> Checked
-    ensures { told_checked result ≡ ◌else◌ (check3 letters.now lengths.now) (check4 letters.now) }
-{
-    let sum = check_sum(letters, lengths);
-    match sum {
-        Checked::Refused(why) => Checked::Refused(why),
-        Checked::Fine => check_bytes(letters),
-    }
-}
-
-// 1 to 4: the checks of the sequences. No length and no letter is read where there are too many of either.
-pub fn check_set(letters: &[u8], lengths: &[u32]) -> Checked
+// 1 to 4: the checks of the sequences. No length and no letter is read where there are too many of either, and no letter where the
+// lengths do not add up.
+#[tactic(auto, using(rules::proofs::Verdicts::in_turn), unfolding(rules::specs::Refusals::first))]
+pub fn check_set(letters: &[u8], lengths: &[u32]) -> Result<(), Refusal>
     ensures { told_checked result ≡ first (set_checks letters.now lengths.now) }
 {
-    let counts = check_sequences(lengths).then(check_letters(letters));
-    match counts {
-        Checked::Refused(why) => Checked::Refused(why),
-        Checked::Fine => check_contents(letters, lengths),
-    }
+    check_sequences(lengths)?;
+    check_letters(letters)?;
+    check_sum(letters, lengths)?;
+    check_bytes(letters)
 }
 
 // 5 to 8 and 24: the checks of a template.
-pub fn check_template(t: Template) -> Checked
+#[tactic(auto, using(rules::proofs::Verdicts::in_turn), unfolding(rules::specs::Refusals::first))]
+pub fn check_template(t: Template) -> Result<(), Refusal>
     ensures { told_checked result ≡ first (template_checks t) }
 {
-    check_count(t)
-        .then(check_lengths(t))
-        .then(check_size(t))
-        .then(check_gaps(t))
-        .then(check_allowances(t))
+    check_count(t)?;
+    check_lengths(t)?;
+    check_size(t)?;
+    check_gaps(t)?;
+    check_allowances(t)
 }
 
 // 1 to 8, 24 and 9: the checks of a new search.
-pub fn check_new(letters: &[u8], lengths: &[u32], t: Template, quorum: u64) -> Checked
+#[tactic(auto, using(rules::proofs::Verdicts::in_turn, crate::proofs::Laws::new_in_turn))]
+pub fn check_new(letters: &[u8], lengths: &[u32], t: Template, quorum: u64) -> Result<(), Refusal>
     ensures { told_checked result ≡ first (new_checks letters.now lengths.now t quorum) }
 {
-    check_set(letters, lengths)
-        .then(check_template(t))
-        .then(check_quorum(lengths, quorum))
+    check_set(letters, lengths)?;
+    check_template(t)?;
+    check_quorum(lengths, quorum)
+}
+
+// 23, 6, 7, 8, 24, 12, 9: those of a search value whose number of components is in order, before 13.
+#[tactic(auto, using(rules::proofs::Verdicts::in_turn), unfolding(rules::specs::Refusals::first))]
+pub fn check_end(letters: &[u8], lengths: &[u32], s: Search) -> Result<(), Refusal>
+    ensures { told_checked result ≡ first (end_before_13 letters.now lengths.now s) }
+{
+    let t = s.template;
+    check_place(s)?;
+    check_lengths(t)?;
+    check_size(t)?;
+    check_gaps(t)?;
+    check_allowances(t)?;
+    check_same_set(letters, lengths, s)?;
+    check_quorum(lengths, s.quorum)
 }
 
 // 5, 23, 6, 7, 8, 24, 12, 9: those of a search value, before 13.
-pub fn check_value(letters: &[u8], lengths: &[u32], s: Search) -> Checked
+#[tactic(auto, using(rules::proofs::Verdicts::in_turn), unfolding(rules::specs::Refusals::first))]
+pub fn check_value(letters: &[u8], lengths: &[u32], s: Search) -> Result<(), Refusal>
     ensures { told_checked result ≡ first (value_checks_before_13 letters.now lengths.now s) }
 {
-    let t = s.template;
-    let quorum = s.quorum;
-    check_count(t)
-        .then(check_place(s))
-        .then(check_lengths(t))
-        .then(check_size(t))
-        .then(check_gaps(t))
-        .then(check_allowances(t))
-        .then(check_same_set(letters, lengths, s))
-        .then(check_quorum(lengths, quorum))
+    check_count(s.template)?;
+    check_end(letters, lengths, s)
 }

@@ -1,24 +1,18 @@
 // Whether a number is that of so many letters that a template allows: the motifs and prefixes of its kind of search.
-ghost use Rattle.std.specs.Prelude.{◌≡◌, ◌^◌, min, ltb};
+ghost use Rattle.std.specs.Prelude.{◌≡◌, ◌^◌, ltb};
 ghost use Rattle.rules.specs.Limits.{letter_digits};
 ghost use Rattle.rules.specs.Motif.{spell};
 ghost use Rattle.rules.specs.Profile.{within, profile_by, profile_of};
 ghost use Rattle.rules.specs.Support.{allowed_in, valid};
 
-use rules::{Component, Letter, Profile, Template, least};
+use rules::{Component, Letter, Profile, Template};
 
-// A number that so many letters can spell: it lies below the base to the power of them. That power is never formed; the number is divided
-// by the base once for each letter, and must come to nothing.
+// A number that so many letters can spell: it lies below the base to the power of them. That power is never formed; without so many
+// letters nothing may be left of the number.
 fn spelled_by(profile: Profile, number: u64, letters: u32) -> bool
     ensures { result ≡ ltb number ((profile_by profile).base ^ letters) }
 {
-    let mut x = number;
-    let mut j = letters;
-    while 0 < j {
-        x = profile.shorter(x);
-        j -= 1;
-    }
-    x == 0
+    profile.prefix(number, letters) == 0
 }
 
 // Whether the last n letters of a number may be a component's, in a mixed search: each is one of the fourteen, and no more of them than the
@@ -28,14 +22,11 @@ fn mixed_allows(c: Component, number: u64, n: u32) -> bool
 {
     let mut rest = number;
     let mut all = true;
-    let mut i: u32 = 0;
-    while i < n {
+    for _ in 0..n {
         all = all & (rest % Letter::DIGITS < Letter::SYMBOLS);
         rest = rest / Letter::DIGITS;
-        i += 1;
     }
-    let most = c.allowance as u32;
-    all & (Letter::several(number, n) <= most)
+    all & (Letter::several(number, n) <= c.allowance as u32)
 }
 
 // The same by the kind of search: an exact one allows every letter.
@@ -48,30 +39,20 @@ fn component_allows(profile: Profile, c: Component, number: u64, n: u32) -> bool
     }
 }
 
-// How many of the letters that are left a component gets: as many as it has, or all of them if there are fewer.
-fn share(c: Component, left: u32) -> u32
-    ensures { result ≡ min c.length left }
-{
-    least(c.length as usize, left as usize) as u32
-}
-
 // Whether so many letters of a number are allowed: dealt out to the components in turn, the last one cut short, they may be theirs.
 fn allowed(t: Template, letters: u32, number: u64) -> bool
     ensures { result ≡ allowed_in (profile_of t) t letters number }
 {
+    let slots = t.components();
     let profile = t.profile;
-    let cs = t.components();
-    let count = t.held() as usize;
     let mut left = letters;
     let mut all = true;
-    let mut c: usize = 0;
-    while c < count {
-        let here = cs[c];
-        let n = share(here, left);
+    for c in &slots[..t.held() as usize] {
+        // as many as it has, or all that are left if there are fewer
+        let n = (c.length as u32).min(left);
         left -= n;
         let word = profile.prefix(number, left);
-        all = all & component_allows(profile, here, word, n);
-        c += 1;
+        all = all & component_allows(profile, *c, word, n);
     }
     all
 }

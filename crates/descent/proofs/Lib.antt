@@ -2,5 +2,5 @@
 pub mod Parts
 pub mod Buffer
 pub mod Paths
-pub mod Descent
+pub mod StartByStart
 pub mod RightFlags

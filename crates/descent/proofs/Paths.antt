@@ -1,17 +1,16 @@
 -- Reading starts off the flags, step by step: without a flag there is nothing, with one the start alone or all later starts
 -- under it; and one position after the other, up to the end of the range or of the sequence.
-use mathlib.Core.Path.{◌≡◌, refl, sym, ap, ◌∙◌}
+use mathlib.Core.Path.{◌≡◌, refl, ap}
 use mathlib.Core.Bool.{Bool, true, false}
 use mathlib.Core.List.{List, [], ◌∷◌, map, append-nil}
 use Prim.Native.Nat.{ℕ, zero, suc, min, ◌+◌, ◌-◌, ◌*◌, ◌≤◌, ◌<◌}
-use native.Mathlib.Nat.{add-zero, sub-zero, zero-sub, sub_self}
 use native.Mathlib.Numerals.{add-one}
 use native.Mathlib.Omega.{arith}
-use lib.Dec.{ltb, eqb}
+use lib.Dec.{ltb}
 use lib.ListN.{length, take, get_or}
 use borrow.Author.Tests.{le-leb, lt-leb, ltb-true, ltb-false}
 use Rattle.descent.specs.Buffer.{Buffer, emits, with_front}
-use Rattle.descent.specs.Paths.{flag, Unflagged, paths, handed}
+use Rattle.descent.specs.Paths.{flag, paths, handed}
 use Rattle.descent.proofs.Buffer.{emits_append, with_front_none, with_front_append}
 use Rattle.rules.specs.Limits.{sequence_set_letters}
 use Rattle.rules.specs.Lists.{run, each}
@@ -22,9 +21,9 @@ use Rattle.rules.proofs.Lists.{each_append, run_append}
 
 -- ---- flags
 
-module _ (n : ℕ) (flags : List ℕ) (c p : ℕ) where
+module _ (n : ℕ) (flags : List Bool) (c p : ℕ) where
   -- of a position that the sequence has
-  pub flag_in : 1 ≤ p → p ≤ n → flag n flags c p ≡ eqb (get_or flags (c * sequence_set_letters + (p - 1)) 0) 1
+  pub flag_in : 1 ≤ p → p ≤ n → flag n flags c p ≡ get_or flags (c * sequence_set_letters + (p - 1)) false
   unfolding flag
   flag_in h l = rw (le-leb 1 p h, le-leb p n l)
 
@@ -54,40 +53,22 @@ module _ (n : ℕ) (flags : List ℕ) (c p : ℕ) where
   unfolding paths
   paths_more x y zs q r e = rw (q, r, e)
 
--- one position more without a flag
-pub unflagged_more : (n : ℕ) (flags : List ℕ) (c a q : ℕ) → Unflagged n flags c a q → flag n flags c q ≡ false → Unflagged n flags c a (q + 1)
-unflagged_more n flags c a q h e p l k = go (ltb p q) refl
-  where
-    go : (b : Bool) → ltb p q ≡ b → flag n flags c p ≡ false
-    go true t = h p l (ltb-true p q t)
-    go false t = let z : p ≡ q = omega (arith, ltb-false) in rw z e
-
--- the next k positions may be passed over if they have none
-each_unflagged : (n : ℕ) (flags : List ℕ) (xs : List Component) (c k q m : ℕ) → Unflagged n flags c q (q + k)
-    → each (paths n flags xs c) (run q m) ≡ each (paths n flags xs c) (run (q + k) (m - k))
-unfolding each run
-each_unflagged n flags xs c zero q m u = rw (add-zero q, sub-zero m)
-each_unflagged n flags xs c (suc k) q zero u = rw (zero-sub (suc k))
-each_unflagged n flags xs c (suc k) q (suc m) u =
-    let e : q + suc k ≡ suc q + k = omega arith in
-    let l : suc m - suc k ≡ m - k = omega arith in
-    rw (paths_closed n flags c q xs (u q (omega arith) (omega arith)), e, l) (each_unflagged n flags xs c k (suc q) m (λ p h j. u p (omega arith) (omega arith)))
-
 -- past the end of the sequence there is nothing
-each_past : (n : ℕ) (flags : List ℕ) (xs : List Component) (c q m : ℕ) → n < q → each (paths n flags xs c) (run q m) ≡ []
+each_past : (n : ℕ) (flags : List Bool) (xs : List Component) (c q m : ℕ) → n < q → each (paths n flags xs c) (run q m) ≡ []
 unfolding each run
-each_past n flags xs c q m h = each_unflagged n flags xs c m q m (λ p l k. flag_past n flags c p (omega arith)) ∙ rw (sub_self m)
+each_past n flags xs c q zero h = refl
+each_past n flags xs c q (suc m) h = rw (paths_closed n flags c q xs (flag_past n flags c q h)) (each_past n flags xs c (suc q) m (omega arith))
 
 -- so those past it may be left out
-each_within : (n : ℕ) (flags : List ℕ) (xs : List Component) (c q k m : ℕ) → n < q + k → each (paths n flags xs c) (run q k) ≡ each (paths n flags xs c) (run q (k + m))
+each_within : (n : ℕ) (flags : List Bool) (xs : List Component) (c q k m : ℕ) → n < q + k → each (paths n flags xs c) (run q k) ≡ each (paths n flags xs c) (run q (k + m))
 each_within n flags xs c q k m h =
     rw (← (run_append q k m), each_append (paths n flags xs c) (run q k) (run (q + k) m), each_past n flags xs c (q + k) m h, append-nil (each (paths n flags xs c) (run q k)))
 
 -- ---- one start after the other
 
-module _ (xs : List Component) (n : ℕ) (flags row : List ℕ) (c : ℕ) where
+module _ (xs : List Component) (n : ℕ) (flags : List Bool) (row : List ℕ) (c : ℕ) where
   -- first those under q
-  handed_on : (q e : ℕ) (s : Buffer) → q < e → handed xs n flags row c q e s ≡ handed xs n flags row c (q + 1) e (handed xs n flags row c q (q + 1) s)
+  pub handed_on : (q e : ℕ) (s : Buffer) → q < e → handed xs n flags row c q e s ≡ handed xs n flags row c (q + 1) e (handed xs n flags row c q (q + 1) s)
   unfolding handed each run
   handed_on q e s h =
       let k : e - q ≡ suc (e - (q + 1)) = omega arith in
@@ -95,18 +76,12 @@ module _ (xs : List Component) (n : ℕ) (flags row : List ℕ) (c : ℕ) where
       rw (k, one, add-one q, append-nil (paths n flags xs c q), with_front_append (take (suc c) row) (paths n flags xs c q) (each (paths n flags xs c) (run (suc q) (e - suc q))))
       (emits_append _ (with_front (take (suc c) row) (paths n flags xs c q)) (with_front (take (suc c) row) (each (paths n flags xs c) (run (suc q) (e - suc q)))) s)
 
-  -- those without a flag may be passed over
-  pub handed_past : (q r e : ℕ) (s : Buffer) → (q ≤ r) × Unflagged n flags c q r → handed xs n flags row c q e s ≡ handed xs n flags row c r e s
-  unfolding handed
-  handed_past q r e s h =
-      let k : q + (r - q) ≡ r = omega arith in
-      let m : e - q - (r - q) ≡ e - r = omega arith in
-      ap (λ l. emits (suc (c + length xs)) (with_front (take (suc c) row) l) s) (each_unflagged n flags xs c (r - q) q (e - q) (λ p l j. h.1 p l (omega arith)) ∙ rw (k, m))
-
-  -- so after the turn at q, with r the next that has one, there is as much left to do
-  pub handed_again : (q r e : ℕ) (s : Buffer) {s' x : Buffer} → q < e → (q + 1 ≤ r) × Unflagged n flags c (q + 1) r
-      → s' ≡ handed xs n flags row c q (q + 1) s → handed xs n flags row c q e s ≡ x → handed xs n flags row c r e s' ≡ x
-  handed_again q r e s h u k z = rw k (sym (handed_past (q + 1) r e _ u) ∙ sym (handed_on q e s h) ∙ z)
+  -- and there are none without a flag
+  pub handed_past : (q e : ℕ) (s : Buffer) → q < e → flag n flags c q ≡ false → handed xs n flags row c (q + 1) e s ≡ handed xs n flags row c q e s
+  unfolding handed each run
+  handed_past q e s h f =
+      let k : e - q ≡ suc (e - (q + 1)) = omega arith in
+      rw (k, paths_closed n flags c q xs f, add-one q)
 
   -- at the end nothing is left
   pub handed_done : (q e : ℕ) (s : Buffer) → e ≤ q → handed xs n flags row c q e s ≡ s

@@ -77,7 +77,7 @@ unfolding has_some
 same_if true l e = rw e (kept_some l)
 same_if false l e = rw e
 
-module _ (s flags : List ℕ) where
+module _ (s : List ℕ) (flags : List Bool) where
   Said : List Part → ℕ → Type 0
   Said cs c = (i : ℕ) → i < length cs → (p : ℕ) → 1 ≤ p → p ≤ length s → flag (length s) flags (c + i) p ≡ has_some (starts (drop i cs) s p)
 
@@ -124,7 +124,7 @@ module _ {t : Template} (sound : SoundTemplate t) (m : ℕ) where
   pub parts_count : length (parts t (size t) m) ≡ t.count
   parts_count = shaped_length 0 (components t) (parts t (size t) m) parts_shaped ∙ components_length t sound.few
 
-  module _ (s flags : List ℕ) (flagged : Flagged (parts t (size t) m) s flags 0) where
+  module _ (s : List ℕ) (flags : List Bool) (flagged : Flagged (parts t (size t) m) s flags 0) where
     -- under each first start stand the occurrences that begin there
     pub paths_are : (p : ℕ) → paths (length s) flags (components t) 0 p ≡ starts (parts t (size t) m) s p
     unfolding Said

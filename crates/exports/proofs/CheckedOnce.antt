@@ -34,19 +34,19 @@ module _ (letters lengths : List ℕ) (t : Template) (quorum : ℕ) where
   begun_sound fine s e = (begins letters lengths t quorum s e).sound
   begun_sound (refused n p) s e = let z : ◌≡◌ {A = ℕ} 0 1 = cc in absurd (omega arith)
 
-  module _ (v : Verdict) {b : Told Search} (f : b ≡ on_refusal v refuses (begin_rule letters lengths t quorum)) where
-    -- so its template is sound,
-    pub begun_template : (s : Search) → b ≡ gives s → SoundTemplate s.template
-    begun_template s e = (begun_sound v s (sym f ∙ e)).template
+  -- so its template is sound,
+  pub begun_template : (s : Search) → gives s ≡ begin_rule letters lengths t quorum → SoundTemplate s.template
+  begun_template s e = (begun_sound fine s (sym e)).template
 
-    -- and a save of it checks the room alone
-    pub begun_written : (out : List ℕ) → write_begun b out ≡ save_begun letters lengths b out
-    unfolding save_begun
-    begun_written out = go b refl
-      where
-        go : (c : Told Search) → b ≡ c → write_begun c out ≡ save_begun letters lengths c out
-        go (gives s) e = sym (save_told letters lengths s out (sym (search_fine letters lengths s (begun_sound v s (sym f ∙ e)))))
-        go (refuses n p) e = refl
+  -- and a save of it checks the room alone
+  pub begun_written : (v : Verdict) (out : List ℕ)
+      → write_begun (on_refusal v refuses (begin_rule letters lengths t quorum)) out ≡ save_begun letters lengths (on_refusal v refuses (begin_rule letters lengths t quorum)) out
+  unfolding save_begun
+  begun_written v out = go (on_refusal v refuses (begin_rule letters lengths t quorum)) refl
+    where
+      go : (c : Told Search) → on_refusal v refuses (begin_rule letters lengths t quorum) ≡ c → write_begun c out ≡ save_begun letters lengths c out
+      go (gives s) e = sym (save_told letters lengths s out ∙ rw (search_fine letters lengths s (begun_sound v s e)))
+      go (refuses n p) e = refl
 
 -- LEG
 module _ (letters lengths bs : List ℕ) (s : Search) (e : gives s ≡ read_rule letters lengths bs) where

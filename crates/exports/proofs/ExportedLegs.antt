@@ -9,7 +9,9 @@ use lib.Dec.{eqb}
 use lib.ListN.{length, take, length-map}
 use borrow.Author.Tests.{eqb-true, eqb-false}
 use Rattle.rules.specs.Calls.{begun, stretch, begin_rule, LegRule, leg_rule, save_rule, restore_rule}
-use Rattle.rules.specs.Legs.{Stop, ended, spent, full, is_ended, leg}
+use Rattle.rules.specs.Legs.{is_ended, leg}
+use Rattle.rules.specs.declared.Stop.{Stop}
+use Rattle.rules.specs.declared.Stop.TheVariants.{Ended, Spent, Full}
 use Rattle.rules.specs.Lists.{if, each, sum}
 use Rattle.rules.specs.Refusals.{first, check17, new_checks, search_checks, save_checks}
 use Rattle.rules.specs.Relay.{whole_steps, Lent, Roomy, Ample, Relayed, stand, followed, relay}
@@ -45,23 +47,23 @@ record Same (k : ℕ) (os : List LegOutcome) (r : Relayed) : Type 0 where
   motifs_are : rows_in (λ o. o.motifs) os ≡ r.motifs
   supports_are : rows_in (λ o. o.supports) os ≡ r.supports
   weights_are : rows_in (λ o. o.weights) os ≡ r.weights
-  ended_too : one_ended os ≡ true → r.answer ≡ gives ended
-  ends_too : (k ≡ 0 → ⊥) → r.answer ≡ gives ended → one_ended os ≡ true
+  ended_too : one_ended os ≡ true → r.answer ≡ gives Ended
+  ends_too : (k ≡ 0 → ⊥) → r.answer ≡ gives Ended → one_ended os ≡ true
 
 -- what says that it ended, did
-gives_ended : (st : Stop) → gives st ≡ gives ended → is_ended st ≡ true
-gives_ended st e = let q : st ≡ ended = cc in rw q
+gives_ended : (st : Stop) → gives st ≡ gives Ended → is_ended st ≡ true
+gives_ended st e = let q : st ≡ Ended = cc in rw q
 
 same_as : {k : ℕ} {os ps : List LegOutcome} {r u : Relayed} → os ≡ ps → r ≡ u → Same k ps u → Same k os r
 same_as e f m = rw (e, f) m
 
 -- no leg: a search has not ended if its place has letters
-still_there : (k : ℕ) → (k ≡ 0 → ⊥) → gives (if (eqb k 0) ended spent) ≡ gives ended → ⊥
+still_there : (k : ℕ) → (k ≡ 0 → ⊥) → gives (if (eqb k 0) Ended Spent) ≡ gives Ended → ⊥
 still_there k z = go (eqb k 0) refl
   where
-    go : (b : Bool) → eqb k 0 ≡ b → gives (if b ended spent) ≡ gives ended → ⊥
+    go : (b : Bool) → eqb k 0 ≡ b → gives (if b Ended Spent) ≡ gives Ended → ⊥
     go true e q = z (eqb-true k 0 e)
-    go false e q = false≢true (gives_ended spent q)
+    go false e q = false≢true (gives_ended Spent q)
 
 same_none : (s : Search) → Same s.place.letters [] (stand s)
 unfolding steps_in rows_in one_ended each sum
@@ -101,7 +103,7 @@ module _ (steps rows : ℕ) (saved motifs supports weights : List ℕ) where
     same_on : (st : Stop) → is_ended st ≡ eqb j 0
         → Same k (exported st ∷ if (eqb (stop_number st) 1) [] os) (if (is_ended st) (inner st) (followed (inner st) r))
     unfolding steps_in rows_in one_ended each sum
-    same_on ended e =
+    same_on Ended e =
         record {
           answered = (refl, tt);
           steps_are = omega arith;
@@ -111,8 +113,8 @@ module _ (steps rows : ℕ) (saved motifs supports weights : List ℕ) where
           ended_too = λ h. refl;
           ends_too = λ z q. refl;
         }
-    same_on spent e = same_more spent refl (eqb-false j 0 (sym e))
-    same_on full e = same_more full refl (eqb-false j 0 (sym e))
+    same_on Spent e = same_more Spent refl (eqb-false j 0 (sym e))
+    same_on Full e = same_more Full refl (eqb-false j 0 (sym e))
 
 module _ (letters lengths buffer : List ℕ) where
   -- what a leg of the relay is lent
@@ -165,9 +167,9 @@ module _ (letters lengths buffer : List ℕ) where
         → let i = inner rule.told.steps rule.told.rows (bytes left) rule.motifs rule.supports rule.weights st in
         relay letters lengths (lent g ∷ gs) s ≡ if (is_ended st) i (followed i (relay letters lengths gs left))
     unfolding relay save_rule
-    relay_is gs ended q = rw q
-    relay_is gs spent q = rw (q, left_saves, put_front (length (bytes left)) (bytes left) buffer refl, left_restores)
-    relay_is gs full q = rw (q, left_saves, put_front (length (bytes left)) (bytes left) buffer refl, left_restores)
+    relay_is gs Ended q = rw q
+    relay_is gs Spent q = rw (q, left_saves, put_front (length (bytes left)) (bytes left) buffer refl, left_restores)
+    relay_is gs Full q = rw (q, left_saves, put_front (length (bytes left)) (bytes left) buffer refl, left_restores)
 
   relay_none : (s : Search) → relay letters lengths [] s ≡ stand s
   unfolding relay

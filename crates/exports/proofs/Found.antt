@@ -15,7 +15,6 @@ use Rattle.rules.specs.Refusals.{first}
 use Rattle.rules.specs.Told.{Verdict, fine, refused, Told, refuses, Handing}
 use Rattle.rules.proofs.Tests.{neither}
 use Rattle.rules.proofs.Verdicts.{first_cons, refuse_if_fine}
-use Rattle.exports.specs.Exported.{fasta_of, fasta_outcome}
 use Rattle.exports.specs.Numbers.{found_told}
 use Rattle.exports.specs.declared.told.Found.{Found}
 
@@ -50,11 +49,3 @@ module _ (file : List ℕ) (at : ℕ) (letters : List ℕ) (used : ℕ) (lengths
   -- the same of what a call found
   pub found_moves : {f : Found} {t : Told Handing} → f ≡ found_told t → t ≡ (reader_rule file at letters used lengths count).told → Moves f
   found_moves e q = rw (e, q) moves
-
-  -- and what the exported call comes to
-  pub found_outcome : {f : Found} {t : Told Handing} {next : ℕ} {ls ns : List ℕ} → let r = reader_rule file at letters used lengths count in
-      f ≡ found_told t → (t ≡ r.told) × ((next ≡ r.at) × ((ls ≡ r.letters) × (ns ≡ r.lengths)))
-      → fasta_of f.number f.place f.found f.name_start f.name_end next (used + f.letters) (count + f.found) ls ns
-      ≡ fasta_outcome file letters lengths at used count
-  unfolding fasta_outcome
-  found_outcome e h = rw (e, h.0, h.1.0, h.1.1.0, h.1.1.1)

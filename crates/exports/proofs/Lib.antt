@@ -2,7 +2,6 @@
 -- comes to; the others serve the proofs.
 pub mod Filling
 pub mod Found
-pub mod Outcomes
 pub mod Resaved
 pub mod CheckedOnce
 pub mod Shapes

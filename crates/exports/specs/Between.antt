@@ -2,7 +2,7 @@
 use Rattle.std.specs.Prelude.{List, ℕ}
 use Rattle.records.specs.ReadWrite.{write_rule}
 use Rattle.rules.specs.Calls.{Written}
-use Rattle.rules.specs.Legs.{Stop}
+use Rattle.rules.specs.declared.Stop.{Stop}
 use Rattle.rules.specs.Told.{Told, refuses}
 use Rattle.rules.specs.declared.Search.{Search}
 use Rattle.exports.specs.Exported.{on_told}

@@ -1,9 +1,11 @@
 -- What a call tells, as numbers: 0 and 0 for an answer, and else the refusal's number and place, with counts of 0.
 use Rattle.std.specs.Prelude.{ℕ}
-use Rattle.rules.specs.Legs.{Stop, ended, spent, full}
+use Rattle.rules.specs.declared.Stop.{Stop}
+use Rattle.rules.specs.declared.Stop.TheVariants.{Ended, Spent, Full}
 use Rattle.rules.specs.Profile.{profile_number}
-use Rattle.rules.specs.Told.{Told, gives, refuses, Counts, LegTold, Handing, entry, no_entry}
+use Rattle.rules.specs.Told.{Told, gives, refuses, LegTold, Handing, entry, no_entry}
 use Rattle.rules.specs.declared.Search.{Search}
+use Rattle.rules.specs.declared.Recovered.{Recovered}
 use Rattle.exports.specs.declared.told.Count.{Count}
 use Rattle.exports.specs.declared.told.Found.{Found}
 use Rattle.exports.specs.declared.told.Page.{Page}
@@ -26,9 +28,9 @@ number_given f (refuses n p) = 0
 
 -- why a leg stopped
 abbrev pub stop_number : Stop → ℕ
-stop_number ended = 1
-stop_number spent = 2
-stop_number full = 3
+stop_number Ended = 1
+stop_number Spent = 2
+stop_number Full = 3
 
 -- a save's bytes, or a join's positions
 abbrev pub count_answer : ℕ → ℕ → ℕ → Count
@@ -41,7 +43,7 @@ count_told t = count_answer (refusal_number_told t) (refusal_place_told t) (numb
 abbrev pub page_answer : ℕ → ℕ → ℕ → ℕ → Page
 page_answer n p rows length = record { number = n; place = p; rows = rows; length = length }
 
-unfoldable pub page_told : Told Counts → Page
+unfoldable pub page_told : Told Recovered → Page
 page_told t = page_answer (refusal_number_told t) (refusal_place_told t) (number_given (λ c. c.rows) t) (number_given (λ c. c.length) t)
 
 -- why a leg stopped, its steps and its rows

@@ -16,6 +16,7 @@ use rules::{Place, Search, SequenceSet};
 use told::{Count, Found, Page, Restored};
 
 // A new search, saved to `saved`; `size` is the save's length.
+#[tactic(auto, using(crate::proofs::CheckedOnce::begun_written), unfolding(crate::specs::Exported::begin_outcome))]
 #[unsafe(no_mangle)]
 pub extern "C" fn tulfasheq_begin(
     letters: &[u8],
@@ -32,10 +33,7 @@ pub extern "C" fn tulfasheq_begin(
     ensures { outcome (count_answer result place.new size.new) saved.new ≡ begin_outcome letters.now lengths.now profile components shape.now allowances.now quorum saved.old }
 {
     let t = shape::read(profile, components, shape, allowances);
-    let checked = chain::check_profile(letters, lengths, profile, t);
-    let begun = chain::begin(letters, lengths, checked, t, quorum);
-    let answer = chain::save_begun(begun, saved);
-    let told = Count::saved(answer);
+    let told = Count::from(chain::begin(letters, lengths, profile, t, quorum, saved));
     *place = told.place;
     *size = told.count;
     told.number
@@ -59,10 +57,7 @@ pub extern "C" fn tulfasheq_leg(
 ) -> u64
     ensures { leg_of (stopped_answer result place.new stop.new steps.new rows.new) saved.new motifs.new supports.new weights.new ≡ leg_outcome letters.now lengths.now saved.old budget motifs.old supports.old weights.old }
 {
-    let read = records::read_saved(letters, lengths, saved);
-    let told = chain::leg(
-        letters, lengths, read, budget, saved, motifs, supports, weights,
-    );
+    let told = chain::leg(letters, lengths, budget, saved, motifs, supports, weights);
     *place = told.place;
     *stop = told.stop;
     *steps = told.steps;
@@ -72,6 +67,7 @@ pub extern "C" fn tulfasheq_leg(
 
 // The search that `saved` holds: its template, with its profile and allowances, its quorum, the size of its set, and the letters and
 // number of its next candidate.
+#[tactic(auto, unfolding(crate::specs::Exported::restore_outcome))]
 #[unsafe(no_mangle)]
 pub extern "C" fn tulfasheq_restore(
     letters: &[u8],
@@ -91,7 +87,7 @@ pub extern "C" fn tulfasheq_restore(
     ensures { restore_of (restored_answer result place.new profile.new components.new quorum.new sequences.new total.new next_letters.new next_number.new) shape.new allowances.new ≡ restore_outcome letters.now lengths.now saved.now shape.old allowances.old }
 {
     let answer = saved::restore(letters, lengths, saved);
-    let told = Restored::begun(answer);
+    let told = Restored::from(answer);
     chain::write(answer, shape, allowances);
     *place = told.place;
     *profile = told.profile;
@@ -105,6 +101,7 @@ pub extern "C" fn tulfasheq_restore(
 }
 
 // A search of these numbers, saved to `out`; `size` is the save's length.
+#[tactic(auto, unfolding(crate::specs::Exported::save_outcome))]
 #[unsafe(no_mangle)]
 pub extern "C" fn tulfasheq_save(
     letters: &[u8],
@@ -125,11 +122,10 @@ pub extern "C" fn tulfasheq_save(
     ensures { outcome (count_answer result place.new size.new) out.new ≡ save_outcome letters.now lengths.now profile (search_of profile components shape.now allowances.now quorum sequences total next_letters next_number) out.old }
 {
     let template = shape::read(profile, components, shape, allowances);
-    let checked = chain::check_profile(letters, lengths, profile, template);
     let set = SequenceSet::new(sequences, total);
     let next = Place::new(next_letters, next_number);
     let search = Search::new(template, quorum, set, next);
-    let told = Count::saved(chain::save(letters, lengths, checked, search, out));
+    let told = Count::from(chain::save(letters, lengths, profile, search, out));
     *place = told.place;
     *size = told.count;
     told.number
@@ -137,6 +133,7 @@ pub extern "C" fn tulfasheq_save(
 
 // The occurrences of a motif, from row `first` of their list on: rows of a sequence's number and a start for each component.
 // `rows` is how many were written to `out`, `length` how many the list has.
+#[tactic(auto, unfolding(crate::specs::Exported::recover_outcome))]
 #[unsafe(no_mangle)]
 pub extern "C" fn tulfasheq_recover(
     letters: &[u8],
@@ -155,8 +152,7 @@ pub extern "C" fn tulfasheq_recover(
     ensures { outcome (page_answer result place.new rows.new length.new) out.new ≡ recover_outcome letters.now lengths.now profile components shape.now allowances.now motif first out.old }
 {
     let t = shape::read(profile, components, shape, allowances);
-    let checked = chain::check_profile(letters, lengths, profile, t);
-    let told = Page::recovered(chain::recover(letters, lengths, checked, t, motif, first, out));
+    let told = Page::from(chain::recover(letters, lengths, profile, t, motif, first, out));
     *place = told.place;
     *rows = told.rows;
     *length = told.length;
@@ -165,6 +161,7 @@ pub extern "C" fn tulfasheq_recover(
 
 // The positions of `first` that have a partner in `second`, one that starts after a head of so many letters and a gap of `low` to
 // `high`. `kept` is how many were written to `out`.
+#[tactic(auto, unfolding(crate::specs::Exported::join_outcome))]
 #[unsafe(no_mangle)]
 pub extern "C" fn tulfasheq_join(
     first: &[u32],
@@ -178,7 +175,7 @@ pub extern "C" fn tulfasheq_join(
 ) -> u64
     ensures { outcome (count_answer result place.new kept.new) out.new ≡ join_outcome first.now second.now head low high out.old }
 {
-    let told = Count::joined(joins::join(first, second, head, low, high, out));
+    let told = Count::from(joins::join(first, second, head, low, high, out));
     *place = told.place;
     *kept = told.count;
     told.number
@@ -187,6 +184,7 @@ pub extern "C" fn tulfasheq_join(
 // The next record of a FASTA file from the cursor `at` on: its letters go to `letters` behind the `used` that it holds, their
 // number to `lengths` behind its `count` rows, and the three move on past them. `found` is 1, and the name is the file's part from
 // `name_start` to `name_end`. Where no record is left, `found` is 0; there and in a refusal the three stay, and both tables.
+#[tactic(auto, unfolding(crate::specs::Exported::fasta_outcome))]
 #[unsafe(no_mangle)]
 pub extern "C" fn tulfasheq_fasta(
     file: &[u8],
@@ -210,8 +208,7 @@ pub extern "C" fn tulfasheq_fasta(
         lengths,
         *count as usize,
     );
-    let handed = step.handed;
-    let told = Found::handed(handed);
+    let told = Found::from(step.handed);
     *at = step.at as u64;
     *used += told.letters;
     *count += told.found;

@@ -1,9 +1,9 @@
 // A template from and to numbers: its kind of search, length, low and high of each of its slots in turn, and the allowance of each.
-ghost use Rattle.std.specs.Prelude.{◌≡◌, ◌*◌, ◌<◌, get_or};
+ghost use Rattle.std.specs.Prelude.{◌≡◌, ◌*◌, get_or};
 ghost use Rattle.exports.specs.Shape.{slot_at, shaped_template, shape_of, allowances_of, fill};
-ghost use Rattle.rules.specs.Limits.{template_components};
+ghost use Rattle.rules.specs.Template.{allowing};
 
-use rules::{Component, Profile, Template, least};
+use rules::{Component, Profile, Template};
 
 // The numbers of a shape: three for each slot that there is.
 const SIZE: usize = 3 * Template::COMPONENTS as usize;
@@ -12,89 +12,57 @@ const SIZE: usize = 3 * Template::COMPONENTS as usize;
 fn at(shape: &[u16], i: usize) -> u16
     ensures { result ≡ get_or shape.now i 0 }
 {
-    if i < shape.len() { shape[i] } else { 0 }
+    shape.get(i).copied().unwrap_or(0)
 }
 
-// The slot whose numbers stand from an index on.
-fn slot(shape: &[u16], i: usize) -> Component
-    requires { i < 3 * template_components }
-    ensures { result ≡ slot_at shape.now i }
+// Slot i, from 0: its three numbers in the shape, and its allowance.
+#[tactic(auto, unfolding(crate::specs::Shape::slot_at))]
+fn slot(shape: &[u16], allowances: &[u16], i: u8) -> Component
+    ensures { result ≡ allowing (get_or allowances.now i 0) (slot_at shape.now (3 * i)) }
 {
-    let length = at(shape, i);
-    let low = at(shape, i + 1);
-    let high = at(shape, i + 2);
-    Component::new(length, low, high)
+    let from = 3 * usize::from(i);
+    let length = at(shape, from);
+    let low = at(shape, from + 1);
+    let high = at(shape, from + 2);
+    Component::new(length, low, high).allowing(at(allowances, usize::from(i)))
 }
 
 // The template of a profile, so many components, a shape and allowances.
+#[tactic(auto, unfolding(crate::specs::Shape::shaped_template))]
 pub fn read(profile: u16, components: u16, shape: &[u16], allowances: &[u16]) -> Template
     ensures { result ≡ shaped_template profile components shape.now allowances.now }
 {
-    let number = profile as u64;
-    Template::new(
-        Profile::of(number),
-        components,
-        slot(shape, 0).allowing(at(allowances, 0)),
-        slot(shape, 3).allowing(at(allowances, 1)),
-        slot(shape, 6).allowing(at(allowances, 2)),
-        slot(shape, 9).allowing(at(allowances, 3)),
-        slot(shape, 12).allowing(at(allowances, 4)),
-        slot(shape, 15).allowing(at(allowances, 5)),
-    )
+    let profile = Profile::of(u64::from(profile));
+    let [c1, c2, c3, c4, c5, c6] = [0, 1, 2, 3, 4, 5].map(|i| slot(shape, allowances, i));
+    Template::new(profile, components, c1, c2, c3, c4, c5, c6)
 }
 
 // The shape of a template.
+#[tactic(auto, unfolding(crate::specs::Shape::shape_of, rules::specs::Lists::each))]
 fn numbers(t: Template) -> [u16; SIZE]
     ensures { result ≡ shape_of t }
 {
-    [
-        t.c1.length,
-        t.c1.low,
-        t.c1.high,
-        t.c2.length,
-        t.c2.low,
-        t.c2.high,
-        t.c3.length,
-        t.c3.low,
-        t.c3.high,
-        t.c4.length,
-        t.c4.low,
-        t.c4.high,
-        t.c5.length,
-        t.c5.low,
-        t.c5.high,
-        t.c6.length,
-        t.c6.low,
-        t.c6.high,
-    ]
+    let mut all = [0; SIZE];
+    for (i, c) in t.components().iter().enumerate() {
+        all[3 * i..3 * i + 3].copy_from_slice(&[c.length, c.low, c.high]);
+    }
+    all
 }
 
 // Copies numbers to the front of a table, as many as it has room for.
 fn copy(from: &[u16], to: &mut [u16])
     ensures { to.new ≡ fill from.now to.old }
 {
-    let n = least(from.len(), to.len());
-    let mut i = 0;
-    while i < n {
-        to[i] = from[i];
-        i += 1;
-    }
+    let n = from.len().min(to.len());
+    to[..n].copy_from_slice(&from[..n]);
 }
 
 // Writes the shape of a template and the allowances of its slots, of each as many numbers as there is room for.
+#[tactic(auto, unfolding(crate::specs::Shape::allowances_of))]
 pub fn write(t: Template, shape: &mut [u16], allowances: &mut [u16])
     ensures shape_after { shape.new ≡ fill (shape_of t) shape.old }
     ensures allowances_after { allowances.new ≡ fill (allowances_of t) allowances.old }
 {
-    let all = numbers(t);
-    copy(&all, shape);
-    let allowed = [
-        t.c1.allowance,
-        t.c2.allowance,
-        t.c3.allowance,
-        t.c4.allowance,
-        t.c5.allowance,
-        t.c6.allowance,
-    ];
-    copy(&allowed, allowances);
+    copy(&numbers(t), shape);
+    copy(&t.components().map(|c| c.allowance), allowances);
 }

@@ -1,41 +1,25 @@
 -- A record's lines, one after the other: what a scan has counted, checked or copied, and what is left, is the whole.
+use Rattle.std.specs.Prelude.{Option, None, Some, MatchOption}
+use borrow.Rule.Slice.PartMut.{put_mid}
 use mathlib.Core.Path.{◌≡◌, refl, sym, ap, ◌∙◌}
 use mathlib.Core.Bool.{Bool, true, false, not}
-use mathlib.Core.List.{List, [], ◌∷◌, ◌++◌, append_assoc}
+use mathlib.Core.List.{List, [], ◌∷◌, ◌++◌}
 use Prim.Native.Nat.{ℕ, ◌+◌, ◌-◌, ◌≤◌, ◌<◌}
 use native.Mathlib.Nat.{add-zero, zero-add}
 use native.Mathlib.Omega.{arith}
 use lib.Dec.{eqb, ltb}
 use lib.ListN.{length, get_or, length-append}
-use lib.Seq.{sets, sets-eq, drop-drop}
-use borrow.Author.Tests.{eqb-true, eqb-false, ltb-true, ltb-false, lt-ltb, le-ltb, not-true, not-false}
+use borrow.Author.Tests.{eqb-true, eqb-false, ltb-true, ltb-false, not-true, not-false}
+use Rattle.rules.proofs.Tables.{put_at_long, put_at_more, put_at_none}
 use Rattle.rules.proofs.Tests.{both}
 use Rattle.rules.proofs.Verdicts.{fine_else, else_fine, else_assoc}
 use Rattle.rules.specs.Fasta.{Line, line, is_text, lines_from, is_header, up_to_header, entries, texts, check_line, check_lines, cursor_after}
-use Rattle.rules.specs.Letters.{is_letter}
-use Rattle.rules.specs.Lists.{if, all_pass, keep, each, has_some, put, put_at}
-use Rattle.rules.specs.Refusals.{◌else◌, first, first_bad, bad_byte}
-use Rattle.rules.specs.Told.{Verdict, fine, refused}
-use Rattle.checks.proofs.Laws.{all_letters}
-use Rattle.text.proofs.Printed.{◌then◌, wrote_length, room}
-use Rattle.text.specs.Printed.{write, Wrote}
-use Rattle.fasta.specs.Scanned.{file_part, LineAt, is_in_body, body, bad_at, BodyAt}
-use Rattle.fasta.proofs.FileLines.{part_length, lines_end, line_some, header_mark, header_not, header_here}
-
--- ---- the first byte of a line that is no letter
-
-module _ (file : List ℕ) (start end mark : ℕ) (h : start ≤ end) (k : end ≤ length file)
-    (f : (o : ℕ) → first_bad 4 bad_byte o (file_part file start end) ≡ if (ltb mark (length (file_part file start end))) (refused 4 (o + mark)) fine) where
-  pub bad_here : mark < length (file_part file start end) → check_line (line start (file_part file start end)) ≡ bad_at file (start + mark)
-  bad_here m =
-      f start ∙ rw (lt-ltb mark (length (file_part file start end)) m, lt-ltb (start + mark) (length file) (omega (arith, part_length file start end h k)))
-
-  pub bad_none : length (file_part file start end) ≤ mark → check_line (line start (file_part file start end)) ≡ bad_at file (length file)
-  bad_none m = f start ∙ rw (le-ltb mark (length (file_part file start end)) m, le-ltb (length file) (length file) (omega arith))
-
--- none, where all are letters
-pub bad_nowhere : (file : List ℕ) (start end : ℕ) → all_pass is_letter (file_part file start end) ≡ true → check_line (line start (file_part file start end)) ≡ bad_at file (length file)
-bad_nowhere file start end e = all_letters start (file_part file start end) e ∙ rw (le-ltb (length file) (length file) (omega arith))
+use Rattle.rules.specs.Lists.{keep, each, has_some, put, put_at}
+use Rattle.rules.specs.Refusals.{◌else◌, first, first_bad}
+use Rattle.rules.specs.Told.{Verdict}
+use Rattle.rules.specs.declared.FileOffset.{FileOffset}
+use Rattle.fasta.specs.Scanned.{LineAt, is_in_body, body, told_bad, BodyAt}
+use Rattle.fasta.proofs.FileLines.{lines_end, header_mark, header_not, header_here}
 
 -- ---- a line that is no header, before others: an empty one is none of them, and has nothing to count or to refuse
 
@@ -56,27 +40,21 @@ unfolding entries keep has_some
 entries_cons o [] ms h = refl
 entries_cons o (b ∷ bs) ms h = rw h
 
--- where a line of a record's begins the file does not end
-pub in_file : (file : List ℕ) (at : ℕ) → is_in_body file at ≡ true → at < length file
-in_file file at i = ltb-true at (length file) ((both (ltb at (length file)) (not (eqb (get_or file at 0) 62))).0 i).0
+module _ {file : List ℕ} {at next : ℕ} {text : List ℕ} (i : is_in_body file at ≡ true) (l : LineAt file at text next) where
+  no_header : is_header (line at text) ≡ false
+  no_header = header_not file at text l.part (eqb-false _ _ (not-true _ ((both (ltb at (length file)) (not (eqb (get_or file at 0) 62))).0 i).1))
 
-module _ {file : List ℕ} {at end next : ℕ} (i : is_in_body file at ≡ true) (l : LineAt file at end next) where
-  no_header : is_header (line at (file_part file at end)) ≡ false
-  no_header = header_not file at end (eqb-false _ _ (not-true _ ((both (ltb at (length file)) (not (eqb (get_or file at 0) 62))).0 i).1))
+  texts_more : texts (body file at) ≡ text ++ texts (body file next)
+  texts_more = rw l.lines (texts_cons at text (lines_from file next) no_header)
 
-  texts_more : texts (body file at) ≡ file_part file at end ++ texts (body file next)
-  texts_more = rw l.lines (texts_cons at (file_part file at end) (lines_from file next) no_header)
+  length_more : length (texts (body file at)) ≡ length text + length (texts (body file next))
+  length_more = ap length texts_more ∙ length-append text (texts (body file next))
 
-  length_more : length (texts (body file at)) ≡ end - at + length (texts (body file next))
-  length_more =
-      ap length texts_more
-      ∙ rw (length-append, part_length file at end l.forward (omega (arith, l.ended, l.within)))
-
-  check_more : check_lines (body file at) ≡ check_line (line at (file_part file at end)) else check_lines (body file next)
-  check_more = rw l.lines (check_cons at (file_part file at end) (lines_from file next) no_header)
+  check_more : check_lines (body file at) ≡ check_line (line at text) else check_lines (body file next)
+  check_more = rw l.lines (check_cons at text (lines_from file next) no_header)
 
   entries_more : entries (lines_from file at) ≡ entries (lines_from file next)
-  entries_more = rw l.lines (entries_cons at (file_part file at end) (lines_from file next) no_header)
+  entries_more = rw l.lines (entries_cons at text (lines_from file next) no_header)
 
 -- ---- where no line of the record's begins it is over: the file ends there, or a header begins
 
@@ -93,9 +71,8 @@ over_header : (file : List ℕ) (at : ℕ) → at < length file → get_or file 
 unfolding up_to_header entries
 over_header file at h m =
     let l = header_here file at h m in
-    let n = line_some file at l.0 l.1 l.2 l.3 in
-    let t = header_mark file at l.0 l.3 m in
-    record { none = rw (n, t); cursor = rw (n, t) }
+    let t = header_mark file at (62 ∷ l.0) refl in
+    record { none = rw (l.2, t); cursor = rw (l.2, t) }
 
 over : (file : List ℕ) (at : ℕ) → at ≤ length file → is_in_body file at ≡ false → Over file at
 over file at h i = go (ltb at (length file)) refl
@@ -106,95 +83,94 @@ over file at h i = go (ltb at (length file)) refl
 
 -- ---- MEASURING, so far: what the lines up to `at` have, and what is left
 
-pub record Measured (file : List ℕ) (from at size bad : ℕ) : Type 0 where
+pub record Measured (file : List ℕ) (from at size : ℕ) (bad : Option FileOffset) : Type 0 where
   pub within : at ≤ length file
   pub short : from + size ≤ at
   pub sized : length (texts (body file from)) ≡ size + length (texts (body file at))
-  pub checked : check_lines (body file from) ≡ bad_at file bad else check_lines (body file at)
+  pub checked : check_lines (body file from) ≡ told_bad bad else check_lines (body file at)
   pub rest : entries (lines_from file from) ≡ entries (lines_from file at)
 
 -- nothing at first
-pub measured_none : (file : List ℕ) (from : ℕ) → from ≤ length file → Measured file from from 0 (length file)
+pub measured_none : (file : List ℕ) (from : ℕ) → from ≤ length file → Measured file from from 0 None
 measured_none file from h =
     record {
       within = h;
       short = omega arith;
       sized = sym (zero-add (length (texts (body file from))));
-      checked = rw (le-ltb (length file) (length file) (omega arith)) (sym (fine_else (check_lines (body file from))));
+      checked = sym (fine_else (check_lines (body file from)));
       rest = refl;
     }
 
--- where a byte was bad before, what a line has changes nothing
-pub bad_before : (file : List ℕ) (bad : ℕ) (v : Verdict) → bad < length file → bad_at file bad else v ≡ bad_at file bad
+-- where a byte was bad before, it stays; and where none was, it is the line's
+pub bad_or_else : (bad worse : Option FileOffset) {v : Verdict} {asked : Type 0} → MatchOption bad asked (λ o. worse ≡ Some o) → (asked → v ≡ told_bad worse) → told_bad bad else v ≡ told_bad worse
 unfolding ◌else◌
-bad_before file bad v h = rw (lt-ltb bad (length file) h)
-
--- and where none was, it is the line's
-pub bad_first : (file : List ℕ) (bad : ℕ) (v : Verdict) → length file ≤ bad → bad_at file bad else v ≡ v
-bad_first file bad v h = rw (le-ltb bad (length file) h) (fine_else v)
+bad_or_else None worse h f = f h
+bad_or_else (Some o) worse h f = rw h
 
 -- one line more
-pub measured_more : {file : List ℕ} {from at end next size bad worse : ℕ} → Measured file from at size bad → is_in_body file at ≡ true → LineAt file at end next
-    → bad_at file bad else check_line (line at (file_part file at end)) ≡ bad_at file worse → Measured file from next (size + (end - at)) worse
-measured_more {file} {from} {at} {end} {next} {size} {bad} d i l e =
+pub measured_more : {file : List ℕ} {from at next size : ℕ} {text : List ℕ} {bad worse : Option FileOffset} → Measured file from at size bad → is_in_body file at ≡ true
+    → LineAt file at text next → told_bad bad else check_line (line at text) ≡ told_bad worse → Measured file from next (size + length text) worse
+measured_more {file} {from} {at} {next} {size} {text} {bad} d i l e =
     record {
       within = l.within;
-      short = omega (arith, d.short, l.forward, l.ended);
+      short = omega (arith, d.short, l.ended);
       sized = omega (arith, d.sized, length_more i l);
       checked = d.checked ∙ rw (check_more i l, ← else_assoc, e);
       rest = d.rest ∙ entries_more i l;
     }
 
 -- all of it
-pub measured_all : {file : List ℕ} {from at size bad : ℕ} → Measured file from at size bad → is_in_body file at ≡ false → BodyAt file from size bad at
+pub measured_all : {file : List ℕ} {from at size : ℕ} {bad : Option FileOffset} → Measured file from at size bad → is_in_body file at ≡ false → BodyAt file from size bad at
 unfolding texts each check_lines first
 measured_all {file} {from} {at} {size} {bad} d i =
     let o = over file at d.within i in
     record {
       within = d.within;
-      short = omega (arith, d.short);
+      short = d.short;
       sized = sym (d.sized ∙ rw o.none (add-zero size));
-      checked = d.checked ∙ rw o.none (else_fine (bad_at file bad));
+      checked = d.checked ∙ rw o.none (else_fine (told_bad bad));
       rest = d.rest;
       cursor = rw d.rest o.cursor;
     }
 
 -- ---- COPYING, so far: what is left, written behind what was written, is the whole
 
-pub record Copied (file : List ℕ) (from used : ℕ) (before : List ℕ) (at n : ℕ) (after : List ℕ) : Type 0 where
+pub record Copied (file : List ℕ) (from : ℕ) (before : List ℕ) (at used : ℕ) (after : List ℕ) : Type 0 where
   pub within : at ≤ length file
-  pub room : n + length (texts (body file at)) ≤ length after
-  pub long : length after ≡ length before
-  pub out : write n (texts (body file at)) after ≡ write used (texts (body file from)) before
+  pub room : used + length (texts (body file at)) ≤ length after
+  pub out : put_at used (texts (body file at)) after ≡ put (texts (body file from)) before
+
+-- a part written over is the text put there
+put_mid_at : (used : ℕ) (text before : List ℕ) {written : List ℕ} → written ≡ text → put_mid used (used + length text - used) before written ≡ put_at used text before
+unfolding put_at put
+put_mid_at used text before e =
+    let n : used + length text - used ≡ length text = omega arith in
+    rw (e, n)
 
 -- nothing at first
-pub copied_none : (file : List ℕ) (from used : ℕ) (before : List ℕ) → from ≤ length file → used + length (texts (body file from)) ≤ length before
-    → Copied file from used before from used before
-copied_none file from used before h k = record { within = h; room = k; long = refl; out = refl }
+pub copied_none : (file : List ℕ) (from : ℕ) (before : List ℕ) → from ≤ length file → length (texts (body file from)) ≤ length before → Copied file from before from 0 before
+unfolding put_at
+copied_none file from before h k = record { within = h; room = omega arith; out = refl }
 
-module _ {file : List ℕ} {from used at n : ℕ} {before after : List ℕ} (d : Copied file from used before at n after) where
+module _ {file : List ℕ} {from at used : ℕ} {before after : List ℕ} (d : Copied file from before at used after) where
   -- there is room for one line more
-  pub copied_fits : {end next : ℕ} → is_in_body file at ≡ true → LineAt file at end next → n + (end - at) ≤ length after
+  pub copied_fits : {text : List ℕ} {next : ℕ} → is_in_body file at ≡ true → LineAt file at text next → used + length text ≤ length after
   copied_fits i l = omega (arith, d.room, length_more i l)
 
   -- which is written
-  pub copied_more : {end next m : ℕ} {now : List ℕ} → is_in_body file at ≡ true → LineAt file at end next → Wrote n (file_part file at end) after now m
-      → Copied file from used before next m now
-  copied_more {end} {next} {m} {now} i l w =
+  pub copied_more : {text now : List ℕ} {next : ℕ} → is_in_body file at ≡ true → LineAt file at text next → {written : List ℕ} → written ≡ text
+      → now ≡ put_mid used (used + length text - used) after written → Copied file from before next (used + length text) now
+  copied_more {text} {now} {next} i l w m =
+      let e = m ∙ put_mid_at used text after w in
       let rest = texts (body file next) in
-      let t = part_length file at end l.forward (omega (arith, l.ended, l.within)) in
-      let v : Wrote m rest now (write m rest now) (m + length rest) = record { out = refl; end = refl } in
+      let h = copied_fits i l in
       record {
         within = l.within;
-        room = room (length rest) w (omega (arith, d.room, length_more i l, t));
-        long = wrote_length w ∙ d.long;
-        out = (w then v).out ∙ rw (← texts_more i l) d.out;
+        room = omega (arith, d.room, length_more i l, ap length e, put_at_long used text after h);
+        out = rw (e, put_at_more used text rest after h, ← texts_more i l) d.out;
       }
 
   -- all of it
-  pub copied_all : used + length (texts (body file from)) ≤ length before → is_in_body file at ≡ false → after ≡ put_at used (texts (body file from)) before
-  unfolding write texts each put_at put
-  copied_all k i =
-      let xs = texts (body file from) in
-      let o : after ≡ sets before used xs = rw (over file at d.within i).none at d.out in
-      o ∙ sets-eq xs before used k ∙ rw (append_assoc, drop-drop)
+  pub copied_all : is_in_body file at ≡ false → after ≡ put (texts (body file from)) before
+  unfolding texts each
+  copied_all i = sym (put_at_none used after) ∙ rw (over file at d.within i).none at d.out

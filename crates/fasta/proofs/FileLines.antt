@@ -1,52 +1,62 @@
 -- The lines of a file: each begins where the one before it has ended, and a scan for byte 10 finds where it ends.
+use Rattle.std.specs.Prelude.{Option, None, Some, MatchOption}
+use Rattle.std.specs.Option.{unwrap_or}
+use denote.Bor.{Bor}
+use lib.Pointwise.{pointwise}
 use mathlib.Core.Path.{◌≡◌, refl, sym, ap, ◌∙◌}
-use mathlib.Core.Bool.{Bool, true, false}
-use mathlib.Core.List.{List, [], ◌∷◌, append-nil}
+use mathlib.Core.Bool.{Bool, true, false, ◌&&◌}
+use mathlib.Core.List.{List, [], ◌∷◌, ◌++◌, append-nil}
 use Prim.Native.Nat.{ℕ, suc, ◌+◌, ◌-◌, ◌≤◌, ◌<◌}
 use native.Mathlib.Omega.{arith}
 use lib.Dec.{eqb, ltb}
-use lib.ListN.{length, drop, get_or, length-drop, drop_of_length-le}
-use lib.Seq.{drop-cons, get_or-take, get_or-drop, take-take, length-take-le}
-use borrow.Author.Tests.{eq-eqb, ne_eqb, eqb-true, eqb-false, ltb-true, ltb-false}
+use lib.ListN.{length, take, drop, get_or, length-drop, drop_of_length-le}
+use lib.Seq.{drop-cons, get_or-take, get_or-drop, length-take-le, take-take, take_all}
+use borrow.Author.Tests.{eq-eqb, ne_eqb, ltb-true, ltb-false}
 use Rattle.rules.proofs.Lists.{keep_append}
-use Rattle.rules.specs.Fasta.{line, is_text, without_return, lines_of, lines_from, is_header}
-use Rattle.rules.specs.Lists.{keep, has_some}
+use Rattle.rules.specs.Fasta.{Line, line, is_text, without_return, lines_of, lines_from, is_header}
+use Rattle.rules.specs.Lists.{if, keep, has_some}
 use Rattle.rules.specs.Text.{pieces}
 use Rattle.text.specs.Pieces.{find, others}
-use Rattle.text.proofs.Scan.{find_on, pieces_cut, scan_from, scan_to, scan_cut, scan_others, scan_none}
-use Rattle.fasta.specs.Scanned.{file_part, LineAt, FirstLine}
+use Rattle.text.proofs.Scan.{pieces_cut, scan_from, scan_cut, scan_others, scan_none}
+use Rattle.fasta.specs.Scanned.{LineAt}
 
 -- ---- the text of a line
 
-module _ (file : List ℕ) (start stop : ℕ) (h : start ≤ stop) (k : stop ≤ length file) where
-  -- it has as many bytes as it has places
-  pub part_length : length (file_part file start stop) ≡ stop - start
-  part_length = length-take-le (stop - start) (drop start file) (omega (arith, length-drop start file))
+-- whether byte 13 is the last of a text
+last_is : (text : List ℕ) → 0 < length text → pointwise eqb (drop (length text - 1) text) (13 ∷ []) ≡ eqb (get_or text (length text - 1) 0) 13
+last_is text h =
+    let d : drop (suc (length text - 1)) text ≡ [] = drop_of_length-le text {i = suc (length text - 1)} (omega arith) in
+    rw (drop-cons text (length text - 1) 0 (omega arith), d) (go (eqb (get_or text (length text - 1) 0) 13))
+  where
+    go : (t : Bool) → t && true ≡ t
+    go true = refl
+    go false = refl
 
-  part_last : start < stop → get_or (file_part file start stop) (length (file_part file start stop) - 1) 0 ≡ get_or file (stop - 1) 0
-  part_last p =
-      let q : start + (stop - start - 1) ≡ stop - 1 = omega arith in
-      rw part_length (get_or-take (stop - start) (drop start file) (stop - start - 1) 0 (omega arith) ∙ get_or-drop start file (stop - start - 1) 0 ∙ rw q)
-
-  -- a byte 13 at its end is none of it
-  pub return_cut : start < stop → get_or file (stop - 1) 0 ≡ 13 → file_part file start (stop - 1) ≡ without_return (file_part file start stop)
-  unfolding without_return
-  return_cut p e =
-      let q : length (file_part file start stop) - 1 ≡ stop - 1 - start = omega (arith, part_length) in
-      let t = eq-eqb (get_or (file_part file start stop) (length (file_part file start stop) - 1) 0) 13 (part_last p ∙ e) in
-      rw t (rw q (sym (take-take (stop - 1 - start) (stop - start) (drop start file) (omega arith))))
-
-  -- another byte is
-  pub return_none : start < stop → (get_or file (stop - 1) 0 ≡ 13 → ⊥) → file_part file start stop ≡ without_return (file_part file start stop)
-  unfolding without_return
-  return_none p e = rw (ne_eqb (get_or (file_part file start stop) (length (file_part file start stop) - 1) 0) 13 (λ w. e (sym (part_last p) ∙ w)))
-
--- and no byte has none to cut
-pub return_empty : (file : List ℕ) (start stop : ℕ) → start ≡ stop → file_part file start stop ≡ without_return (file_part file start stop)
+cut_is : (text : List ℕ) → without_return text ≡ if (pointwise eqb (drop (length text - 1) text) (13 ∷ [])) (take (length text - 1) text) text
 unfolding without_return
-return_empty file start stop e =
-    let q : stop - start ≡ 0 = omega arith in
-    rw q
+cut_is [] = refl
+cut_is (b ∷ bs) = rw (last_is (b ∷ bs) (omega arith))
+
+-- it is cut where it stands there
+pub return_cut : (text : List ℕ) (r : Option (Bor (List ℕ))) (whole : Bor (List ℕ)) {cut : Bor (List ℕ)} → whole.now ≡ text
+    → MatchOption r (pointwise eqb (drop (length text - 1) text) (13 ∷ []) ≡ false) (λ x. (pointwise eqb (drop (length text - 1) text) (13 ∷ []) ≡ true) × (x.now ≡ take (length text - 1) text) × (length x.now + 1 ≡ length text))
+    → cut ≡ unwrap_or r whole → cut.now ≡ without_return text
+return_cut text r whole {cut} w m e = rw (e, cut_is text) (go r m)
+  where
+    go : (o : Option (Bor (List ℕ)))
+        → MatchOption o (pointwise eqb (drop (length text - 1) text) (13 ∷ []) ≡ false) (λ x. (pointwise eqb (drop (length text - 1) text) (13 ∷ []) ≡ true) × (x.now ≡ take (length text - 1) text) × (length x.now + 1 ≡ length text))
+        → (unwrap_or o whole).now ≡ if (pointwise eqb (drop (length text - 1) text) (13 ∷ [])) (take (length text - 1) text) text
+    go None h = rw h w
+    go (Some x) h = rw h.0 h.1
+
+-- a text without a byte 13 at its end is its front
+cut_front : (text : List ℕ) → (without_return text ≡ take (length (without_return text)) text) × (length (without_return text) ≤ length text)
+unfolding without_return
+cut_front text = go (eqb (get_or text (length text - 1) 0) 13)
+  where
+    go : (t : Bool) → (if t (take (length text - 1) text) text ≡ take (length (if t (take (length text - 1) text) text)) text) × (length (if t (take (length text - 1) text) text) ≤ length text)
+    go true = let n = length-take-le (length text - 1) text (omega arith) in (rw n, omega (arith, n))
+    go false = (sym (take_all (length text) text (omega arith)), omega arith)
 
 -- ---- one line and those behind it
 
@@ -72,106 +82,115 @@ module _ (file : List ℕ) (at stop : ℕ) (e : stop ≡ at + find 10 (drop at f
   low : at ≤ length file
   low = omega arith
 
-  split : lines_from file at ≡ keep is_text (lines_of at (file_part file at stop ∷ others 10 (drop at file)))
+  split : lines_from file at ≡ keep is_text (lines_of at (take (stop - at) (drop at file) ∷ others 10 (drop at file)))
   split = from_is file at ∙ rw (scan_cut 10 at stop file e low)
 
   -- where the scan finds the byte, the line ends there
-  pub line_more : stop < length file → {end : ℕ} → at ≤ end → end ≤ stop → file_part file at end ≡ without_return (file_part file at stop) → LineAt file at end (stop + 1)
-  line_more k {end} a b t =
+  pub line_more : stop < length file → {text : List ℕ} → text ≡ without_return (take (stop - at) (drop at file)) → LineAt file at text (stop + 1)
+  line_more k {text} t =
+      let f = scan_from 10 at stop file e low in
+      let all = take (stop - at) (drop at file) in
+      let n : length all ≡ stop - at = length-take-le (stop - at) (drop at file) (omega (arith, length-drop at file)) in
+      let c = cut_front all in
+      rw t (
       record {
-        forward = a;
-        ended = omega arith;
+        part = c.0 ∙ take-take (length (without_return all)) (stop - at) (drop at file) (omega (arith, n, c.1));
+        ended = omega (arith, n, c.1, f);
+        onward = omega (arith, f);
+        within = omega arith;
+        lines =
+            let q : at + length all + 1 ≡ stop + 1 = omega (arith, f, n) in
+            split ∙ rw (scan_others 10 at stop file e low k, lines_cons at all (drop (stop + 1) file), q)
+            (keep_append is_text (line at (without_return all) ∷ []) (lines_of (stop + 1) (pieces 10 (drop (stop + 1) file))) ∙ rw (from_is file (stop + 1)));
+      })
+
+  -- where it finds none, the line is the last
+  pub line_last : length file ≤ stop → {text : List ℕ} → text ≡ take (length file - at) (drop at file) → LineAt file at text (length file)
+  line_last k {text} t =
+      let n : length (drop at file) ≡ length file - at = length-drop at file in
+      rw (t, take_all (length file - at) (drop at file) (omega (arith, n))) (
+      record {
+        part = sym (take_all (length (drop at file)) (drop at file) (omega arith));
+        ended = omega (arith, n);
         onward = omega arith;
         within = omega arith;
         lines =
-            let f = scan_from 10 at stop file e low in
-            let q : at + length (file_part file at stop) + 1 ≡ stop + 1 = omega (arith, f, part_length file at stop f (omega arith)) in
-            split ∙ rw (scan_others 10 at stop file e low k, lines_cons at (file_part file at stop) (drop (stop + 1) file), q, t)
-            (keep_append is_text (line at (without_return (file_part file at stop)) ∷ []) (lines_of (stop + 1) (pieces 10 (drop (stop + 1) file))) ∙ rw (from_is file (stop + 1)));
-      }
-
-  -- where it finds none, the line is the last
-  pub line_last : length file ≤ stop → LineAt file at stop stop
-  line_last k =
-      record {
-        forward = scan_from 10 at stop file e low;
-        ended = omega arith;
-        onward = omega arith;
-        within = scan_to 10 at stop file e low;
-        lines =
-            split ∙ rw (scan_none 10 at stop file e low k, lines_one at (file_part file at stop), lines_end file stop k)
-            (sym (append-nil (keep is_text (line at (file_part file at stop) ∷ []))));
-      }
+            split ∙ rw (scan_none 10 at stop file e low k, take_all (stop - at) (drop at file) (omega (arith, n)), lines_one at (drop at file), lines_end file (length file) (omega arith))
+            (sym (append-nil (keep is_text (line at (drop at file) ∷ []))));
+      })
 
 -- ---- the first line that is not empty
 
-module _ (file : List ℕ) (start end next : ℕ) (l : LineAt file start end next) where
+module _ (file : List ℕ) (start : ℕ) (text : List ℕ) (next : ℕ) (l : LineAt file start text next) where
   -- an empty line is skipped
-  pub line_skip : end ≤ start → lines_from file start ≡ lines_from file next
+  pub line_skip : length text ≤ 0 → lines_from file start ≡ lines_from file next
   unfolding keep has_some
-  line_skip h =
-      let q : end - start ≡ 0 = omega arith in
-      rw q at l.lines
+  line_skip h = l.lines ∙ go text h
+    where
+      go : (t : List ℕ) → length t ≤ 0 → keep is_text (line start t ∷ []) ++ lines_from file next ≡ lines_from file next
+      go [] k = refl
+      go (b ∷ bs) k = absurd (omega arith)
 
   -- a line with bytes is the first from there on
-  pub line_some : start < end → lines_from file start ≡ line start (file_part file start end) ∷ lines_from file next
+  pub line_some : 0 < length text → lines_from file start ≡ line start text ∷ lines_from file next
   unfolding keep has_some
-  line_some h =
-      let q : end - start ≡ suc (end - start - 1) = omega arith in
-      let d = drop-cons file start 0 (omega (arith, l.onward, l.within)) in
-      rw (q, d) (rw (q, d) at l.lines)
-
-module _ (file : List ℕ) (at start : ℕ) (h : lines_from file at ≡ lines_from file start) where
-  -- a line with bytes is found
-  pub first_some : {s end next : ℕ} → s ≡ start → LineAt file start end next → start < end → FirstLine file at s end next
-  first_some e l k = rw e (record { lines = h; some = λ _. (l, k); none = λ n. absurd (omega (arith, n, l.onward, l.within)) })
-
-  -- or the file's end
-  pub first_none : length file ≤ start → {end next : ℕ} → FirstLine file at start end next
-  first_none n = record { lines = h; some = λ k. absurd (omega (arith, n, k)); none = λ _. h ∙ lines_end file start n }
+  line_some h = l.lines ∙ go text h
+    where
+      go : (t : List ℕ) → 0 < length t → keep is_text (line start t ∷ []) ++ lines_from file next ≡ line start t ∷ lines_from file next
+      go [] k = absurd (omega arith)
+      go (b ∷ bs) k = refl
 
 -- ---- whether a line is a header
 
-module _ (file : List ℕ) (start end : ℕ) where
-  part_first : start < end → get_or (file_part file start end) 0 0 ≡ get_or file start 0
-  part_first h =
-      let q : start + 0 ≡ start = omega arith in
-      get_or-take (end - start) (drop start file) 0 0 (omega arith) ∙ get_or-drop start file 0 0 ∙ rw q
-
+module _ (file : List ℕ) (start : ℕ) (text : List ℕ) where
   -- its first byte is the one at its offset
-  pub header_mark : start < end → get_or file start 0 ≡ 62 → is_header (line start (file_part file start end)) ≡ true
+  first_is : text ≡ take (length text) (drop start file) → 0 < length text → get_or text 0 0 ≡ get_or file start 0
+  first_is e h =
+      let q : start + 0 ≡ start = omega arith in
+      ap (λ t. get_or t 0 0) e ∙ get_or-take (length text) (drop start file) 0 0 h ∙ get_or-drop start file 0 0 ∙ rw q
+
+  pub header_mark : get_or text 0 0 ≡ 62 → is_header (line start text) ≡ true
   unfolding is_header
-  header_mark h e = eq-eqb (get_or (file_part file start end) 0 0) 62 (part_first h ∙ e)
+  header_mark e = eq-eqb (get_or text 0 0) 62 e
+
+  pub no_mark : (get_or text 0 0 ≡ 62 → ⊥) → is_header (line start text) ≡ false
+  unfolding is_header
+  no_mark e = ne_eqb (get_or text 0 0) 62 e
 
   -- and an empty line has none
-  pub header_not : (get_or file start 0 ≡ 62 → ⊥) → is_header (line start (file_part file start end)) ≡ false
+  pub header_not : text ≡ take (length text) (drop start file) → (get_or file start 0 ≡ 62 → ⊥) → is_header (line start text) ≡ false
   unfolding is_header
-  header_not e = go (ltb start end) refl
+  header_not p e = go (ltb 0 (length text)) refl
     where
-      go : (b : Bool) → ltb start end ≡ b → eqb (get_or (file_part file start end) 0 0) 62 ≡ false
-      go true t = ne_eqb (get_or (file_part file start end) 0 0) 62 (λ w. e (sym (part_first (ltb-true start end t)) ∙ w))
-      go false t =
-          let q : end - start ≡ 0 = omega (arith, ltb-false start end t) in
-          rw q
+      go : (b : Bool) → ltb 0 (length text) ≡ b → eqb (get_or text 0 0) 62 ≡ false
+      go true t = ne_eqb (get_or text 0 0) 62 (λ w. e (sym (first_is p (ltb-true 0 (length text) t)) ∙ w))
+      go false t = none text (ltb-false 0 (length text) t)
+        where
+          none : (t : List ℕ) → length t ≤ 0 → eqb (get_or t 0 0) 62 ≡ false
+          none [] h = refl
+          none (b ∷ bs) h = absurd (omega arith)
 
--- a byte 62 begins a line that is not empty
-pub header_here : (file : List ℕ) (at : ℕ) → at < length file → get_or file at 0 ≡ 62 → (end : ℕ) × (next : ℕ) × LineAt file at end next × (at < end)
-header_here file at h m = go (ltb stop (length file)) refl
+-- a byte 62 begins a line that is one
+front_stays : (p : List ℕ) → (x : List ℕ) × (without_return (62 ∷ p) ≡ 62 ∷ x)
+unfolding without_return
+front_stays [] = ([], refl)
+front_stays (b ∷ bs) =
+    let n : length (62 ∷ b ∷ bs) - 1 ≡ suc (length bs) = omega arith in
+    rw n (go (eqb (get_or (62 ∷ b ∷ bs) (suc (length bs)) 0) 13))
   where
-    stop : ℕ
-    stop = at + find 10 (drop at file)
+    go : (t : Bool) → (x : List ℕ) × (if t (take (suc (length bs)) (62 ∷ b ∷ bs)) (62 ∷ b ∷ bs) ≡ 62 ∷ x)
+    go true = (take (length bs) (b ∷ bs), refl)
+    go false = (b ∷ bs, refl)
 
-    far : at < stop
-    far = omega (arith, find_on 10 at file h (λ w. absurd (omega (arith, m, w))))
+front_line : (at : ℕ) (p : List ℕ) (ps : List (List ℕ)) → (x : List ℕ) × (rest : List Line) × (keep is_text (lines_of at ((62 ∷ p) ∷ ps)) ≡ line at (62 ∷ x) ∷ rest)
+unfolding keep has_some lines_of
+front_line at p [] = (p, [], refl)
+front_line at p (q ∷ qs) = let c = front_stays p in (c.0, keep is_text (lines_of (at + length (62 ∷ p) + 1) (q ∷ qs)), rw c.1)
 
-    cut : (k : stop < length file) (b : Bool) → eqb (get_or file (stop - 1) 0) 13 ≡ b → (end : ℕ) × (next : ℕ) × LineAt file at end next × (at < end)
-    cut k true t =
-        let r = eqb-true (get_or file (stop - 1) 0) 13 t in
-        let n : stop - 1 ≡ at → ⊥ = λ w. omega (arith, m, r, ap (λ o. get_or file o 0) w) in
-        (stop - 1, stop + 1, line_more file at stop refl h k (omega (arith, far)) (omega arith) (return_cut file at stop (omega (arith, far)) (omega (arith, k)) far r), omega (arith, far, n))
-    cut k false t =
-        (stop, stop + 1, line_more file at stop refl h k (omega (arith, far)) (omega arith) (return_none file at stop (omega (arith, far)) (omega (arith, k)) far (eqb-false (get_or file (stop - 1) 0) 13 t)), far)
-
-    go : (b : Bool) → ltb stop (length file) ≡ b → (end : ℕ) × (next : ℕ) × LineAt file at end next × (at < end)
-    go true t = cut (ltb-true stop (length file) t) (eqb (get_or file (stop - 1) 0) 13) refl
-    go false t = (stop, stop, line_last file at stop refl h (ltb-false stop (length file) t), far)
+pub header_here : (file : List ℕ) (at : ℕ) → at < length file → get_or file at 0 ≡ 62 → (x : List ℕ) × (rest : List Line) × (lines_from file at ≡ line at (62 ∷ x) ∷ rest)
+unfolding find
+header_here file at h e =
+    let l = drop (suc at) file in
+    let d : drop at file ≡ 62 ∷ l = rw e at (drop-cons file at 0 h) in
+    let c = front_line at (take (find 10 l) l) (others 10 (62 ∷ l)) in
+    (c.0, c.1, from_is file at ∙ rw (d, pieces_cut 10 (62 ∷ l)) c.2)

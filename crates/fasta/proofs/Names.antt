@@ -1,68 +1,51 @@
--- A record's name: where it ends in its line, and the part of the file that it is.
-use mathlib.Core.Path.{◌≡◌, refl, sym, ◌∙◌}
-use mathlib.Core.Bool.{Bool, true, false}
-use mathlib.Core.List.{List, ◌∷◌}
-use Prim.Native.Nat.{ℕ, suc, ◌+◌, ◌-◌, ◌≤◌, ◌<◌, min}
-use native.Mathlib.Numerals.{add-one}
+-- A record's name: where it ends in its line.
+use Rattle.std.specs.Prelude.{None, Some, position}
+use Rattle.std.specs.List.{position_or_len}
+use Rattle.std.specs.Option.{unwrap_or}
+use Rattle.std.proofs.lemmas.List.Recursion.{is_position_or_len}
+use mathlib.Core.Path.{◌≡◌, refl, ap, ◌∙◌}
+use mathlib.Core.Bool.{Bool, true, false, cond}
+use mathlib.Core.List.{List, [], ◌∷◌}
+use Prim.Native.Nat.{ℕ, suc, ◌+◌, ◌-◌, ◌≤◌, ◌<◌}
 use native.Mathlib.Omega.{arith}
-use lib.Dec.{leb}
-use lib.ListN.{length, drop, get_or, length-drop, drop_of_length-le}
-use lib.Seq.{drop-cons, take_all, take-nil}
-use borrow.Author.Tests.{leb-true, leb-false}
+use lib.Dec.{ltb}
+use lib.ListN.{length, take, drop, length-drop}
+use lib.Seq.{take_all}
+use borrow.Author.Tests.{ltb-false}
 use Rattle.rules.specs.Fasta.{is_space_or_tab, up_to_blank}
-use Rattle.fasta.specs.Scanned.{file_part}
+use Rattle.rules.specs.Lists.{if}
 
--- ---- where it ends
-
-module _ (file : List ℕ) (i end : ℕ) where
-  -- a part's first byte, and the part behind it
-  pub part_cons : i < end → end ≤ length file → file_part file i end ≡ get_or file i 0 ∷ file_part file (i + 1) end
-  part_cons h k =
-      let q : end - i ≡ suc (end - (i + 1)) = omega arith in
-      rw (q, drop-cons file i 0 (omega arith), add-one)
-
-  -- before a space or a tab
-  pub blank_here : i < end → end ≤ length file → is_space_or_tab (get_or file i 0) ≡ true → length (up_to_blank (file_part file i end)) ≡ 0
-  unfolding up_to_blank
-  blank_here h k b = rw (part_cons h k, b)
-
-  -- another byte is one of the name's
-  pub blank_on : i < end → end ≤ length file → is_space_or_tab (get_or file i 0) ≡ false → length (up_to_blank (file_part file i end)) ≡ suc (length (up_to_blank (file_part file (i + 1) end)))
-  unfolding up_to_blank
-  blank_on h k b = rw (part_cons h k, b)
-
-  -- or at the line's end
-  pub blank_end : end ≤ i → length (up_to_blank (file_part file i end)) ≡ 0
-  unfolding up_to_blank
-  blank_end h =
-      let q : end - i ≡ 0 = omega arith in
-      rw q
-
--- ---- the part that it is
-
--- what lies past the file is no part of it
-pub part_clamp : (file : List ℕ) (start end : ℕ) {s e : ℕ} → e ≡ min end (length file) → s ≡ min start e → file_part file s e ≡ file_part file start end
-part_clamp file start end {s} {e} p q = go (leb start e) (leb end (length file)) refl refl
+-- a name has as many bytes as stand before the first space or tab
+name_place : (text : List ℕ) → length (up_to_blank text) ≡ position_or_len is_space_or_tab text
+unfolding up_to_blank
+name_place = is_position_or_len (λ l. length (up_to_blank l)) is_space_or_tab refl (λ x xs. go (is_space_or_tab x) x xs)
   where
-    long : length file ≤ end → file_part file start (length file) ≡ file_part file start end
-    long h =
-        let n = length-drop start file in
-        take_all (length file - start) (drop start file) (omega (arith, n)) ∙ sym (take_all (end - start) (drop start file) (omega (arith, n, h)))
+    go : (t : Bool) (x : ℕ) (xs : List ℕ) → length (if t [] (x ∷ up_to_blank xs)) ≡ cond t 0 (1 + length (up_to_blank xs))
+    go true x xs = refl
+    go false x xs = omega arith
 
-    go : (a b : Bool) → leb start e ≡ a → leb end (length file) ≡ b → file_part file s e ≡ file_part file start end
-    go true true a b =
-        let x : s ≡ start = omega (arith, leb-true start e a, q) in
-        let y : e ≡ end = omega (arith, leb-true end (length file) b, p) in
-        rw (x, y)
-    go true false a b =
-        let x : s ≡ start = omega (arith, leb-true start e a, q) in
-        let y : e ≡ length file = omega (arith, leb-false end (length file) b, p) in
-        rw (x, y) (long (omega (arith, leb-false end (length file) b)))
-    go false true a b =
-        let x : e - s ≡ 0 = omega (arith, leb-false start e a, q) in
-        let y : end - start ≡ 0 = omega (arith, leb-false start e a, leb-true end (length file) b, p) in
-        rw (x, y)
-    go false false a b =
-        let x : e - s ≡ 0 = omega (arith, leb-false start e a, q) in
-        let y = drop_of_length-le file {i = start} (omega (arith, leb-false start e a, leb-false end (length file) b, p)) in
-        rw (x, y) (sym (take-nil (end - start)))
+pub name_short : (text : List ℕ) → length (up_to_blank text) ≤ length text
+unfolding up_to_blank
+name_short [] = omega arith
+name_short (x ∷ xs) = go (is_space_or_tab x) (name_short xs)
+  where
+    go : (t : Bool) → length (up_to_blank xs) ≤ length xs → length (if t [] (x ∷ up_to_blank xs)) ≤ suc (length xs)
+    go true h = omega arith
+    go false h = omega (arith, h)
+
+-- or as the text, where none stands
+pub name_ends : (text : List ℕ) → unwrap_or (position is_space_or_tab text) (length text) ≡ length (up_to_blank text)
+name_ends text = rw (← name_place text) (go (ltb (length (up_to_blank text)) (length text)) refl)
+  where
+    go : (t : Bool) → ltb (length (up_to_blank text)) (length text) ≡ t → unwrap_or (cond t (Some (length (up_to_blank text))) None) (length text) ≡ length (up_to_blank text)
+    go true h = refl
+    go false h = omega (arith, ltb-false (length (up_to_blank text)) (length text) h, name_short text)
+
+-- a part from the second byte on is what follows the first; and its name ends within the line
+pub name_fits : (text : List ℕ) {n : ℕ} → 0 < length text → n ≡ length (up_to_blank (take (length text - 1) (drop 1 text)))
+    → (n ≡ length (up_to_blank (drop 1 text))) × (1 + n ≤ length text)
+name_fits text h e =
+    let d = length-drop 1 text in
+    let t = take_all (length text - 1) (drop 1 text) (omega (arith, d)) in
+    let q = e ∙ ap (λ x. length (up_to_blank x)) t in
+    (q, omega (arith, q, d, name_short (drop 1 text)))

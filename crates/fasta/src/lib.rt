@@ -1,5 +1,4 @@
-// FASTA: a reader over a lent file, which hands out one record after another. It holds the file and a cursor; the work is done by
-// `next_at`, which takes a plain slice and a cursor, so that each function over the struct is a few lines.
+// FASTA: a reader over a lent file, which hands out one record after another. It holds the file and a cursor.
 #![tactic(auto)]
 
 mod lines;
@@ -8,21 +7,103 @@ mod record;
 ghost use Rattle.std.specs.Prelude.{◌≡◌};
 ghost use Rattle.rules.specs.Fasta.{reader_rule};
 ghost use Rattle.rules.specs.Told.{told_handed};
-ghost use Rattle.fasta.specs.Scanned.{file_part};
+ghost use Rattle.fasta.specs.Scanned.{file_part, HeaderAt, leaves};
 
-use lines::first_line;
-use record::hand_out;
-use rules::{FileRefusal, Handed, Name};
+use lines::{Line, first_line};
+use record::{copy_body, measure, name_length, no_room};
+use rules::{FastaRecord, FileOffset, FileRefusal, Name};
+
+// A reader: the file, and the cursor, an offset in it.
+#[derive(Clone, Copy)]
+pub struct Reader<'a> {
+    pub file: &'a [u8],
+    pub at: usize,
+}
+
+impl<'a> Reader<'a> {
+    // A reader that stands at a file's first byte.
+    pub fn new(file: &'a [u8]) -> Reader<'a>
+        ensures { (result.file ≡ file.entry) × (result.at ≡ 0) }
+    {
+        Reader { file, at: 0 }
+    }
+
+    // THE NEXT RECORD: the reader moves on past it. Its letters go to `letters`, behind the `used` that it holds, and their number to
+    // `lengths`, behind its `count` rows. A call that hands out none writes nothing, and the reader stays where it stood.
+    pub fn next(
+        &mut self,
+        letters: &mut [u8],
+        used: usize,
+        lengths: &mut [u32],
+        count: usize,
+    ) -> Result<Option<FastaRecord>, FileRefusal>
+        ensures file_unchanged { self.new.file ≡ self.old.file }
+        ensures result_value { told_handed result ≡ (reader_rule self.old.file.now self.old.at letters.old used lengths.old count).told }
+        ensures at_after { self.new.at ≡ (reader_rule self.old.file.now self.old.at letters.old used lengths.old count).at }
+        ensures letters_after { letters.new ≡ (reader_rule self.old.file.now self.old.at letters.old used lengths.old count).letters }
+        ensures lengths_after { lengths.new ≡ (reader_rule self.old.file.now self.old.at letters.old used lengths.old count).lengths }
+    {
+        let Some(header) = first_line(self.file, self.at) else {
+            return Ok(None);
+        };
+        if header.text[0] != b'>' {
+            return Err(FileRefusal::TextBefore);
+        }
+        self.hand_out(header, letters, used, lengths, count)
+    }
+
+    // Hands out the record whose header is a line, or refuses it.
+    fn hand_out(
+        &mut self,
+        header: Line,
+        letters: &mut [u8],
+        used: usize,
+        lengths: &mut [u32],
+        count: usize,
+    ) -> Result<Option<FastaRecord>, FileRefusal>
+        requires { HeaderAt self.old.file.now self.old.at header.start header.text.now header.next }
+        ensures file_unchanged { self.new.file ≡ self.old.file }
+        ensures rule { reader_rule self.old.file.now self.old.at letters.old used lengths.old count ≡ leaves (told_handed result) self.new.at letters.new lengths.new }
+    {
+        let body = measure(self.file, header.next);
+        if no_room(letters, used, lengths, count, body.size) {
+            return Err(FileRefusal::NoRoom);
+        }
+        if let Some(bad) = body.bad {
+            return Err(FileRefusal::NotALetter(bad));
+        }
+        copy_body(self.file, header.next, &mut letters[used..]);
+        lengths[count] = body.size as u32;
+        self.at = body.next;
+        let start = header.start + 1;
+        let end = start + name_length(&header.text[1..]);
+        Ok(Some(FastaRecord {
+            name: Name {
+                start: FileOffset(start),
+                end: FileOffset(end),
+            },
+            letters: body.size,
+        }))
+    }
+
+    // A record's name, as a part of the reader's file; what lies past the file is no part of it.
+    pub fn name(&self, name: Name) -> &'a [u8]
+        ensures { result.now ≡ file_part self.now.file.now name.start.0 name.end.0 }
+    {
+        let end = name.end.0.min(self.file.len());
+        let start = name.start.0.min(end);
+        &self.file[start..end]
+    }
+}
 
 // What a call of the reader hands out, and where the reader stands then.
 #[derive(Clone, Copy)]
 pub struct Step {
-    pub handed: Handed,
+    pub handed: Result<Option<FastaRecord>, FileRefusal>,
     pub at: usize,
 }
 
-// The next record of a file from a cursor on. Its letters go to `letters`, behind the `used` that it holds, and their number to
-// `lengths`, behind its `count` rows. A call that hands out no record writes nothing, and the cursor stays.
+// THE NEXT RECORD of a file from a cursor on: what a reader hands out that stands there, and where it stands then.
 pub fn next_at(
     file: &[u8],
     at: usize,
@@ -36,61 +117,10 @@ pub fn next_at(
     ensures letters_after { letters.new ≡ (reader_rule file.now at letters.old used lengths.old count).letters }
     ensures lengths_after { lengths.new ≡ (reader_rule file.now at letters.old used lengths.old count).lengths }
 {
-    let line = first_line(file, at);
-    let start = line.start;
-    if file.len() <= start {
-        return Step {
-            handed: Handed::End,
-            at,
-        };
+    let mut reader = Reader { file, at };
+    let handed = reader.next(letters, used, lengths, count);
+    Step {
+        handed,
+        at: reader.at,
     }
-    if file[start] != b'>' {
-        return Step {
-            handed: Handed::Refused(FileRefusal::TextBefore),
-            at,
-        };
-    }
-    hand_out(file, at, line, letters, used, lengths, count)
-}
-
-// A record's name, as a part of its file; what lies past the file is no part of it.
-pub fn name(file: &[u8], name: Name) -> &[u8]
-    ensures { result.now ≡ file_part file.now name.start.0 name.end.0 }
-{
-    let end = rules::least(name.end.0, file.len());
-    let start = rules::least(name.start.0, end);
-    &file[start..end]
-}
-
-// A reader: the file, and the cursor, an offset in it.
-#[derive(Clone, Copy)]
-pub struct Reader<'a> {
-    pub file: &'a [u8],
-    pub at: usize,
-}
-
-// A reader that stands at a file's first byte.
-pub fn new<'a>(file: &'a [u8]) -> Reader<'a>
-    ensures { (result.file ≡ file.entry) × (result.at ≡ 0) }
-{
-    Reader { file, at: 0 }
-}
-
-// THE NEXT RECORD: the reader moves on past it. A call that hands out none writes nothing, and the reader stands where it stood.
-pub fn next<'s, 'a>(
-    reader: &'s mut Reader<'a>,
-    letters: &mut [u8],
-    used: usize,
-    lengths: &mut [u32],
-    count: usize,
-) -> Handed
-    ensures file_unchanged { reader.new.file ≡ reader.old.file }
-    ensures result_value { told_handed result ≡ (reader_rule reader.old.file.now reader.old.at letters.old used lengths.old count).told }
-    ensures at_after { reader.new.at ≡ (reader_rule reader.old.file.now reader.old.at letters.old used lengths.old count).at }
-    ensures letters_after { letters.new ≡ (reader_rule reader.old.file.now reader.old.at letters.old used lengths.old count).letters }
-    ensures lengths_after { lengths.new ≡ (reader_rule reader.old.file.now reader.old.at letters.old used lengths.old count).lengths }
-{
-    let step = next_at(reader.file, reader.at, letters, used, lengths, count);
-    reader.at = step.at;
-    step.handed
 }

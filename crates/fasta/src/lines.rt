@@ -1,68 +1,58 @@
 // The lines of a file, found by scanning it.
-ghost use Rattle.std.specs.Prelude.{◌≡◌, ◌≤◌, ◌<◌, length};
-ghost use Rattle.rules.specs.Fasta.{without_return};
-ghost use Rattle.fasta.specs.Scanned.{file_part, LineAt, FirstLine};
+ghost use Rattle.std.specs.Prelude.{◌≡◌, [], ◌<◌, length, MatchOption};
+ghost use Rattle.rules.specs.Fasta.{without_return, lines_from};
+ghost use Rattle.fasta.specs.Scanned.{LineAt, FirstLine};
 
 use text::pieces::find;
 
-// A line: where it starts, where its text ends, and where what follows it begins.
+// A line: where it starts, its text, and where what follows it begins.
 #[derive(Clone, Copy)]
-pub(crate) struct Line {
+pub(crate) struct Line<'a> {
     pub start: usize,
-    pub end: usize,
+    pub text: &'a [u8],
     pub next: usize,
 }
 
-// Where a line's text ends, whose byte 10 stands at `stop`: a byte 13 before that is none of it.
-fn text_end(file: &[u8], start: usize, stop: usize) -> usize
-    requires { (start ≤ stop) × (stop < length file.now) }
-    ensures { (start ≤ result) × (result ≤ stop) × (file_part file.now start result ≡ without_return (file_part file.now start stop)) }
+// The text of a line that a byte 10 ends: a byte 13 before that is none of it.
+fn without_return(text: &[u8]) -> &[u8]
+    ensures { result.now ≡ without_return text.now }
 {
-    if start == stop {
-        return stop;
-    }
-    let last = stop - 1;
-    if file[last] == 13 { last } else { stop }
+    text.strip_suffix(b"\r").unwrap_or(text)
 }
 
 // The line that begins at an offset. The file's end ends the last one.
-pub(crate) fn line_at(file: &[u8], at: usize) -> Line
+pub(crate) fn line_at(file: &[u8], at: usize) -> Line<'_>
     requires { at < length file.now }
-    ensures { (result.start ≡ at) × LineAt file.now at result.end result.next }
+    ensures { (result.start ≡ at) × LineAt file.now at result.text.now result.next }
 {
-    let stop = find(b'\n', at, file);
-    if stop < file.len() {
-        let end = text_end(file, at, stop);
-        Line {
-            start: at,
-            end,
-            next: stop + 1,
+    match find(b'\n', &file[at..]) {
+        Some(length) => {
+            let stop = at + length;
+            Line {
+                start: at,
+                text: without_return(&file[at..stop]),
+                next: stop + 1,
+            }
         }
-    } else {
-        Line {
+        None => Line {
             start: at,
-            end: stop,
-            next: stop,
-        }
+            text: &file[at..],
+            next: file.len(),
+        },
     }
 }
 
-// The first line from an offset on that is not empty. Where there is none it starts past the file.
-pub(crate) fn first_line(file: &[u8], at: usize) -> Line
-    ensures { FirstLine file.now at result.start result.end result.next }
+// The first line from an offset on that is not empty.
+pub(crate) fn first_line(file: &[u8], at: usize) -> Option<Line<'_>>
+    ensures { MatchOption result (lines_from file.now at ≡ []) (λ l. FirstLine file.now at l.start l.text.now l.next) }
 {
     let mut start = at;
     while start < file.len() {
         let line = line_at(file, start);
-        let end = line.end;
-        if start < end {
-            return line;
+        if !line.text.is_empty() {
+            return Some(line);
         }
         start = line.next;
     }
-    Line {
-        start,
-        end: start,
-        next: start,
-    }
+    None
 }

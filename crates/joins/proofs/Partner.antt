@@ -9,12 +9,10 @@ use native.Mathlib.Omega.{arith}
 use lib.Dec.{ltb, eqb}
 use lib.ListN.{length, get_or}
 use borrow.Author.Tests.{ltb-true, ltb-false, eqb-false, ne_eqb}
-use Rattle.rules.specs.Join.{is_rising, partners}
+use Rattle.rules.specs.Join.{is_rising}
 use Rattle.rules.specs.Lists.{run, if, keep, has_some, is_member}
-use Rattle.rules.specs.Occurrence.{reach}
-use Rattle.rules.specs.Template.{distances}
 use Rattle.rules.specs.declared.Distances.{Distances}
-use Rattle.joins.specs.Pass.{LieBefore, Reached, is_within, is_partner}
+use Rattle.joins.specs.Pass.{LieBefore, Reached, is_within, has_partner}
 use Rattle.joins.proofs.Rising.{rising_order}
 
 -- a run holds the numbers from its start up to its end, and no other
@@ -75,10 +73,8 @@ module _ (ys : List ℕ) (from count j : ℕ) where
       go false c u v = none (λ k l a b. omega (arith, t.before k (omega (arith, ltb-false j (length ys) u))))
 
 -- so the first that is not before the reach of a position tells whether that has a partner
-pub first_decides : (ys : List ℕ) (head low high p j : ℕ) {apart : Distances} → apart ≡ distances head low high → is_rising 0 ys ≡ true → Reached ys (p + apart.near) j
-    → is_partner ys head low high p ≡ is_within ys j (p + apart.near + apart.count)
-unfolding partners reach
-first_decides ys head low high p j e r t = rw e (first_of ys (p + (distances head low high).near) (distances head low high).count j r (rw e at t))
+pub first_decides : (ys : List ℕ) (apart : Distances) (p j : ℕ) → is_rising 0 ys ≡ true → Reached ys (p + apart.near) j → has_partner ys apart p ≡ is_within ys j (p + apart.near + apart.count)
+first_decides ys apart p j r t = first_of ys (p + apart.near) apart.count j r t
 
 -- those of the second list up to j lie before the reach of the first list's positions from i on
 pub record PassedOver (xs : List ℕ) (i : ℕ) (ys : List ℕ) (j near : ℕ) : Type 0 where

@@ -1,10 +1,10 @@
 -- What the inner functions of a join ask and promise.
-use Rattle.std.specs.Prelude.{Bool, ◌&&◌, List, ℕ, ◌≤◌, ◌<◌, leb, ltb, length, get_or}
-use Rattle.rules.specs.Join.{partners}
+use Rattle.std.specs.Prelude.{Bool, ◌&&◌, List, ℕ, ◌+◌, ◌≤◌, ◌<◌, leb, ltb, length, get_or}
 use Rattle.rules.specs.Limits.{sequence_set_letters}
-use Rattle.rules.specs.Lists.{has_some}
+use Rattle.rules.specs.Lists.{keep, has_some, is_member, run}
 use Rattle.rules.specs.Refusals.{first, join_checks}
 use Rattle.rules.specs.Told.{Verdict}
+use Rattle.rules.specs.declared.Distances.{Distances}
 
 -- what the checks of a join find
 abbrev pub verdict : List ℕ → List ℕ → ℕ → ℕ → ℕ → List ℕ → Verdict
@@ -28,6 +28,6 @@ pub record Reached (ys : List ℕ) (from j : ℕ) : Type 0 where
 unfoldable pub is_within : List ℕ → ℕ → ℕ → Bool
 is_within ys j end = ltb j (length ys) && ltb (get_or ys j 0) end
 
--- a position has a partner in a list
-abbrev pub is_partner : List ℕ → ℕ → ℕ → ℕ → ℕ → Bool
-is_partner ys head low high p = has_some (partners ys head low high p)
+-- a position has a partner in a list, at one of some distances
+abbrev pub has_partner : List ℕ → Distances → ℕ → Bool
+has_partner ys apart p = has_some (keep (λ q. is_member q (run (p + apart.near) apart.count)) ys)

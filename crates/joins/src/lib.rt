@@ -2,31 +2,29 @@
 // call; the others are its parts.
 #![tactic(auto)]
 
-ghost use Rattle.std.specs.Prelude.{◌≡◌, ◌+◌, ◌≤◌, ◌<◌, length, set};
+ghost use Rattle.std.specs.Prelude.{◌≡◌, true, ◌+◌, ◌≤◌, length};
 ghost use Rattle.rules.specs.Calls.{join_rule};
-ghost use Rattle.rules.specs.Join.{is_rising, partnered};
-ghost use Rattle.rules.specs.Lists.{if, put};
+ghost use Rattle.rules.specs.Join.{is_rising};
+ghost use Rattle.rules.specs.Limits.{sequence_set_letters};
+ghost use Rattle.rules.specs.Lists.{keep, put};
 ghost use Rattle.rules.specs.Refusals.{check6_head, check8_range, check16, check17};
-ghost use Rattle.rules.specs.Told.{fine, told_checked, told_joined};
-ghost use Rattle.joins.specs.Pass.{verdict, is_following, LieBefore, Reached, is_within};
+ghost use Rattle.rules.specs.Told.{told_checked, told_answer};
+ghost use Rattle.joins.specs.Pass.{verdict, is_following, LieBefore, Reached, is_within, has_partner};
 
-use rules::{Checked, Distances, Joined, Position, Refusal, SequenceSet, Template};
+use rules::{Distances, Position, Refusal, SequenceSet, Template};
 
 // 6: the head has the length of a component.
-fn check_head(head: u16) -> Checked
+fn check_head(head: u16) -> Result<(), Refusal>
     ensures { told_checked result ≡ check6_head head }
 {
-    Checked::refuse_if(
-        (head < 1) | (Template::LENGTH < head),
-        Refusal::ComponentLength(1),
-    )
+    Refusal::ComponentLength(1).when((head < 1) | (Template::LENGTH < head))
 }
 
 // 8: the range is one of a gap.
-fn check_range(low: u16, high: u16) -> Checked
+fn check_range(low: u16, high: u16) -> Result<(), Refusal>
     ensures { told_checked result ≡ check8_range low high }
 {
-    Checked::refuse_if((high < low) | (Template::GAP < high), Refusal::GapRange(1))
+    Refusal::GapRange(1).when((high < low) | (Template::GAP < high))
 }
 
 // Whether a position may come after another in a list: it is higher, and not past the last letter that there may be.
@@ -40,41 +38,47 @@ fn follows(last: Position, p: Position) -> bool
 fn rises(list: &[u32]) -> bool
     ensures { result ≡ is_rising 0 list.now }
 {
-    let mut last: usize = 0;
-    let mut i = 0;
-    while i < list.len() {
-        let p = list[i] as usize;
-        if !follows(Position(last), Position(p)) {
+    let mut last = Position(0);
+    for p in list {
+        let here = Position(*p as usize);
+        if !follows(last, here) {
             return false;
         }
-        last = p;
-        i += 1;
+        last = here;
     }
     true
 }
 
 // 16: both lists rise.
-fn check_lists(first: &[u32], second: &[u32]) -> Checked
+fn check_lists(first: &[u32], second: &[u32]) -> Result<(), Refusal>
     ensures { told_checked result ≡ check16 first.now second.now }
 {
-    Checked::refuse_if(!(rises(first) & rises(second)), Refusal::JoinList)
+    Refusal::JoinList.when(!(rises(first) & rises(second)))
 }
 
 // 17: the table has room for all of the first list.
-fn check_room(first: &[u32], out: &[u32]) -> Checked
+fn check_room(first: &[u32], out: &[u32]) -> Result<(), Refusal>
     ensures { told_checked result ≡ check17 (length first.now) out.now }
 {
-    Checked::refuse_if(out.len() < first.len(), Refusal::Room)
+    Refusal::Room.when(out.len() < first.len())
 }
 
 // What a join refuses, in the paper's order.
-fn check_join(first: &[u32], second: &[u32], head: u16, low: u16, high: u16, out: &[u32]) -> Checked
+#[tactic(auto, using(rules::proofs::Verdicts::in_turn, crate::proofs::Checks::in_order))]
+fn check_join(
+    first: &[u32],
+    second: &[u32],
+    head: u16,
+    low: u16,
+    high: u16,
+    out: &[u32],
+) -> Result<(), Refusal>
     ensures { told_checked result ≡ verdict first.now second.now head low high out.now }
 {
-    let room = check_room(first, out);
-    let lists = check_lists(first, second).then(room);
-    let range = check_range(low, high).then(lists);
-    check_head(head).then(range)
+    check_head(head)?;
+    check_range(low, high)?;
+    check_lists(first, second)?;
+    check_room(first, out)
 }
 
 // The index of the first position of a list that is not before `from`, looked for from `at` on: all up to there are.
@@ -82,63 +86,39 @@ fn skip(list: &[u32], at: usize, from: Position) -> usize
     requires { (at ≤ length list.now) × LieBefore list.now at from.0 }
     ensures { Reached list.now from.0 result }
 {
-    let least = from.0;
-    let mut j = at;
-    while j < list.len() {
-        let p = list[j] as usize;
-        if least <= p {
-            return j;
-        }
-        j += 1;
-    }
-    j
+    let rest = &list[at..];
+    at + rest
+        .iter()
+        .position(|p| from.0 <= *p as usize)
+        .unwrap_or(rest.len())
 }
 
 // Whether a list has a position at `at`, and it is before `end`.
 fn within(list: &[u32], at: usize, end: Position) -> bool
     ensures { result ≡ is_within list.now at end.0 }
 {
-    if at < list.len() {
-        let p = list[at] as usize;
-        p < end.0
-    } else {
-        false
-    }
-}
-
-// Writes a position after the `n` that a table holds, if it is to be kept, and answers how many it holds then.
-fn keep(kept: bool, p: u32, n: usize, out: &mut [u32]) -> usize
-    requires { n < length out.old }
-    ensures { (result ≡ if kept (n + 1) n) × (out.new ≡ if kept (set out.old n p) out.old) }
-{
-    if kept {
-        out[n] = p;
-        n + 1
-    } else {
-        n
-    }
+    list.get(at).is_some_and(|p| (*p as usize) < end.0)
 }
 
 // Writes the positions of the first list that have a partner, and answers how many. Both lists rise, so the first of the second
 // list that may be a partner only moves on: one pass over each, however wide the range.
-fn pass(first: &[u32], second: &[u32], head: u16, low: u16, high: u16, out: &mut [u32]) -> usize
-    requires { verdict first.now second.now head low high out.old ≡ fine }
-    ensures value { result ≡ length (partnered first.now second.now head low high) }
-    ensures out_after { out.new ≡ put (partnered first.now second.now head low high) out.old }
+fn pass(first: &[u32], second: &[u32], apart: Distances, out: &mut [u32]) -> usize
+    requires first_rising { is_rising 0 first.now ≡ true }
+    requires second_rising { is_rising 0 second.now ≡ true }
+    requires near { apart.near + apart.count ≤ sequence_set_letters }
+    requires room { length first.now ≤ length out.old }
+    ensures value { result ≡ length (keep (has_partner second.now apart) first.now) }
+    ensures out_after { out.new ≡ put (keep (has_partner second.now apart) first.now) out.old }
 {
-    let apart = Distances::over(head, low, high);
-    let near = apart.near;
-    let count = apart.count;
     let mut n = 0;
     let mut j = 0;
-    let mut i = 0;
-    while i < first.len() {
-        let p = first[i];
-        let from = p as usize + near;
-        let end = from + count;
+    for p in first {
+        let from = *p as usize + apart.near;
         j = skip(second, j, Position(from));
-        n = keep(within(second, j, Position(end)), p, n, out);
-        i += 1;
+        if within(second, j, Position(from + apart.count)) {
+            out[n] = *p;
+            n += 1;
+        }
     }
     n
 }
@@ -154,13 +134,10 @@ pub fn join(
     low: u16,
     high: u16,
     out: &mut [u32],
-) -> Joined
-    ensures result_value { told_joined result ≡ (join_rule first.now second.now head low high out.old).told }
+) -> Result<usize, Refusal>
+    ensures result_value { told_answer result ≡ (join_rule first.now second.now head low high out.old).told }
     ensures out_after { out.new ≡ (join_rule first.now second.now head low high out.old).out }
 {
-    let checked = check_join(first, second, head, low, high, out);
-    match checked {
-        Checked::Refused(why) => Joined::Refused(why),
-        Checked::Fine => Joined::Kept(pass(first, second, head, low, high, out)),
-    }
+    check_join(first, second, head, low, high, out)?;
+    Ok(pass(first, second, Distances::over(head, low, high), out))
 }

@@ -8,7 +8,9 @@ use native.Mathlib.Numerals.{add-one}
 use native.Mathlib.Omega.{arith}
 use lib.ListN.{length, set, length-append, length-map}
 use Rattle.rules.proofs.Tables.{put_more}
-use Rattle.rules.specs.Legs.{Stop, ended, spent, full, Stretch, halt, then, on, leg}
+use Rattle.rules.specs.Legs.{Stretch, halt, then, on, leg}
+use Rattle.rules.specs.declared.Stop.{Stop}
+use Rattle.rules.specs.declared.Stop.TheVariants.{Ended, Spent, Full}
 use Rattle.rules.specs.Lists.{put}
 use Rattle.rules.specs.Walk.{Walk, next, motif}
 use Rattle.rules.specs.declared.Place.{Place}
@@ -47,18 +49,18 @@ module _ (W : Walk) (budget room : ℕ) (p : Place) (support weight : ℕ → �
     went : (ms : List ℕ) (l : Stretch) (q' : Place) → leg W (budget - s) (room - k) q ≡ then ms l → leg W budget room p ≡ on (so_far (s + 1) (f.listed ++ ms) q') l
     went ms l q' e = f.same ∙ ap (on (so_far s f.listed q)) e ∙ so_far_step s f.listed ms q q' l ∙ rw add-one
 
-    pub follow_ended : q.letters ≡ 0 → leg W budget room p ≡ record { stop = ended; steps = s; motifs = f.listed; at = q }
-    follow_ended h = stop_with ended (leg_ended W (budget - s) (room - k) q h)
+    pub follow_ended : q.letters ≡ 0 → leg W budget room p ≡ record { stop = Ended; steps = s; motifs = f.listed; at = q }
+    follow_ended h = stop_with Ended (leg_ended W (budget - s) (room - k) q h)
 
-    pub follow_spent : 1 ≤ q.letters → s ≡ budget → leg W budget room p ≡ record { stop = spent; steps = s; motifs = f.listed; at = q }
-    follow_spent h e = stop_with spent (let z : budget - s ≡ 0 = omega arith in rw z (leg_spent W 0 (room - k) q h))
+    pub follow_spent : 1 ≤ q.letters → s ≡ budget → leg W budget room p ≡ record { stop = Spent; steps = s; motifs = f.listed; at = q }
+    follow_spent h e = stop_with Spent (let z : budget - s ≡ 0 = omega arith in rw z (leg_spent W 0 (room - k) q h))
 
     module _ (h : 1 ≤ q.letters) (l : s < budget) where
       left : budget - s ≡ suc (budget - (s + 1))
       left = omega arith
 
-      pub follow_full : motif W q ≡ true → k ≡ room → leg W budget room p ≡ record { stop = full; steps = s; motifs = f.listed; at = q }
-      follow_full m e = stop_with full (let z : room - k ≡ 0 = omega arith in rw (left, z) (leg_full W (budget - (s + 1)) 0 q h m))
+      pub follow_full : motif W q ≡ true → k ≡ room → leg W budget room p ≡ record { stop = Full; steps = s; motifs = f.listed; at = q }
+      follow_full m e = stop_with Full (let z : room - k ≡ 0 = omega arith in rw (left, z) (leg_full W (budget - (s + 1)) 0 q h m))
 
       -- a candidate that is no motif
       pub follow_passes : {q' : Place} → next W q ≡ q' → motif W q ≡ false → Following motifs supports weights (s + 1) k q'

@@ -6,8 +6,8 @@ use mathlib.Core.List.{List, [], ◌∷◌}
 use Prim.Native.Nat.{ℕ, zero, suc, ◌+◌, ◌-◌, ◌*◌, ◌/◌, ◌%◌, ◌^◌, ◌≤◌, ◌<◌}
 use native.Mathlib.Numerals.{add-one}
 use native.Mathlib.Omega.{arith}
-use borrow.Author.Tests.{lt-ltb, le-ltb, eq-eqb, ne_eqb}
-use lib.Dec.{ltb, eqb}
+use borrow.Author.Tests.{lt-ltb, le-ltb}
+use lib.Dec.{ltb}
 use lib.ListN.{get_or}
 use Rattle.rules.specs.Limits.{letter_bases, letter_digits}
 use Rattle.rules.specs.Lists.{if, sum}
@@ -23,22 +23,23 @@ use Rattle.rules.specs.declared.Template.{Template}
 use Rattle.rules.proofs.Components.{components_at, components_length}
 use Rattle.rules.proofs.Rises.{letters_to, shorter_valid, child_valid, valid_fits, first_child, risen_valid, exact_rises, rises_past_t, rises_not_t}
 use Rattle.rows.specs.NextLetter.{At, letters_before}
-use Rattle.matching.specs.Path.{Inside}
+use Rattle.matching.specs.declared.made.Spot.{Spot}
+use Rattle.matching.specs.Path.{spot, Inside}
 use Rattle.matching.proofs.Extend.{letter_at, inside_letter, inside_component}
 use Rattle.legs.specs.Kind.{walk_by, Rises}
 
--- ---- which letter of which component the last one is, by the number that `inside` has for it
+-- ---- which letter of which component the last one is, as `inside` has it
 
-module _ (t : Template) (sound : SoundTemplate t) (inside : List ℕ) (code : Inside t inside) (j : ℕ) where
-  pub code_component : 1 ≤ j → j ≤ size t → get_or inside (j - 1) 0 / 16 < 6
+module _ (t : Template) (sound : SoundTemplate t) (inside : List Spot) (code : Inside t inside) (j : ℕ) where
+  pub code_component : 1 ≤ j → j ≤ size t → (get_or inside (j - 1) (spot 0 0)).component < 6
   code_component h l =
       let s = letter_at t (j - 1) (omega arith) in
-      omega (arith, inside_component t sound inside code (j - 1) s.component s.letter s.at, s.at.there, components_length t sound.few, sound.few)
+      omega (arith, inside_component t inside code (j - 1) s.component s.letter s.at, s.at.there, components_length t sound.few, sound.few)
 
-  pub room_is : (m : ℕ) {cs : List Component} {n : ℕ} → cs ≡ slots t → n ≡ several (spell letter_digits (get_or inside (j - 1) 0 % 16) (m / letter_digits)) → (k i : ℕ) → At (components t) (j - 1) k i
-      → ltb n (get_or cs (get_or inside (j - 1) 0 / 16) none).allowance ≡ ltb (several (spell letter_digits i (m / letter_digits))) (get_or (components t) k none).allowance
+  pub room_is : (m : ℕ) {cs : List Component} {n : ℕ} → cs ≡ slots t → n ≡ several (spell letter_digits ((get_or inside (j - 1) (spot 0 0)).letter) (m / letter_digits)) → (k i : ℕ) → At (components t) (j - 1) k i
+      → ltb n (get_or cs ((get_or inside (j - 1) (spot 0 0)).component) none).allowance ≡ ltb (several (spell letter_digits i (m / letter_digits))) (get_or (components t) k none).allowance
   room_is m e f k i a =
-      rw (e, f, inside_component t sound inside code (j - 1) k i a, inside_letter t sound inside code (j - 1) k i a, components_at t k (omega (arith, a.there, components_length t sound.few)))
+      rw (e, f, inside_component t inside code (j - 1) k i a, inside_letter t inside code (j - 1) k i a, components_at t k (omega (arith, a.there, components_length t sound.few)))
 
 -- ---- the last letter goes up
 
@@ -120,11 +121,3 @@ module _ (t : Template) where
 
     pub child_fits : (j m : ℕ) {b : ℕ} → j < size t → valid t j m ≡ true → b ≡ base_of t → m * b < 2 ^ 64
     child_fits j m l v e = rw e (valid_fits t sound (suc j) (m * base_of t) l (child_valid t j m l v))
-
--- ---- a candidate that is listed
-
-pub hit_yes : (a b : ℕ) (g : Bool) → a ≡ b → g ≡ (eqb a b && g)
-hit_yes a b g e = rw (eq-eqb a b e)
-
-pub hit_no : (a b : ℕ) (g : Bool) → (a ≡ b → ⊥) → false ≡ (eqb a b && g)
-hit_no a b g e = rw (ne_eqb a b e)

@@ -16,15 +16,15 @@ use Rattle.matching.specs.Path.{Path}
 use Rattle.legs.proofs.Kind.{next_down, next_last, next_bad}
 use Rattle.legs.specs.Kind.{walk_by}
 
-module _ (t : Template) (ns l evens odds : List ℕ) (good : ℕ → ℕ → Bool) (depth j m : ℕ) (here : Path t ns l evens odds j m) where
-  goes_up : {q : Place} → next (walk_by t good depth) (place j m) ≡ q → next (walk_by t good depth) (place j m) ≡ up (walk_by t good depth) j m → Path t ns l evens odds q.letters q.number
-  goes_up e u = rw (← e, u) (path_up_in t ns l evens odds (walk_by t good depth) refl j m here)
+module _ (t : Template) (ns l slots : List ℕ) (good : ℕ → ℕ → Bool) (depth j m : ℕ) (here : Path t ns l slots j m) where
+  goes_up : {q : Place} → next (walk_by t good depth) (place j m) ≡ q → next (walk_by t good depth) (place j m) ≡ up (walk_by t good depth) j m → Path t ns l slots q.letters q.number
+  goes_up e u = rw (← e, u) (path_up_in t ns l slots (walk_by t good depth) refl j m here)
 
   -- the path to the next place
-  pub path_next : {q : Place} → depth ≡ size t → valid t j m ≡ true → (good j m ≡ true → j < depth → Path t ns l evens odds (j + 1) (m * base_of t)) → next (walk_by t good depth) (place j m) ≡ q → Path t ns l evens odds q.letters q.number
+  pub path_next : {q : Place} → depth ≡ size t → valid t j m ≡ true → (good j m ≡ true → j < depth → Path t ns l slots (j + 1) (m * base_of t)) → next (walk_by t good depth) (place j m) ≡ q → Path t ns l slots q.letters q.number
   path_next {q} d v p e = go (good j m) refl
     where
-      go : (b : Bool) → good j m ≡ b → Path t ns l evens odds q.letters q.number
+      go : (b : Bool) → good j m ≡ b → Path t ns l slots q.letters q.number
       go false g = goes_up e (next_bad t good depth j m g)
       go true g =
           elim (dec_lt j depth) [

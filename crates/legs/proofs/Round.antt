@@ -1,4 +1,5 @@
 -- One round of a leg's loop over a search that the checks accept: what holds before it, and how each way through it goes on.
+use Rattle.std.specs.Prelude.{Ok}
 use mathlib.Core.Path.{◌≡◌, refl, sym, ap, ◌∙◌}
 use mathlib.Core.Bool.{Bool, true, false, ◌&&◌, false≢true}
 use mathlib.Core.List.{List, map}
@@ -9,17 +10,17 @@ use lib.ListN.{length, set, drop, length-append, length-drop, length-map}
 use borrow.Author.Tests.{eqb-true, eqb-false, leb-true, ltb-true, lt-leb}
 use lib.Dec.{eqb, leb, ltb}
 use Rattle.rules.specs.Calls.{moved, motif_parts, stretch, supports_of, weights_of}
-use Rattle.rules.specs.Legs.{Stop, leg}
+use Rattle.rules.specs.Legs.{leg}
+use Rattle.rules.specs.declared.Stop.{Stop}
 use Rattle.rules.specs.Lists.{if, put}
 use Rattle.rules.specs.Profile.{base_of}
 use Rattle.rules.specs.Saved.{meets_place_rule}
 use Rattle.rules.specs.Sequences.{sequences}
 use Rattle.rules.specs.Support.{support, weight, frequent, parts, valid}
 use Rattle.rules.specs.Template.{size}
-use Rattle.rules.specs.Told.{gives, told_answer, told_leg}
+use Rattle.rules.specs.Told.{told_leg}
 use Rattle.rules.specs.Walk.{walk_in, next, motif, walk_of, Candidate, Passing}
 use Rattle.rules.specs.declared.Leg.{Leg}
-use Rattle.rules.specs.declared.LegAnswer.{LegAnswer}
 use Rattle.rules.specs.declared.Place.{Place}
 use Rattle.rules.specs.declared.Search.{Search}
 use Rattle.rules.proofs.EachKind.{frequent_support}
@@ -103,14 +104,14 @@ module _ (letters lengths : List ℕ) (s : Search) (o : SoundSearch letters leng
         )
 
     -- where the leg stops, what it answers and what its tables hold
-    pub run_done : {answer : LegAnswer} {l : Leg} (stop : Stop) → leg (walk_of letters lengths s) budget room s.place ≡ record { stop = stop; steps = steps; motifs = r.follow.listed; at = p }
-        → told_answer answer ≡ gives stop → l ≡ record { answer = answer; steps = steps; rows = rows; search = moved s p } → room ≡ room_of motifs₀ supports₀ weights₀
+    pub run_done : {l : Leg} (stop : Stop) → leg (walk_of letters lengths s) budget room s.place ≡ record { stop = stop; steps = steps; motifs = r.follow.listed; at = p }
+        → l ≡ record { answer = Ok stop; steps = steps; rows = rows; search = moved s p } → room ≡ room_of motifs₀ supports₀ weights₀
         → let t = stretch letters lengths s budget (room_of motifs₀ supports₀ weights₀) in
         (told_leg l ≡ told_of s t) × ((motifs ≡ put t.motifs motifs₀) × ((supports ≡ put (supports_of letters lengths s t.motifs) supports₀) × (weights ≡ put (weights_of letters lengths s t.motifs) weights₀)))
     unfolding stretch supports_of weights_of
-    run_done stop e a f d =
+    run_done stop e f d =
         let f' = r.follow in
-        rw (← d, e) (rw (f, a, f'.counted) refl, (f'.motifs_hold, (f'.supports_hold, f'.weights_hold)))
+        rw (← d, e) (rw (f, f'.counted) refl, (f'.motifs_hold, (f'.supports_hold, f'.weights_hold)))
 
 -- a candidate is a listed motif by its letters and by whether it is frequent
 pub motif_is : (letters lengths : List ℕ) (s : Search) (p : Place) (depth : ℕ) (good hit : Bool) → depth ≡ size s.template → good ≡ frequent s.template s.quorum (sequences letters lengths) p.letters p.number

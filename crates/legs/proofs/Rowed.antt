@@ -1,21 +1,20 @@
 -- What a row of the tables leans on: the last component's letters in a motif's number, the ways counted for a prefix, and the
 -- path to the first candidate under a prefix.
 use mathlib.Core.List.{List}
-use mathlib.Core.Path.{◌≡◌, ap, ◌∙◌}
+use mathlib.Core.Path.{◌≡◌, ap}
 use Prim.Native.Nat.{ℕ, ◌+◌, ◌-◌, ◌*◌, ◌/◌, ◌^◌, ◌<◌}
 use native.Mathlib.Omega.{arith}
-use lib.ListN.{get_or, set}
+use lib.ListN.{get_or}
 use Rattle.rules.proofs.Components.{components_at}
 use Rattle.rules.proofs.EachKind.{kind_proper}
 use Rattle.rules.specs.Profile.{base_of}
 use Rattle.rules.specs.Sound.{SoundComponent, SoundTemplate}
-use Rattle.rules.specs.Support.{weight, parts}
 use Rattle.rules.specs.Template.{none, slots, size}
 use Rattle.rules.specs.declared.Component.{Component}
 use Rattle.rules.specs.declared.Template.{Template}
 use Rattle.matching.proofs.Led.{letters_next, letters_last}
 use Rattle.matching.specs.Path.{Path}
-use Rattle.matching.specs.Weights.{before_last, prefix_of, Leads, Counted}
+use Rattle.matching.specs.Weights.{before_last, prefix_of}
 
 -- THE LAST COMPONENT, as the slots have it
 module _ (t : Template) (sound : SoundTemplate t) where
@@ -34,18 +33,9 @@ module _ (t : Template) (sound : SoundTemplate t) where
   pub last_prefix : (m : ℕ) → m / base_of t ^ (get_or (slots t) (t.count - 1) none).length ≡ prefix_of t m
   last_prefix m = ap (λ (n : ℕ). m / base_of t ^ n) last_letters
 
--- THE WAYS for a prefix, and the number one more than it
-pub counted_led : (t : Template) (ns l : List ℕ) (prefix : ℕ) {ways : List ℕ} → Leads t ns l prefix ways → Counted t ns l (prefix + 1) ways
-counted_led t ns l prefix h = record { leads = λ _. (let z : prefix + 1 - 1 ≡ prefix = omega arith in rw z h) }
-
--- THE WEIGHT of a candidate that has all letters is the motif's
-pub weight_whole : (t : Template) (m : ℕ) (ss : List (List ℕ)) (table : List ℕ) (i : ℕ) {d w : ℕ} → d ≡ size t → w ≡ weight (parts t d m) ss
-    → set table i w ≡ set table i (weight (parts t (size t) m) ss)
-weight_whole t m ss table i whole e = ap (λ (n : ℕ). set table i n) (e ∙ ap (λ (d : ℕ). weight (parts t d m) ss) whole)
-
 -- THE PATH to each candidate of one letter more is one to the first of them
-pub path_first : {t : Template} {ns l evens odds : List ℕ} {j : ℕ} (m : ℕ) → ((x : ℕ) → x < base_of t → Path t ns l evens odds j (m * base_of t + x))
-    → Path t ns l evens odds j (m * base_of t)
+pub path_first : {t : Template} {ns l slots : List ℕ} {j : ℕ} (m : ℕ) → ((x : ℕ) → x < base_of t → Path t ns l slots j (m * base_of t + x))
+    → Path t ns l slots j (m * base_of t)
 path_first {t} m f =
     let z : m * base_of t + 0 ≡ m * base_of t = omega arith in
     rw z at (f 0 (kind_proper t.profile).pos)

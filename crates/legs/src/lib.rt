@@ -9,7 +9,9 @@ ghost use Rattle.places.specs.SearchOrder.{before_13};
 ghost use Rattle.rules.specs.Calls.{leg_rule};
 ghost use Rattle.rules.specs.Told.{fine, told_leg};
 
-use rules::{Checked, Leg, LegAnswer, Search, SequenceSet};
+use matching::made::Spot;
+use matching::tables;
+use rules::{Leg, Search, SequenceSet};
 
 // A leg of a search, as `search::leg` promises it, of which 13 alone is left to check. The tables that it works in are its own, and
 // have the path of its place once 13 is checked: it goes on from there.
@@ -28,38 +30,29 @@ pub fn leg(
     ensures supports_after { supports.new ≡ (leg_rule letters.now lengths.now search budget motifs.old supports.old weights.old).supports }
     ensures weights_after { weights.new ≡ (leg_rule letters.now lengths.now search budget motifs.old supports.old weights.old).weights }
 {
-    let mut inside = [0u8; matching::LETTERS];
+    let mut inside = [Spot::FIRST; matching::LETTERS];
     let mut firsts = [0u32; matching::FIRSTS];
     let mut offsets = [0u32; matching::OFFSETS];
     let mut standing = [0u64; matching::STANDING];
-    let mut evens = [0u64; matching::SLOTS];
-    let mut odds = [0u64; matching::SLOTS];
+    let mut slots = [0u64; matching::SLOTS];
     let mut work = [0u64; matching::WORDS];
     let mut spare = [0u64; matching::WORDS];
     let mut ways = [0u64; SequenceSet::LETTERS];
-    let checked = places::check_passes(
+    let made = tables::make(
+        search,
         letters,
         lengths,
-        search,
         &mut inside,
         &mut firsts,
         &mut offsets,
         &mut standing,
-        &mut evens,
-        &mut odds,
+        &mut slots,
         &mut work,
-        &mut spare,
     );
-    match checked {
-        Checked::Refused(why) => Leg {
-            answer: LegAnswer::Refused(why),
-            steps: 0,
-            rows: 0,
-            search,
-        },
-        Checked::Fine => run::run(
-            letters, lengths, search, budget, motifs, supports, weights, &inside, &firsts,
-            &offsets, &standing, &mut evens, &mut odds, &mut work, &mut spare, &mut ways,
+    match places::check_passes(&made, &mut slots, &mut spare) {
+        Err(why) => Leg::refused(search, why),
+        Ok(()) => run::run(
+            &made, budget, motifs, supports, weights, &mut slots, &mut work, &mut spare, &mut ways,
         ),
     }
 }

@@ -1,14 +1,15 @@
 -- One record more. Where the reader hands out a record, its line goes behind those before it and what is printed from there is what
 -- was to be printed; where it hands out none, the lines so far are all; and where it refuses, that is the printout. The reader never
 -- finds that there is no room: a file is longer than its records, so the lines so far and those to come are no longer than the file.
-use mathlib.Core.Path.{◌≡◌, refl, sym, ap, ◌∙◌}
+use Rattle.std.specs.Prelude.{Option, None, Some, Result, Ok, Err, IsErr, IsErrAnd, IfErr}
+use mathlib.Core.Path.{◌≡◌, refl, sym, ap, subst, ◌∙◌}
 use mathlib.Core.Bool.{false}
 use mathlib.Core.List.{List, [], ◌∷◌, ◌++◌, map, append-nil, append_assoc}
 use Prim.Native.Nat.{ℕ, suc, ◌+◌, ◌≤◌, ◌<◌}
 use native.Mathlib.Numerals.{add-one}
 use native.Mathlib.Omega.{arith}
 use lib.Dec.{leb, ltb}
-use lib.ListN.{length, take, drop, set, length-append, length-take}
+use lib.ListN.{length, take, drop, set, length-append}
 use lib.Seq.{length-take-le, take_at, take-suc-set}
 use borrow.Author.Tests.{le-ltb, lt-ltb, lt-leb}
 use Rattle.rules.specs.Calls.{on_refusal}
@@ -18,8 +19,9 @@ use Rattle.rules.specs.Lists.{each, put, put_at}
 use Rattle.rules.specs.Refusals.{◌else◌, first}
 use Rattle.rules.specs.Text.{print_refused}
 use Rattle.rules.specs.TextRefused.{with_end}
-use Rattle.rules.specs.Told.{Verdict, fine, refused, Told, gives, refuses, Handing, entry, no_entry, told_handed}
-use Rattle.rules.specs.declared.Handed.{Handed}
+use Rattle.rules.specs.Told.{Verdict, fine, refused, Told, gives, refuses, Handing, entry, no_entry, file_refusal_number, file_refusal_place, told_handed}
+use Rattle.rules.specs.declared.FastaRecord.{FastaRecord}
+use Rattle.rules.specs.declared.FileRefusal.{FileRefusal}
 use Rattle.rules.proofs.FastaFits.{records_fit}
 use Rattle.rules.proofs.FastaLines.{left_next}
 use Rattle.rules.proofs.Tables.{put_front, put_at_long}
@@ -73,10 +75,6 @@ all_printed out {n} h e = (e, sym (length-take-le n out h) ∙ ap length e)
 -- a refusal
 pub refused_printed : {line text before out : List ℕ} {n : ℕ} → line ≡ text → Printed.WroteLine line before out n → Stands text out n
 refused_printed {line} {before = before} {n = n} e l = (ap (take n) l.out ∙ put_front n line before (sym l.end) ∙ e, l.end ∙ ap length e)
-
--- it is in the buffer
-pub in_buffer : (text out : List ℕ) (n : ℕ) → Stands text out n → n ≤ length out
-in_buffer text out n w = omega (arith, length-take n out, ap length w.0, w.1)
 
 -- ---- one turn
 
@@ -159,7 +157,35 @@ module _ (file : List ℕ) (at used : ℕ) (out row : List ℕ) (small : length 
   unfolding reader_rule reader_checks
   after_call = after_rule (check19 ls) refl (records_from file at) refl
 
-  -- THE TURN, of what a call answered
-  pub turned : {h k : Handed} {next : ℕ} {letters : List ℕ} → told_handed h ≡ (reader_rule file at out used row 0).told
-      → next ≡ (reader_rule file at out used row 0).at → letters ≡ (reader_rule file at out used row 0).letters → h ≡ k → After file at used (told_handed k) next letters
-  turned t n l e = rw (← e, t, n, l) after_call
+-- ---- the reader's calls, one after another
+
+-- the reader is over the file, which can be held, and there is room for it; the lines so far stand
+pub record Reading (file lent out : List ℕ) (used at : ℕ) : Type 0 where
+  pub over : lent ≡ file
+  pub small : length file ≤ fasta_bytes
+  pub room : fasta_bytes ≤ length out
+  pub here : Here file out used at
+
+module _ {file lent out : List ℕ} {used at : ℕ} (d : Reading file lent out used at) (row : List ℕ) (one : length row ≡ 1) {told : Told Handing} {next : ℕ} {letters : List ℕ}
+    (t : told ≡ (reader_rule lent at out used row 0).told) (n : next ≡ (reader_rule lent at out used row 0).at) (l : letters ≡ (reader_rule lent at out used row 0).letters) where
+  -- by what the call told
+  handed : After file at used told next letters
+  handed = rw (t, n, l, d.over) (after_call file at used out row d.small d.room one d.here)
+
+  pub handed_record : {o : Option FastaRecord} {r : FastaRecord} → told ≡ told_handed (Ok o) → o ≡ Some r → Record file at used r.letters next letters
+  handed_record e i = rw (e, i) at handed
+
+  pub handed_refusal : (r : FileRefusal) → told ≡ told_handed (Err r) → print_refused (file_refusal_number r) (file_refusal_place r) ≡ lines_rule file
+  handed_refusal r e = rw e at handed
+
+  pub handed_none : {o : Option FastaRecord} → told ≡ told_handed (Ok o) → o ≡ None → take used letters ≡ lines_rule file
+  handed_none e i = rw (e, i) at handed
+
+-- a refusal is handed on
+pub refused_on : {A E : Type 0} (P : E → Type 0) (q : Result A E) (r : E) → IsErr q × IsErrAnd q (λ s. s ≡ r) → P r → IfErr q P
+refused_on P (Ok a) r h p = absurd h.1
+refused_on P (Err s) r h p = subst P (sym h.1) p
+
+-- the lines so far are no longer than the buffer, before the call and after it
+pub lines_fit : {file lent out : List ℕ} {used at : ℕ} (letters : List ℕ) → Reading file lent out used at → length letters ≡ length out → used ≤ length letters
+lines_fit letters d e = omega (arith, d.here.short, d.small, d.room, e)

@@ -1,15 +1,9 @@
 -- THE PRINTOUT of a file, as it comes to stand in a buffer record by record.
-use Rattle.std.specs.Prelude.{List, ◌∷◌, ◌++◌, map, ◌≡◌, ℕ, ◌+◌, ◌≤◌, ◌<◌, length, take}
+use Rattle.std.specs.Prelude.{List, ◌∷◌, ◌++◌, map, ◌≡◌, ℕ, ◌+◌, ◌≤◌, length, take}
 use Rattle.rules.specs.Calls.{on_refusal}
 use Rattle.rules.specs.Fasta.{lines_from, records_from, check19, check4_file, lines_for, lines_rule}
 use Rattle.rules.specs.Refusals.{first}
 use Rattle.rules.specs.Text.{print_refused}
-use Rattle.lines.specs.declared.print.Turn.{Turn}
-use Rattle.lines.specs.declared.print.Turn.TheVariants as turn
-
--- a refusal, by its number and place
-abbrev pub refused_turn : ℕ → ℕ → Turn
-refused_turn n p = turn.Refused n p
 
 -- WHAT IS PRINTED of a file where some lines stand and the reader is at a cursor: what is refused from there on, or those lines and
 -- one for each record that is left
@@ -22,9 +16,3 @@ rest_rule file at before =
 pub record Here (file out : List ℕ) (used at : ℕ) : Type 0 where
   pub short : used + length (lines_for (records_from file at)) ≤ length file
   pub whole : rest_rule file at (take used out) ≡ lines_rule file
-
--- after the next record: its line stands there too, and fewer are left; or the lines so far are the whole printout; or a refusal is
-abbrev pub Turned : List ℕ → ℕ → ℕ → List ℕ → Turn → Type 0
-Turned file at used out (turn.Line end next) = (length (records_from file next) < length (records_from file at)) × Here file out end next
-Turned file at used out turn.End = take used out ≡ lines_rule file
-Turned file at used out (turn.Refused n p) = print_refused n p ≡ lines_rule file

@@ -10,7 +10,7 @@ ghost use Rattle.rules.specs.Limits.{fasta_bytes};
 ghost use Rattle.text.specs.Printed.{line_room};
 
 use print::{BYTES, print_lines};
-use stdin::{Came, not_read, read_all};
+use stdin::{not_read, read_all};
 
 // Room for a file and a little more, so that one that is too long shows, or for a printout. The `ensures` gives only the length:
 // no proof looks into that many bytes.
@@ -40,11 +40,10 @@ fn main(rt: HostRuntime) {
     let mut file = room();
     let came = read_all(&mut rt.stdin(), &mut file);
     match came {
-        Came::All(n) => {
+        Ok(n) => {
             let mut out = room();
             answer(&rt, &rt.stderr(), &file[..n], &mut out);
         }
-        Came::Failed => not_read(&rt.stderr(), b"lines"),
-        Came::More(_) => not_read(&rt.stderr(), b"lines"),
+        Err(_) => not_read(&rt.stderr(), b"lines"),
     }
 }

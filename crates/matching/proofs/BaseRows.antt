@@ -17,14 +17,14 @@ use Rattle.rules.specs.Sequences.{split}
 use Rattle.rows.specs.Bases.{word_of}
 use Rattle.rows.specs.Bits.{held}
 use Rattle.rows.specs.Flags.{bit}
-use Rattle.matching.specs.Path.{row_slot, BaseRows}
+use Rattle.matching.specs.Path.{row_slot}
 use Rattle.rows.specs.Rows.{letter_at, lettered}
 use Rattle.rows.specs.Set.{row_words, words_of, first_word, between, shifted_at, lettered_at, Filled}
 use Rattle.rows.specs.declared.words.Bases.{Bases}
 use Rattle.rows.proofs.Lettered.{Made, made_more, made_all}
 use Rattle.rows.proofs.Offsets.{offset_of, lettered_turn}
 use Rattle.rows.proofs.Sets.{between_set, between_set_past, between_set_before}
-use Rattle.rows.proofs.Sets.{filled_none, filled_turn, filled_end}
+use Rattle.rows.proofs.Sets.{filled_turn}
 use Rattle.matching.proofs.Slots.{slot_written, row_slot_long}
 
 -- ONE LETTER
@@ -125,9 +125,6 @@ module _ (a e : ℕ) (s old : List ℕ) where
     pub kept : (x : ℕ) → x < 4 → take a (row_slot x standing) ≡ take a (row_slot x old)
     pub made : (x : ℕ) → x < 4 → Made eqb (letter x) s q (between a e (row_slot x standing))
 
-  pub begun_none : (q : ℕ) → q ≡ 0 → Begun q old
-  begun_none q z = record { kept = λ x h. refl; made = λ x h k b l. absurd (omega arith) }
-
   -- a turn makes a word in each
   pub begun_more : (q to : ℕ) (standing standing' : List ℕ) (w : Bases) → to ≡ min (64 * q + 64) (length s)
       → a + q < e → e ≤ row_words → 4 * row_words ≤ length standing
@@ -157,9 +154,6 @@ module _ (a e : ℕ) (s old : List ℕ) where
 pub record Whole (ns l : List ℕ) (n : ℕ) (standing : List ℕ) : Type 0 where
   pub rows : (x : ℕ) → x < 4 → Filled (λ _. true) (lettered_at eqb (letter x) ns l) ns (row_slot x standing) n
 
-pub whole_none : (ns l standing : List ℕ) (n : ℕ) → n ≡ 0 → Whole ns l n standing
-whole_none ns l standing n z = record { rows = λ x o. filled_none _ _ ns (row_slot x standing) n z }
-
 pub whole_more : (ns l : List ℕ) (k : ℕ) → k < length ns → {a e from to : ℕ}
     → a ≡ offset_of ns k → e ≡ offset_of ns (k + 1) → from ≡ first_word ns k → to ≡ first_word ns (k + 1)
     → {s : List ℕ} → s ≡ take (e - a) (drop a l)
@@ -173,13 +167,7 @@ whole_more ns l k h {from = from} {to = to} a e f t is standing standing' left h
       (λ _. lettered_turn ns k h a e f t eqb (letter x) l (here x o ∙ ap (λ s. lettered eqb (letter x) s (64 * (to - from))) is));
 }
 
-pub whole_end : (ns l : List ℕ) (n : ℕ) (standing : List ℕ) → n ≡ length ns → 4 * row_words ≤ length standing → Whole ns l n standing → BaseRows ns l standing
-whole_end ns l n standing e h q = record { long = h; rows = λ x o. filled_end _ _ ns (row_slot x standing) n (length ns) e (q.rows x o) }
-
 -- a row and its copy
-pub copied_long : {x y : List ℕ} {n : ℕ} → y ≡ x → length x ≡ n → length y ≡ n
-copied_long e h = ap length e ∙ h
-
 pub shifted_from : (i : ℕ) (ns : List ℕ) {x y out : List ℕ} → y ≡ x → Filled (λ _. true) (shifted_at i ns y) ns out (length ns)
     → Filled (λ _. true) (shifted_at i ns x) ns out (length ns)
 shifted_from i ns e q = rw e at q

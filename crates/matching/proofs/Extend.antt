@@ -1,7 +1,7 @@
 -- One candidate over the slot below it: that and the row of its last letter give its row, and the marks of that its support.
 use mathlib.Core.List.{List, [], ◌∷◌, map}
-use mathlib.Core.Path.{◌≡◌, ◌∙◌}
-use Prim.Native.Nat.{ℕ, suc, ◌-◌, ◌/◌, ◌%◌, ◌≤◌, ◌<◌}
+use mathlib.Core.Path.{◌≡◌, ap, ◌∙◌}
+use Prim.Native.Nat.{ℕ, suc, ◌-◌, ◌/◌, ◌≤◌, ◌<◌}
 use native.Mathlib.Decide.{dec_lt}
 use native.Mathlib.Omega.{arith}
 use lib.ListN.{length, get_or}
@@ -14,7 +14,8 @@ use Rattle.rules.specs.Template.{size, components}
 use Rattle.rules.specs.declared.Component.{Component}
 use Rattle.rules.specs.declared.Template.{Template}
 use Rattle.rows.specs.Flags.{reached}
-use Rattle.matching.specs.Path.{prefix_starts, before_next, Slot, Inside, TestsLast}
+use Rattle.matching.specs.Path.{prefix_starts, before_next, spot, Slot, Inside, TestsLast}
+use Rattle.matching.specs.declared.made.Spot.{Spot}
 use Rattle.rows.specs.NextLetter.{At, letters_before}
 use Rattle.rows.specs.Set.{is_marked, tally, extended_at, is_extended_marked, Filled, Marked, Bounded, Row, Source}
 use Rattle.matching.proofs.Counted.{left_support}
@@ -41,12 +42,18 @@ pub letter_at : (t : Template) (d : ℕ) → d < size t → Somewhere (component
 unfolding size
 letter_at t d h = somewhere (components t) d h
 
--- its place in its component, and its component, from the number that has both
-pub inside_letter : (t : Template) → SoundTemplate t → (inside : List ℕ) → Inside t inside → (d k i : ℕ) → At (components t) d k i → get_or inside d 0 % 16 ≡ i
-inside_letter t sound inside q d k i a = rw (q.same d k i a) (omega (arith, small_letter t sound d k i a))
+-- its place in its component, and its component, from the table that has both
+pub inside_letter : (t : Template) (inside : List Spot) → Inside t inside → (d k i : ℕ) → At (components t) d k i → (get_or inside d (spot 0 0)).letter ≡ i
+inside_letter t inside q d k i a = ap (λ s. s.letter) (q.same d k i a)
 
-pub inside_component : (t : Template) → SoundTemplate t → (inside : List ℕ) → Inside t inside → (d k i : ℕ) → At (components t) d k i → get_or inside d 0 / 16 ≡ k
-inside_component t sound inside q d k i a = rw (q.same d k i a) (omega (arith, small_letter t sound d k i a))
+pub inside_component : (t : Template) (inside : List Spot) → Inside t inside → (d k i : ℕ) → At (components t) d k i → (get_or inside d (spot 0 0)).component ≡ k
+inside_component t inside q d k i a = ap (λ s. s.component) (q.same d k i a)
+
+-- and the place is less than 16
+pub letter_small : (t : Template) → SoundTemplate t → (inside : List Spot) → Inside t inside → (d : ℕ) → d < size t → (get_or inside d (spot 0 0)).letter < 16
+letter_small t sound inside q d h =
+    let s = letter_at t d h in
+    omega (arith, inside_letter t inside q d s.component s.letter s.at, small_letter t sound d s.component s.letter s.at)
 
 module _ (t : Template) (sound : SoundTemplate t) (l ns : List ℕ) (set : SoundSet l ns) (j m : ℕ) (some : 1 ≤ j) (deep : j ≤ size t)
     (slot : List ℕ) (below : Slot t ns l slot (j - 1) (m / base_of t)) where

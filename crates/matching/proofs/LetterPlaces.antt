@@ -4,35 +4,21 @@ use mathlib.Core.Path.{◌≡◌, refl, sym, ap, ◌∙◌}
 use Prim.Native.Nat.{ℕ, zero, suc, ◌+◌, ◌≤◌, ◌<◌}
 use native.Mathlib.Decide.{dec_lt}
 use native.Mathlib.Omega.{arith}
-use lib.ListN.{length, take, get_or, set}
-use lib.Seq.{get_or-set_same, get_or-set_other, get_or-take}
+use lib.ListN.{length, take, get_or}
+use lib.Seq.{get_or-take}
 use Rattle.rules.proofs.Components.{components_length}
 use Rattle.rules.specs.Lists.{sum}
 use Rattle.rules.specs.Sound.{SoundTemplate}
 use Rattle.rules.specs.Template.{none, slots, size, components}
 use Rattle.rules.specs.declared.Component.{Component}
 use Rattle.rules.specs.declared.Template.{Template}
-use Rattle.matching.specs.Path.{inside_code, Inside}
+use Rattle.matching.specs.Path.{spot, Inside}
+use Rattle.matching.specs.declared.made.Spot.{Spot}
 use Rattle.rows.specs.NextLetter.{letters_before, At}
 
 -- ONE COMPONENT: its first n letters are written, from `from` on
-pub record Coded (k from n : ℕ) (l : List ℕ) : Type 0 where
-  pub same : (i : ℕ) → i < n → get_or l (from + i) 0 ≡ inside_code k i
-
-pub coded_none : (k from n : ℕ) (l : List ℕ) → n ≡ 0 → Coded k from n l
-coded_none k from n l z = record { same = λ i h. absurd (omega arith) }
-
-pub coded_more : (k from n : ℕ) (l : List ℕ) {v : ℕ} → Coded k from n l → from + n < length l → v ≡ inside_code k n → Coded k from (n + 1) (set l (from + n) v)
-coded_more k from n l {v} q h e = record {
-  same = λ i u.
-      elim (dec_lt i n) [
-        | yes m ↦ (get_or-set_other l (from + n) (from + i) v 0 (λ z. omega arith) ∙ q.same i m)
-        | no m ↦ (let z : n ≡ i = omega arith in rw (← z) (get_or-set_same l (from + n) v 0 h ∙ e))
-      ];
-}
-
-pub coded_end : (k from i n : ℕ) (l : List ℕ) → i ≡ n → Coded k from i l → (j : ℕ) → j < n → get_or l (from + j) 0 ≡ inside_code k j
-coded_end k from i n l e q j h = q.same j (omega arith)
+pub record Coded (k from n : ℕ) (l : List Spot) : Type 0 where
+  pub same : (i : ℕ) → i < n → get_or l (from + i) (spot 0 0) ≡ spot k i
 
 -- WHERE A COMPONENT'S LETTERS BEGIN
 pub letters_none : (cs : List Component) → 0 ≡ letters_before cs 0
@@ -62,26 +48,26 @@ letters_most [] (suc k) = omega arith
 letters_most (c ∷ cs) (suc k) = omega (arith, letters_most cs k)
 
 -- ALL COMPONENTS: the letters of the first n are written
-pub record Placed (cs : List Component) (n : ℕ) (l : List ℕ) : Type 0 where
-  pub same : (d k i : ℕ) → k < n → At cs d k i → get_or l d 0 ≡ inside_code k i
+pub record Placed (cs : List Component) (n : ℕ) (l : List Spot) : Type 0 where
+  pub same : (d k i : ℕ) → k < n → At cs d k i → get_or l d (spot 0 0) ≡ spot k i
 
-pub placed_none : (cs : List Component) (n : ℕ) (l : List ℕ) → n ≡ 0 → Placed cs n l
+pub placed_none : (cs : List Component) (n : ℕ) (l : List Spot) → n ≡ 0 → Placed cs n l
 placed_none cs n l z = record { same = λ d k i h a. absurd (omega arith) }
 
-module _ (cs : List Component) (n : ℕ) (h : n < length cs) (x y : List ℕ) (before : Placed cs n x) where
+module _ (cs : List Component) (n : ℕ) (h : n < length cs) (x y : List Spot) (before : Placed cs n x) where
   placed_more : {from m : ℕ} → from ≡ letters_before cs n → m ≡ (get_or cs n none).length → take from y ≡ take from x
-      → ((i : ℕ) → i < m → get_or y (from + i) 0 ≡ inside_code n i) → Placed cs (n + 1) y
+      → ((i : ℕ) → i < m → get_or y (from + i) (spot 0 0) ≡ spot n i) → Placed cs (n + 1) y
   placed_more {from} {m} e f left here = record { same = one }
     where
-      one : (d k i : ℕ) → k < n + 1 → At cs d k i → get_or y d 0 ≡ inside_code k i
+      one : (d k i : ℕ) → k < n + 1 → At cs d k i → get_or y d (spot 0 0) ≡ spot k i
       one d k i u a =
           elim (dec_lt k n) [
             | yes v ↦ (let w : d < from = omega (arith, a.inside, a.counted, letters_next cs k a.there, letters_least cs (k + 1) n (omega arith)) in
-                sym (get_or-take from y d 0 w) ∙ ap (λ (z : List ℕ). get_or z d 0) left ∙ get_or-take from x d 0 w ∙ before.same d k i v a)
+                sym (get_or-take from y d (spot 0 0) w) ∙ ap (λ (z : List Spot). get_or z d (spot 0 0)) left ∙ get_or-take from x d (spot 0 0) w ∙ before.same d k i v a)
             | no v ↦ last d k i (omega arith) a
           ]
         where
-          last : (d k i : ℕ) → k ≡ n → At cs d k i → get_or y d 0 ≡ inside_code k i
+          last : (d k i : ℕ) → k ≡ n → At cs d k i → get_or y d (spot 0 0) ≡ spot k i
           last d k i z a =
               let b : At cs d n i = rw (← z) a in
               let w : d ≡ from + i = omega (arith, b.counted) in
@@ -118,11 +104,11 @@ module _ (t : Template) (sound : SoundTemplate t) (read : List Component) (is : 
           let e = ap (λ cs. sum (map (λ c. c.length) cs)) read_components in
           omega (arith, read_next)
 
-      pub read_placed : (x y : List ℕ) → Placed (take count read) k x → take from y ≡ take from x
-          → ((i : ℕ) → i < (get_or read k none).length → get_or y (from + i) 0 ≡ inside_code k i) → Placed (take count read) (k + 1) y
+      pub read_placed : (x y : List Spot) → Placed (take count read) k x → take from y ≡ take from x
+          → ((i : ℕ) → i < (get_or read k none).length → get_or y (from + i) (spot 0 0) ≡ spot k i) → Placed (take count read) (k + 1) y
       read_placed x y q left here = placed_more (take count read) k there x y q begins long_is left here
 
-  pub placed_end : (n : ℕ) (l : List ℕ) → n ≡ count → size t ≤ length l → Placed (take count read) n l → Inside t l
+  pub placed_end : (n : ℕ) (l : List Spot) → n ≡ count → size t ≤ length l → Placed (take count read) n l → Inside t l
   placed_end n l e h q = record {
     long = h;
     same = λ d k i a. (rw read_components at q).same d k i (omega (arith, a.there, components_length t sound.few)) a;

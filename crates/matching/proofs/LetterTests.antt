@@ -17,7 +17,8 @@ use Rattle.rules.specs.declared.Template.{Template}
 use Rattle.rows.specs.Rows.{ahead}
 use Rattle.rows.specs.Set.{row_words, bits_at, lettered_at, lettered_on, Filled}
 use Rattle.rows.proofs.Shifted.{ahead_none, lettered_first}
-use Rattle.matching.specs.Path.{row_slot, kept_places, Inside, BaseRows, FromBases, Letters, Tests, TestsLast}
+use Rattle.matching.specs.declared.made.Spot.{Spot}
+use Rattle.matching.specs.Path.{spot, row_slot, kept_places, Inside, BaseRows, FromBases, Letters, Tests, TestsLast}
 use Rattle.matching.proofs.Extend.{inside_letter}
 use Rattle.matching.proofs.Fits.{stood_row}
 use Rattle.matching.proofs.Slots.{some_base}
@@ -39,6 +40,15 @@ kept_some t standing = go t.profile
     go : (p : declared.Profile) → (profile_by p).base * row_words ≤ length standing → 0 < length standing / ((profile_by p).base * row_words)
     go Exact h = omega arith
     go Mixed h = omega arith
+
+-- place i is among them where the table has room for its rows
+pub kept_there : (t : Template) (standing : List ℕ) (i : ℕ) {b : ℕ} → b ≡ base_of t → (i + 1) * b * row_words ≤ length standing → i < kept_places t standing
+unfolding profile_by exactly mixed
+kept_there t standing i e h = go t.profile (rw e at h)
+  where
+    go : (p : declared.Profile) → (i + 1) * (profile_by p).base * row_words ≤ length standing → i < length standing / ((profile_by p).base * row_words)
+    go Exact u = omega arith
+    go Mixed u = omega arith
 
 module _ (t : Template) (ns l : List ℕ) (x : ℕ) where
   -- the letter's own row, shifted as it is used
@@ -63,9 +73,9 @@ module _ (t : Template) (ns l : List ℕ) (x : ℕ) where
         (record { same = λ k h o. (rw z at ((letters.rows x 0 small some).same k h o)) ∙ lettered_first (profile_of t).reading.fits x ns (map value l) k })
 
 -- OF A CANDIDATE of j letters with the number m, whose last letter's place in its component the table `inside` has
-module _ (t : Template) (sound : SoundTemplate t) (inside : List ℕ) (placed : Inside t inside) (j m : ℕ) where
+module _ (t : Template) (sound : SoundTemplate t) (inside : List Spot) (placed : Inside t inside) (j m : ℕ) where
   abbrev place : ℕ
-  place = get_or inside (j - 1) 0 % 16
+  place = (get_or inside (j - 1) (spot 0 0)).letter
 
   abbrev last : ℕ
   last = m % base_of t
@@ -74,7 +84,7 @@ module _ (t : Template) (sound : SoundTemplate t) (inside : List ℕ) (placed : 
   last_small = mod-lt m (some_base t)
 
   last_tests : (ns l letter : List ℕ) (by : ℕ) → Tests t ns l last place letter by → TestsLast t ns l j m letter by
-  last_tests ns l letter by q k i a = rw (inside_letter t sound inside placed (j - 1) k i a) at q
+  last_tests ns l letter by q k i a = rw (inside_letter t inside placed (j - 1) k i a) at q
 
   pub made_last : (ns l bases row : List ℕ) → SoundSet l ns → BaseRows ns l bases → FromBases bases last row → TestsLast t ns l j m row place
   made_last ns l bases row set is q = last_tests ns l row place (made_tests t ns l last bases row set is last_small q place)
@@ -90,8 +100,5 @@ module _ (t : Template) (sound : SoundTemplate t) (inside : List ℕ) (placed : 
 
     -- and not
     module _ {x : ℕ} (e : x ≡ last) where
-      pub far_inside : base_of t * row_words ≤ length standing → x * row_words + row_words ≤ length standing
-      far_inside h = omega (arith, last_small)
-
       pub far_last : (ns l : List ℕ) → Letters t ns l standing → TestsLast t ns l j m (row_slot x standing) place
       far_last ns l letters = rw e (last_tests ns l (row_slot last standing) place (far_tests t ns l last standing letters last_small place))

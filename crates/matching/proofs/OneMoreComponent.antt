@@ -6,7 +6,7 @@ use mathlib.Core.Path.{◌≡◌, refl, sym, ap, ◌∙◌}
 use Prim.Native.Nat.{ℕ, suc, ◌+◌, ◌-◌, ◌/◌, ◌^◌, ◌≤◌, ◌<◌}
 use native.Mathlib.Nat.{add-zero}
 use native.Mathlib.Omega.{arith}
-use lib.ListN.{length, take, drop, get_or, replicate, length-append, length-drop, length-replicate}
+use lib.ListN.{length, take, drop, get_or, replicate}
 use lib.Seq.{length-take-le}
 use Rattle.rules.proofs.Apart.{Apart, sound_apart}
 use Rattle.rules.proofs.Components.{components_at, components_length}
@@ -18,10 +18,10 @@ use Rattle.rules.specs.declared.Component.{Component}
 use Rattle.rules.specs.declared.Distances.{Distances}
 use Rattle.rules.specs.declared.Template.{Template}
 use Rattle.rows.specs.Flags.{count_most, reached, added}
-use Rattle.matching.specs.Path.{Path, path_slot, prefix_starts, before_next}
+use Rattle.matching.specs.Path.{row_slot, Path, prefix_starts, before_next}
 use Rattle.rows.specs.NextLetter.{At, letters_before}
 use Rattle.rows.specs.Set.{bits_at, is_marked, Row, Source}
-use Rattle.matching.specs.Weights.{HoldsCounts, begun_counts, prefix_of, LeadsTo, Leads}
+use Rattle.matching.specs.Weights.{HoldsCounts, begun_counts, LeadsTo, Leads}
 use Rattle.matching.proofs.Led.{number_less, prefix_path, letters_next, letters_size, led_none, led_small, led_dark, led_more}
 
 -- before the first turn there are no letters
@@ -38,19 +38,11 @@ module _ (l x : List ℕ) (room : length l ≤ length x) where
     ones_are : y ≡ replicate (length l) 1
     ones_are = ones ∙ ap (λ (n : ℕ). replicate n 1) (sym begin_part)
 
-    pub begin_long : length (y ++ drop (length l) x) ≡ length x
-    begin_long = length-append y (drop (length l) x) ∙ rw (length-drop (length l) x, ones_are, length-replicate {A = ℕ} (length l) 1) (omega arith)
-
     -- which for an only component is all
     pub only_led : (t : Template) → SoundTemplate t → (ns : List ℕ) → SoundSet l ns → (p : ℕ) → t.count ≡ 1 → Leads t ns l p (y ++ drop (length l) x)
     only_led t sound ns set p one =
         let z : t.count - 1 ≡ 0 = omega arith in
         rw (z, ones_are) (led_none t sound l ns set p (length l) (drop (length l) x) (omega (arith, set.adds)))
-
--- after the last they are those before the last component
-pub end_led : (t : Template) → SoundTemplate t → (l ns : List ℕ) → SoundSet l ns → (m depth c n : ℕ) (counts : List ℕ) → depth ≡ size t → c ≡ t.count
-    → n ≡ letters_before (components t) (c - 1) → LeadsTo t ns l (c - 1) (m / base_of t ^ (depth - n)) counts → Leads t ns l (prefix_of t m) counts
-end_led t sound l ns set m depth c n counts whole last far led = rw (far, whole, last) at led
 
 -- A TURN, at component c, after n letters; the components as the slots have them
 pub record Turn (t : Template) (depth : ℕ) (cs : List Component) (c n : ℕ) : Type 0 where
@@ -60,6 +52,10 @@ pub record Turn (t : Template) (depth : ℕ) (cs : List Component) (c n : ℕ) :
   pub one : 1 ≤ c
   pub less : c < t.count
   pub far : n ≡ letters_before (components t) (c - 1)
+
+pub turn : {t : Template} {depth : ℕ} {cs : List Component} {c n : ℕ} → SoundTemplate t → depth ≡ size t → cs ≡ slots t → 1 ≤ c → c < t.count
+    → n ≡ letters_before (components t) (c - 1) → Turn t depth cs c n
+turn sound whole is one less far = record { sound = sound; whole = whole; is = is; one = one; less = less; far = far }
 
 module _ {t : Template} {depth : ℕ} {cs : List Component} {c n : ℕ} (turn : Turn t depth cs c n) where
   abbrev behind : Component
@@ -96,8 +92,8 @@ module _ {t : Template} {depth : ℕ} {cs : List Component} {c n : ℕ} (turn : 
   next_deep = omega (arith, next_letters, letters_size t turn.sound c)
 
   -- the path to the prefix
-  pub next_path : (m : ℕ) {p : ℕ} → p ≡ m / base_of t ^ (depth - next) → (ns l evens odds : List ℕ) → Path t ns l evens odds depth m → Path t ns l evens odds next p
-  next_path m e ns l evens odds p = rw e (prefix_path t m ns l evens odds depth next p next_deep)
+  pub next_path : (m : ℕ) {p : ℕ} → p ≡ m / base_of t ^ (depth - next) → (ns l slots : List ℕ) → Path t ns l slots depth m → Path t ns l slots next p
+  next_path m e ns l slots p = rw e (prefix_path t m ns l slots depth next p next_deep)
 
   -- whose slot is among the others
   pub next_less : next < depth
@@ -145,9 +141,9 @@ module _ {t : Template} {depth : ℕ} {cs : List Component} {c n : ℕ} (turn : 
       wide = ap (λ x. x.count) same
 
       -- where the prefix's slot has no bit there is none
-      pub next_dark : (evens odds : List ℕ) → Path t ns l evens odds depth m → (k : ℕ) → k < length ns → is_marked row k ≡ true
-          → (i : ℕ) → get_or (bits_at ns k (path_slot evens odds next)) i 0 ≡ 0 → get_or (added d (d + w - 1) (begun_counts first ns row counts k)) i 0 ≡ 0
-      next_dark evens odds path =
+      pub next_dark : (slots : List ℕ) → Path t ns l slots depth m → (k : ℕ) → k < length ns → is_marked row k ≡ true
+          → (i : ℕ) → get_or (bits_at ns k (row_slot next slots)) i 0 ≡ 0 → get_or (added d (d + w - 1) (begun_counts first ns row counts k)) i 0 ≡ 0
+      next_dark slots path =
           let z : suc (c - 1) ≡ c = omega arith in
           let some : 1 ≤ (get_or (components t) c none).length = rw (← (at c turn.less)) here_sound.some in
           let a : At (components t) next c 0 = record {
@@ -155,9 +151,9 @@ module _ {t : Template} {depth : ℕ} {cs : List Component} {c n : ℕ} (turn : 
             inside = some;
             counted = next_letters ∙ sym (add-zero (letters_before (components t) c));
           } in
-          let source : Source (before_next reached t (suc (c - 1)) 0 (letters_before (components t) (suc (c - 1))) prefix) ns l (path_slot evens odds next) =
+          let source : Source (before_next reached t (suc (c - 1)) 0 (letters_before (components t) (suc (c - 1))) prefix) ns l (row_slot next slots) =
           rw (is, z, ← next_letters) (path.held_at next c 0 next_less a) in
-          led_dark t turn.sound l ns set (c - 1) prefix (omega arith) row row_here counts first begins_here goes_here room (omega arith) d w near wide (path_slot evens odds next) source
+          led_dark t turn.sound l ns set (c - 1) prefix (omega arith) row row_here counts first begins_here goes_here room (omega arith) d w near wide (row_slot next slots) source
 
       -- and with the gap opened they are those before the next component
       pub next_led : (opened out : List ℕ) → HoldsCounts (is_marked row) (λ k. added d (d + w - 1) (begun_counts first ns row counts k)) ns opened out (length ns) → LeadsTo t ns l c (m / base_of t ^ (depth - next)) out

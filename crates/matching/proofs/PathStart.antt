@@ -7,7 +7,7 @@ use native.Mathlib.Decide.{dec_lt}
 use native.Mathlib.Nat.{pow-suc}
 use native.Mathlib.Omega.{arith}
 use lib.Dec.{ltb}
-use lib.ListN.{length, take, drop, get_or, replicate, get_or-replicate, length-append, length-drop}
+use lib.ListN.{length, take, drop, get_or, replicate, get_or-replicate}
 use lib.Pow.{pow_pos, ones_lt, ones_split, high}
 use lib.Seq.{take_at, length-take-le}
 use borrow.Author.Tests.{lt-ltb, le-ltb}
@@ -93,9 +93,6 @@ module _ (rows : List ℕ) (room : row_words ≤ length rows) where
   slot_long = length-take-le row_words rows room
 
   module _ (ys : List ℕ) (same : length ys ≡ length (take row_words rows)) where
-    pub table_long : length (ys ++ drop row_words rows) ≡ length rows
-    table_long = length-append ys (drop row_words rows) ∙ rw (length-drop row_words rows, same, slot_long) (omega arith)
-
     pub slot_is : row_slot 0 (ys ++ drop row_words rows) ≡ ys
     unfolding row_slot between
     slot_is = take_at ys (drop row_words rows) 2072 (same ∙ slot_long)

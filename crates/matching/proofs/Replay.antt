@@ -6,7 +6,7 @@ use native.Mathlib.Nat.{pow-suc, pow-zero, one-mul, div-one, div-div-eq-div-mul,
 use native.Mathlib.Omega.{arith}
 use Rattle.rules.specs.Profile.{base_of}
 use Rattle.rules.specs.declared.Template.{Template}
-use Rattle.matching.specs.Path.{row_slot, parity, Slot, Path}
+use Rattle.matching.specs.Path.{row_slot, Slot, Path}
 use Rattle.matching.proofs.Slots.{some_base, begun}
 
 -- a letter dropped
@@ -35,28 +35,28 @@ module _ (t : Template) (j m : ℕ) where
   split : (q : ℕ) {p : ℕ} → q / base_of t ≡ p → p * base_of t + q % base_of t ≡ q
   split q e = rw (← e) (div-add-mod' q (base_of t))
 
-  module _ (ns l evens odds : List ℕ) where
-    pub replay_begin : 1 ≤ j → m < base_of t ^ j → Slot t ns l (row_slot 0 evens) 0 0 → Path t ns l evens odds 1 (prefix 1)
+  module _ (ns l slots : List ℕ) where
+    pub replay_begin : 1 ≤ j → m < base_of t ^ j → Slot t ns l (row_slot 0 slots) 0 0 → Path t ns l slots 1 (prefix 1)
     replay_begin some h s =
         let e : prefix 1 % base_of t ≡ prefix 1 = omega (arith, split (prefix 1) (begin_none some h)) in
-        begun t ns l evens odds s (prefix 1) (rw e at (mod-lt (prefix 1) (some_base t)))
+        begun t ns l slots s (prefix 1) (rw e at (mod-lt (prefix 1) (some_base t)))
 
     -- the next letter of the place
-    pub replay_more : (d : ℕ) → d < j → ((x : ℕ) → x < base_of t → Path t ns l evens odds (d + 1) (prefix d * base_of t + x))
-        → Path t ns l evens odds (d + 1) (prefix (d + 1))
+    pub replay_more : (d : ℕ) → d < j → ((x : ℕ) → x < base_of t → Path t ns l slots (d + 1) (prefix d * base_of t + x))
+        → Path t ns l slots (d + 1) (prefix (d + 1))
     replay_more d h p = rw (split (prefix (d + 1)) (next_before d h)) at (p (prefix (d + 1) % base_of t) (mod-lt (prefix (d + 1)) (some_base t)))
 
-    pub replay_end : (d : ℕ) → d ≡ j → Path t ns l evens odds d (prefix d) → Path t ns l evens odds j m
+    pub replay_end : (d : ℕ) → d ≡ j → Path t ns l slots d (prefix d) → Path t ns l slots j m
     replay_end d e p =
         let z : j - j ≡ 0 = omega arith in
         rw (div-one m) at (rw (z, pow-zero (base_of t)) at (rw e at p))
 
-  -- THE SAME IN TWO SLOTS, of which one holds what the last letter of the prefix of d letters is added to
-  module _ (ns l even odd : List ℕ) where
-    pub slot_begin : 1 ≤ j → m < base_of t ^ j → Slot t ns l even 0 0 → Slot t ns l (parity even odd (1 - 1)) (1 - 1) (prefix 1 / base_of t)
+  -- THE SAME IN ONE SLOT, that of the prefix a letter shorter: what the last letter of the prefix of d letters is added to
+  module _ (ns l slot : List ℕ) where
+    pub slot_begin : 1 ≤ j → m < base_of t ^ j → Slot t ns l slot 0 0 → Slot t ns l slot (1 - 1) (prefix 1 / base_of t)
     slot_begin some h s = rw (begin_none some h) s
 
-    pub slot_more : (d : ℕ) → d < j → Slot t ns l (parity even odd d) d (prefix d) → Slot t ns l (parity even odd (d + 1 - 1)) (d + 1 - 1) (prefix (d + 1) / base_of t)
+    pub slot_more : (d : ℕ) → d < j → Slot t ns l slot d (prefix d) → Slot t ns l slot (d + 1 - 1) (prefix (d + 1) / base_of t)
     slot_more d h s =
         let y : d + 1 - 1 ≡ d = omega arith in
         rw (y, next_before d h) s

@@ -20,7 +20,7 @@ use Rattle.rules.proofs.Step.{block}
 use Rattle.rules.specs.Sound.{SoundSet}
 use Rattle.rules.specs.declared.Component.{Component}
 use Rattle.rows.specs.Flags.{reached}
-use Rattle.matching.specs.Path.{row_slot, parity, path_slot, before_next, Slot, Path}
+use Rattle.matching.specs.Path.{row_slot, before_next, Slot, Path}
 use Rattle.rows.specs.NextLetter.{At, letters_before}
 use Rattle.rows.specs.Set.{words_of, first_word, between, Source}
 use Rattle.rows.proofs.Sets.{between_kept, part_written}
@@ -38,13 +38,6 @@ many (n ∷ ns) = omega (arith, many ns)
 pub enough : (l ns : List ℕ) → SoundSet l ns → first_word ns (length ns) ≤ 2072
 enough l ns set = omega (arith, many ns, set.short, set.adds, set.few)
 
--- OF THE TWO TABLES, by the number of letters
-pub even_table : (evens odds : List ℕ) (i : ℕ) → i % 2 ≡ 0 → parity evens odds i ≡ evens
-even_table evens odds i e = rw e
-
-pub odd_table : (evens odds : List ℕ) (i : ℕ) → i % 2 ≡ 1 → parity evens odds i ≡ odds
-odd_table evens odds i e = rw e
-
 -- A SLOT WRITTEN by a callee: it has what was written, and what lies below it is left
 pub slot_written : (s : ℕ) (rows : List ℕ) → s * 2072 + 2072 ≤ length rows → (ys : List ℕ)
     → length ys ≡ length (mid_of (s * 2072) (s * 2072 + 2072 - s * 2072) rows)
@@ -57,38 +50,17 @@ pub slot_kept : (n k : ℕ) (x y : List ℕ) → k < n → take (n * 2072) y ≡
 unfolding row_slot
 slot_kept n k x y h left = between_kept (n * 2072) (k * 2072) (k * 2072 + 2072) x y (omega arith) (omega arith) left
 
-module _ (evens odds rows : List ℕ) (j : ℕ) where
-  pub even_kept : j % 2 ≡ 0 → take (j / 2 * 2072) rows ≡ take (j / 2 * 2072) evens → (i : ℕ) → i < j → path_slot rows odds i ≡ path_slot evens odds i
-  even_kept e r i h =
-      elim (dec_lt 0 (i % 2)) [
-        | yes u ↦ (let o : i % 2 ≡ 1 = omega arith in rw (odd_table rows odds i o, odd_table evens odds i o))
-        | no u ↦ (let o : i % 2 ≡ 0 = omega arith in rw (even_table rows odds i o, even_table evens odds i o) (slot_kept (j / 2) (i / 2) evens rows (omega arith) r))
-      ]
-
-  pub odd_kept : j % 2 ≡ 1 → take (j / 2 * 2072) rows ≡ take (j / 2 * 2072) odds → (i : ℕ) → i < j → path_slot evens rows i ≡ path_slot evens odds i
-  odd_kept e r i h =
-      elim (dec_lt 0 (i % 2)) [
-        | yes u ↦ (let o : i % 2 ≡ 1 = omega arith in rw (odd_table evens rows i o, odd_table evens odds i o) (slot_kept (j / 2) (i / 2) odds rows (omega arith) r))
-        | no u ↦ (let o : i % 2 ≡ 0 = omega arith in rw (even_table evens rows i o, even_table evens odds i o))
-      ]
-
-module _ (t : Template) (ns l evens odds : List ℕ) where
+module _ (t : Template) (ns l slots : List ℕ) where
   -- what the last letter is added to stands in the slot below
-  parent : (j m : ℕ) → Path t ns l evens odds j m → 1 ≤ j → Slot t ns l (path_slot evens odds (j - 1)) (j - 1) (m / base_of t)
+  pub parent : (j m : ℕ) → Path t ns l slots j m → 1 ≤ j → Slot t ns l (row_slot (j - 1) slots) (j - 1) (m / base_of t)
   parent j m p h =
       let e : j - (j - 1) ≡ 1 = omega arith in
       let z : base_of t ^ (j - (j - 1)) ≡ base_of t = ap (λ (n : ℕ). base_of t ^ n) e ∙ pow-suc (base_of t) 0 ∙ ap (λ (n : ℕ). n * base_of t) (pow-zero (base_of t)) ∙ one-mul (base_of t) in
       record { held = λ k o a. rw z at (p.held_at (j - 1) k o (omega arith) a) }
 
-  pub parent_even : (j m : ℕ) → Path t ns l evens odds j m → 1 ≤ j → (j - 1) % 2 ≡ 0 → Slot t ns l (row_slot ((j - 1) / 2) evens) (j - 1) (m / base_of t)
-  parent_even j m p h e = rw (even_table evens odds (j - 1) e) at (parent j m p h)
-
-  pub parent_odd : (j m : ℕ) → Path t ns l evens odds j m → 1 ≤ j → (j - 1) % 2 ≡ 1 → Slot t ns l (row_slot ((j - 1) / 2) odds) (j - 1) (m / base_of t)
-  parent_odd j m p h e = rw (odd_table evens odds (j - 1) e) at (parent j m p h)
-
   -- the path stays where its slots do
-  pub stayed : (evens' odds' : List ℕ) (j m : ℕ) → Path t ns l evens odds j m → ((i : ℕ) → i < j → path_slot evens' odds' i ≡ path_slot evens odds i) → Path t ns l evens' odds' j m
-  stayed evens' odds' j m p same = record { held_at = λ i k o h a. rw (same i h) (p.held_at i k o h a) }
+  pub stayed : (slots' : List ℕ) (j m : ℕ) → Path t ns l slots j m → take (j * 2072) slots' ≡ take (j * 2072) slots → Path t ns l slots' j m
+  stayed slots' j m p left = record { held_at = λ i k o h a. rw (slot_kept j i slots slots' h left) (p.held_at i k o h a) }
 
   above : (m x d : ℕ) → x < base_of t → (m * base_of t + x) / base_of t ^ suc d ≡ m / base_of t ^ d
   above m x d h =
@@ -96,10 +68,10 @@ module _ (t : Template) (ns l evens odds : List ℕ) where
       rw (pow-suc (base_of t) d, mul_comm (base_of t ^ d) (base_of t)) (sym (div-div-eq-div-mul (m * base_of t + x) (base_of t) (base_of t ^ d)) ∙ ap (λ (y : ℕ). y / base_of t ^ d) e)
 
   -- a slot more: the path to a child
-  pub pushed : (j m x : ℕ) → x < base_of t → Path t ns l evens odds j m → Slot t ns l (path_slot evens odds j) j m → Path t ns l evens odds (suc j) (m * base_of t + x)
+  pub pushed : (j m x : ℕ) → x < base_of t → Path t ns l slots j m → Slot t ns l (row_slot j slots) j m → Path t ns l slots (suc j) (m * base_of t + x)
   pushed j m x b p f = record { held_at = one }
     where
-      one : (i k o : ℕ) → i < suc j → At (components t) i k o → Source (before_next reached t k o i ((m * base_of t + x) / base_of t ^ (suc j - i))) ns l (path_slot evens odds i)
+      one : (i k o : ℕ) → i < suc j → At (components t) i k o → Source (before_next reached t k o i ((m * base_of t + x) / base_of t ^ (suc j - i))) ns l (row_slot i slots)
       one i k o h a =
           let d : suc j - i ≡ suc (j - i) = omega arith in
           rw (d, above m x (j - i) b)
@@ -112,14 +84,14 @@ module _ (t : Template) (ns l evens odds : List ℕ) where
           ])
 
   -- the first slot: the path to a candidate of one letter
-  pub begun : Slot t ns l (row_slot 0 evens) 0 0 → (x : ℕ) → x < base_of t → Path t ns l evens odds 1 x
+  pub begun : Slot t ns l (row_slot 0 slots) 0 0 → (x : ℕ) → x < base_of t → Path t ns l slots 1 x
   begun s x h =
       let z : 0 * base_of t + x ≡ x = omega arith in
       rw z at (pushed 0 0 x h (record { held_at = λ i k o u a. absurd (omega arith) }) s)
 
   -- the way up, or to a sibling: a shorter path whose letters are the same
-  pub shortened : (j m j' m' : ℕ) → Path t ns l evens odds j m → j' ≤ j
-      → ((i : ℕ) → i < j' → m' / base_of t ^ (j' - i) ≡ m / base_of t ^ (j - i)) → Path t ns l evens odds j' m'
+  pub shortened : (j m j' m' : ℕ) → Path t ns l slots j m → j' ≤ j
+      → ((i : ℕ) → i < j' → m' / base_of t ^ (j' - i) ≡ m / base_of t ^ (j - i)) → Path t ns l slots j' m'
   shortened j m j' m' p h e = record { held_at = λ i k o u a. rw (e i u) (p.held_at i k o (omega arith) a) }
 
 -- what stands in a part of a list
@@ -156,34 +128,34 @@ pub slot_at : (t : Template) (ns l slot : List ℕ) (j m k o : ℕ) → At (comp
 slot_at t ns l slot j m k o at s = record { held = λ k' o' b. let u = at_one (components t) j k o k' o' at b in rw (← u.0, ← u.1) s }
 
 -- THE WAY UP keeps the path: the place after a candidate whose children are not visited has the same letters above its last
-module _ (t : Template) (ns l evens odds : List ℕ) where
+module _ (t : Template) (ns l slots : List ℕ) where
   sibling : (m n i j : ℕ) → n / base_of t ≡ m / base_of t → i < suc j → n / base_of t ^ (suc j - i) ≡ m / base_of t ^ (suc j - i)
   sibling m n i j e u =
       let d : suc j - i ≡ suc (j - i) = omega arith in
       rw (d, pow-suc (base_of t) (j - i), mul_comm (base_of t ^ (j - i)) (base_of t))
       (sym (div-div-eq-div-mul n (base_of t) (base_of t ^ (j - i))) ∙ ap (λ (y : ℕ). y / base_of t ^ (j - i)) e ∙ div-div-eq-div-mul m (base_of t) (base_of t ^ (j - i)))
 
-  parent_path : (j m : ℕ) → Path t ns l evens odds (suc j) m → Path t ns l evens odds j (m / base_of t)
+  parent_path : (j m : ℕ) → Path t ns l slots (suc j) m → Path t ns l slots j (m / base_of t)
   parent_path j m p =
-      shortened t ns l evens odds (suc j) m j (m / base_of t) p (omega arith)
+      shortened t ns l slots (suc j) m j (m / base_of t) p (omega arith)
       (λ i u. let d : suc j - i ≡ suc (j - i) = omega arith in
       div-div-eq-div-mul m (base_of t) (base_of t ^ (j - i)) ∙ rw (d, pow-suc (base_of t) (j - i), mul_comm (base_of t ^ (j - i)) (base_of t)))
 
   -- the first sibling that may stand there, whichever letters may
   choice : (f : ℕ → Bool) (j m n a : ℕ) → ((b : ℕ) → a ≤ b → b < a + n → b / base_of t ≡ m / base_of t)
-      → (q : Place) → Path t ns l evens odds (suc j) m → Path t ns l evens odds q.letters q.number
-      → let c = choose q (suc j) (keep f (run a n)) in Path t ns l evens odds c.letters c.number
+      → (q : Place) → Path t ns l slots (suc j) m → Path t ns l slots q.letters q.number
+      → let c = choose q (suc j) (keep f (run a n)) in Path t ns l slots c.letters c.number
   unfolding run keep
   choice f j m zero a h q p r = r
   choice f j m (suc n) a h q p r = go (f a) (choice f j m n (suc a) (λ b u v. h b (omega arith) (omega arith)) q p r)
     where
-      go : (b : Bool) → (let c = choose q (suc j) (keep f (run (suc a) n)) in Path t ns l evens odds c.letters c.number)
-          → let c = choose q (suc j) (if b (a ∷ keep f (run (suc a) n)) (keep f (run (suc a) n))) in Path t ns l evens odds c.letters c.number
-      go true r = shortened t ns l evens odds (suc j) m (suc j) a p (omega arith) (λ i u. sibling m a i j (h a (omega arith) (omega arith)) u)
+      go : (b : Bool) → (let c = choose q (suc j) (keep f (run (suc a) n)) in Path t ns l slots c.letters c.number)
+          → let c = choose q (suc j) (if b (a ∷ keep f (run (suc a) n)) (keep f (run (suc a) n))) in Path t ns l slots c.letters c.number
+      go true r = shortened t ns l slots (suc j) m (suc j) a p (omega arith) (λ i u. sibling m a i j (h a (omega arith) (omega arith)) u)
       go false r = r
 
   -- in every walk over as many letters, whichever of them may follow
-  pub path_up_in : (W : Walk) → W.base ≡ base_of t → (j m : ℕ) → Path t ns l evens odds j m → let c = up W j m in Path t ns l evens odds c.letters c.number
+  pub path_up_in : (W : Walk) → W.base ≡ base_of t → (j m : ℕ) → Path t ns l slots j m → let c = up W j m in Path t ns l slots c.letters c.number
   unfolding up later
   path_up_in W e zero m p = record { held_at = λ i k o h a. absurd (omega arith) }
   path_up_in W e (suc j) m p =

@@ -167,9 +167,6 @@ pub record Written (P : ℕ → List ℕ → Type 0) (old : List ℕ) (n : ℕ) 
   pub made : (s : ℕ) → 4 ≤ s → s < n → P s (row_slot s standing)
 
 module _ (P : ℕ → List ℕ → Type 0) (old : List ℕ) where
-  pub written_none : Written P old 4 old
-  written_none = record { some = omega arith; kept = refl; made = λ s h v. absurd (omega arith) }
-
   pub written_more : (n : ℕ) (x y : List ℕ) → Written P old n x → take (n * row_words) y ≡ take (n * row_words) x → P n (row_slot n y) → Written P old (n + 1) y
   written_more n x y q left here = record {
     some = omega (arith, q.some);

@@ -1,31 +1,23 @@
 -- The path of a search: for each prefix of the place that has fewer letters what the next letter is added to, its row or that row with
--- the gap opened. They are kept from step to step, a slot of as many words as a row has for each number of letters, in two tables: the
--- even numbers' and the odd ones'. So a slot is written while the one before it is read.
+-- the gap opened. They are kept from step to step in one table, a slot of as many words as a row has for each number of letters.
 use Rattle.std.specs.Prelude.{true, List, map, ◌≡◌, ℕ, ◌+◌, ◌-◌, ◌*◌, ◌/◌, ◌%◌, ◌^◌, ◌≤◌, ◌<◌, eqb, length, get_or}
 use Rattle.rules.specs.Letters.{letter, value}
-use Rattle.rules.specs.Limits.{sequence_set_sequences, template_letters, letter_bases}
-use Rattle.rules.specs.Lists.{if}
+use Rattle.rules.specs.Limits.{letter_bases}
 use Rattle.rules.specs.Motif.{spell}
 use Rattle.rules.specs.Profile.{profile_of, base_of, stands_for}
 use Rattle.rules.specs.Sound.{SoundSet}
 use Rattle.rules.specs.Support.{parts}
 use Rattle.rules.specs.Template.{none, size, components, distance}
 use Rattle.rules.specs.declared.Template.{Template}
+use Rattle.matching.specs.declared.made.Spot.{Spot}
 use Rattle.rows.specs.Flags.{reached, last_starts}
 use Rattle.rows.specs.NextLetter.{At, before_letter}
 use Rattle.rows.specs.Rows.{ahead}
-use Rattle.rows.specs.Set.{row_words, between, bits_at, lettered_at, lettered_on, Firsts, Offsets, Filled, Source}
+use Rattle.rows.specs.Set.{row_words, between, bits_at, lettered_at, lettered_on, Filled, Source}
 
 -- slot i of a table of rows
 unfoldable pub row_slot : ℕ → List ℕ → List ℕ
 row_slot i rows = between (i * row_words) (i * row_words + row_words) rows
-
--- of two tables the one for a number of letters, and its slot there
-abbrev pub parity : List ℕ → List ℕ → ℕ → List ℕ
-parity evens odds i = if (eqb (i % 2) 0) evens odds
-
-abbrev pub path_slot : List ℕ → List ℕ → ℕ → List ℕ
-path_slot evens odds i = row_slot (i / 2) (parity evens odds i)
 
 -- BY A TEMPLATE'S PROFILE. Where the last part of the prefix of j letters with the number m can start
 abbrev pub prefix_starts : Template → ℕ → ℕ → List ℕ → List ℕ
@@ -40,16 +32,16 @@ pub record Slot (t : Template) (ns l slot : List ℕ) (d p : ℕ) : Type 0 where
   pub held : (k o : ℕ) → At (components t) d k o → Source (before_next reached t k o d p) ns l slot
 
 -- THE PATH to the candidate of j letters with the number m: in slot i what a letter is added to after the first i of them
-pub record Path (t : Template) (ns l evens odds : List ℕ) (j m : ℕ) : Type 0 where
-  pub held_at : (i k o : ℕ) → i < j → At (components t) i k o → Source (before_next reached t k o i (m / base_of t ^ (j - i))) ns l (path_slot evens odds i)
+pub record Path (t : Template) (ns l slots : List ℕ) (j m : ℕ) : Type 0 where
+  pub held_at : (i k o : ℕ) → i < j → At (components t) i k o → Source (before_next reached t k o i (m / base_of t ^ (j - i))) ns l (row_slot i slots)
 
--- WHAT IT IS MADE WITH, once in a leg. For each letter of a motif which component it belongs to, and its place there, in one number
-abbrev pub inside_code : ℕ → ℕ → ℕ
-inside_code k i = k * 16 + i
+-- WHAT IT IS MADE WITH, once in a leg. For each letter of a motif which component it belongs to, and its place there
+abbrev pub spot : ℕ → ℕ → Spot
+spot k i = record { component = k; letter = i }
 
-pub record Inside (t : Template) (inside : List ℕ) : Type 0 where
+pub record Inside (t : Template) (inside : List Spot) : Type 0 where
   pub long : size t ≤ length inside
-  pub same : (d k i : ℕ) → At (components t) d k i → get_or inside d 0 ≡ inside_code k i
+  pub same : (d k i : ℕ) → At (components t) d k i → get_or inside d (spot 0 0) ≡ spot k i
 
 -- the rows of the four letters of a sequence, by their bytes
 pub record BaseRows (ns l bases : List ℕ) : Type 0 where
@@ -82,35 +74,9 @@ pub record Tests (t : Template) (ns l : List ℕ) (x i : ℕ) (letter : List ℕ
 abbrev pub TestsLast : Template → List ℕ → List ℕ → ℕ → ℕ → List ℕ → ℕ → Type 0
 TestsLast t ns l j m letter by = (k i : ℕ) → At (components t) (j - 1) k i → Tests t ns l (m % base_of t) i letter by
 
--- all of it
-pub record Ready (t : Template) (ns l inside firsts standing : List ℕ) : Type 0 where
-  pub placed : Inside t inside
-  pub laid : Firsts ns firsts
-  pub letters : Letters t ns l standing
-
 -- how far a component's start may lie from that of the one before it, at least and at most
 abbrev pub gap_near : Template → ℕ → ℕ
 gap_near t k = distance (get_or (components t) (k - 1) none).length (get_or (components t) k none).low
 
 abbrev pub gap_far : Template → ℕ → ℕ
 gap_far t k = distance (get_or (components t) (k - 1) none).length (get_or (components t) k none).high
-
--- THE TABLES that are lent for it, each made once. Of the path so many slots are even, and as many odd
-abbrev pub path_slots : ℕ
-path_slots = template_letters / 2
-
-pub record Tables (inside firsts offsets standing evens odds work spare : List ℕ) : Type 0 where
-  pub inside_long : length inside ≡ template_letters
-  pub firsts_long : length firsts ≡ sequence_set_sequences + 2
-  pub offsets_long : length offsets ≡ sequence_set_sequences + 1
-  pub standing_long : length standing ≡ letter_shifts * letter_bases * row_words
-  pub evens_long : length evens ≡ path_slots * row_words
-  pub odds_long : length odds ≡ path_slots * row_words
-  pub work_long : length work ≡ row_words
-  pub spare_long : length spare ≡ row_words
-
--- and what they hold for the candidate of j letters with the number m
-pub record Made (t : Template) (ns l inside firsts offsets standing evens odds : List ℕ) (j m : ℕ) : Type 0 where
-  pub ready : Ready t ns l inside firsts standing
-  pub laid : Offsets ns offsets
-  pub path : Path t ns l evens odds j m

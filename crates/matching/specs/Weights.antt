@@ -1,6 +1,6 @@
 -- Weighted supports over the set: for each place of each sequence, in one table as long as the letters, in how many ways the components
 -- before the last can be placed so that the last may start there. Only where a row has a bit does it matter what the table holds.
-use Rattle.std.specs.Prelude.{Bool, true, List, map, ◌≡◌, ℕ, ◌+◌, ◌-◌, ◌/◌, ◌^◌, ◌≤◌, ◌<◌, length, take, get_or, replicate}
+use Rattle.std.specs.Prelude.{Bool, true, List, Option, Some, map, ◌≡◌, ℕ, ◌+◌, ◌-◌, ◌/◌, ◌^◌, ◌<◌, length, take, get_or, replicate}
 use Rattle.rules.specs.Limits.{sequence_set_sequences}
 use Rattle.rules.specs.Lists.{if, run, sum}
 use Rattle.rules.specs.Profile.{base_of}
@@ -57,6 +57,6 @@ pub record LeadsTo (t : Template) (ns l : List ℕ) (c p : ℕ) (counts : List �
 abbrev pub Leads : Template → List ℕ → List ℕ → ℕ → List ℕ → Type 0
 Leads t ns l p counts = LeadsTo t ns l (t.count - 1) p counts
 
--- where `counted` is not 0, those after the prefix one below it
-pub record Counted (t : Template) (ns l : List ℕ) (counted : ℕ) (counts : List ℕ) : Type 0 where
-  pub leads : 1 ≤ counted → Leads t ns l (counted - 1) counts
+-- where they are counted for a prefix, those after it
+pub record Counted (t : Template) (ns l : List ℕ) (counted : Option ℕ) (counts : List ℕ) : Type 0 where
+  pub leads : (p : ℕ) → counted ≡ Some p → Leads t ns l p counts

@@ -4,30 +4,17 @@ ghost use Rattle.rules.specs.Letters.{letter, is_letter};
 ghost use Rattle.rules.specs.Limits.{letter_bases, letter_digits};
 ghost use Rattle.rules.specs.Lists.{if};
 ghost use Rattle.rules.specs.Profile.{base_of};
-ghost use Rattle.rules.specs.Sound.{SoundSet, SoundTemplate};
-ghost use Rattle.rules.specs.Template as templates;
-ghost use Rattle.matching.specs.Path.{letter_shifts, kept_places, row_slot, Inside, BaseRows, FromBases, Letters, TestsLast};
+ghost use Rattle.matching.specs.Path.{letter_shifts, row_slot, BaseRows, FromBases, Letters, TestsLast};
 ghost use Rattle.rows.specs.Bases.{word_of};
 ghost use Rattle.rows.specs.Bits.{held};
 ghost use Rattle.rows.specs.Rows.{lettered};
-ghost use Rattle.rows.specs.Set.{row_words, first_word, between, Firsts, Offsets, shifted_at, Filled};
+ghost use Rattle.rows.specs.Set.{row_words, between, shifted_at, Filled};
 
-use super::{BASES, DIGITS, MIXED_ROWS, PLACES, ROWS};
+use super::made::{Made, Plan};
+use super::{BASES, DIGITS, ROWS};
 use rows::words::Bases;
 use rows::{BITS, WORDS, shift, words};
-use rules::{Letter, Offset, Profile, SequenceSet, Template, least};
-
-// For how many of the first places of a component the letters' rows are kept shifted: as many as the table has room for. It is asked for at
-// every candidate, so each kind divides by a number that the compiler knows.
-pub fn kept(template: Template, standing: &[u64]) -> usize
-    ensures { result ≡ kept_places template standing.now }
-{
-    let profile = template.profile;
-    match profile {
-        Profile::Exact => standing.len() / ROWS,
-        Profile::Mixed => standing.len() / MIXED_ROWS,
-    }
-}
+use rules::{Letter, Offset, Place, Profile, SequenceSet};
 
 // Word `q` of each letter's row, in its slot for the first place of a component.
 fn put_words(q: usize, bases: Bases, standing: &mut [u64])
@@ -52,61 +39,39 @@ fn sequence_slots(sequence: &[u8], from: usize, to: usize, standing: &mut [u64])
 {
     let n = sequence.len();
     let count = to - from;
-    let mut q = 0;
-    while q < count {
+    for q in 0..count {
         let a = BITS * q;
-        let e = least(a + BITS, n);
+        let e = (a + BITS).min(n);
         let bases = words::letter_words(&sequence[a..e]);
         put_words(from + q, bases, standing);
-        q += 1;
     }
 }
 
 // The rows of the four letters of a sequence, in the first slots.
-pub fn letter_slots(
-    letters: &[u8],
-    lengths: &[u32],
-    firsts: &[u32],
-    offsets: &[u32],
-    standing: &mut [u64],
-)
-    requires sound_set { SoundSet letters.now lengths.now }
-    requires firsts { Firsts lengths.now firsts.now }
-    requires offsets { Offsets lengths.now offsets.now }
+pub fn letter_slots(plan: &Plan, standing: &mut [u64])
     requires in_bounds { letter_bases * row_words ≤ length standing.old }
     ensures standing_len_unchanged { length standing.new ≡ length standing.old }
-    ensures base_rows { BaseRows lengths.now letters.now standing.new }
+    ensures base_rows { BaseRows plan.now.layout.lengths.now plan.now.letters.now standing.new }
 {
-    let mut k = 0;
-    while k < lengths.len() {
-        let a = offsets[k] as usize;
-        let e = offsets[k + 1] as usize;
-        let from = firsts[k] as usize;
-        let to = firsts[k + 1] as usize;
-        let sequence = SequenceSet::part(letters, Offset(a), Offset(e));
+    for k in 0..plan.layout.lengths.len() {
+        let a = plan.offsets[k] as usize;
+        let e = plan.offsets[k + 1] as usize;
+        let (from, to) = plan.layout.words(k);
+        let sequence = SequenceSet::part(plan.letters, Offset(a), Offset(e));
         sequence_slots(sequence, from, to, standing);
-        k += 1;
     }
 }
 
 // A letter's row shifted for place `i` of a component, in slot `s`.
-fn shift_slot(
-    s: usize,
-    i: usize,
-    lengths: &[u32],
-    firsts: &[u32],
-    row: &[u64],
-    standing: &mut [u64],
-)
-    requires firsts { Firsts lengths.now firsts.now }
-    requires lengths_bound { (first_word lengths.now (length lengths.now) ≤ row_words) × (length row.now ≡ row_words) }
+fn shift_slot(plan: &Plan, s: usize, i: usize, row: &[u64], standing: &mut [u64])
+    requires row_len { length row.now ≡ row_words }
     requires i_bound { (i < letter_shifts) × (s * row_words + row_words ≤ length standing.old) }
     ensures standing_unchanged { (take (s * row_words) standing.new ≡ take (s * row_words) standing.old) × (length standing.new ≡ length standing.old) }
-    ensures filled { Filled (λ _. true) (shifted_at i lengths.now row.now) lengths.now (row_slot s standing.new) (length lengths.now) }
+    ensures filled { Filled (λ _. true) (shifted_at i plan.now.layout.lengths.now row.now) plan.now.layout.lengths.now (row_slot s standing.new) (length plan.now.layout.lengths.now) }
 {
     let a = s * WORDS;
     let e = a + WORDS;
-    shift::shift_all(i, lengths, firsts, row, &mut standing[a..e]);
+    shift::shift_all(&plan.layout, i, row, &mut standing[a..e]);
 }
 
 // A word where a base set has a base, and else none.
@@ -127,28 +92,25 @@ pub fn letter_row(x: u64, bases: &[u64], row: &mut [u64])
     let c = Letter::has_base(set, 1);
     let g = Letter::has_base(set, 2);
     let t = Letter::has_base(set, 3);
-    let mut q = 0;
-    while q < WORDS {
+    for q in 0..WORDS {
         let one = pick(a, bases[q]) | pick(c, bases[WORDS + q]);
         let other = pick(g, bases[2 * WORDS + q]) | pick(t, bases[3 * WORDS + q]);
         row[q] = one | other;
-        q += 1;
     }
 }
 
 // Slot `s` of an exact search, past those for the first place, from that of its letter for the first place. `work` is lent for the
 // letter's row.
-fn later_slot(s: usize, lengths: &[u32], firsts: &[u32], work: &mut [u64], standing: &mut [u64])
-    requires firsts { Firsts lengths.now firsts.now }
-    requires lengths_bound { (first_word lengths.now (length lengths.now) ≤ row_words) × (length work.old ≡ row_words) }
+fn later_slot(plan: &Plan, s: usize, work: &mut [u64], standing: &mut [u64])
+    requires work_len { length work.old ≡ row_words }
     requires le_s { (letter_bases ≤ s) × (s < letter_shifts * letter_bases) × (s * row_words + row_words ≤ length standing.old) }
     ensures standing_unchanged { (take (s * row_words) standing.new ≡ take (s * row_words) standing.old) × (length standing.new ≡ length standing.old) × (length work.new ≡ length work.old) }
-    ensures filled { Filled (λ _. true) (shifted_at (s / letter_bases) lengths.now (row_slot (s % letter_bases) standing.old)) lengths.now (row_slot s standing.new) (length lengths.now) }
+    ensures filled { Filled (λ _. true) (shifted_at (s / letter_bases) plan.now.layout.lengths.now (row_slot (s % letter_bases) standing.old)) plan.now.layout.lengths.now (row_slot s standing.new) (length plan.now.layout.lengths.now) }
 {
     let a = s % BASES * WORDS;
     let e = a + WORDS;
-    words::copy(&standing[a..e], work);
-    shift_slot(s, s / BASES, lengths, firsts, work, standing);
+    work.copy_from_slice(&standing[a..e]);
+    shift_slot(plan, s, s / BASES, work, standing);
 }
 
 // Slot `s` of a mixed search, past those of the four letters of a sequence: the row of letter `s`. `work` is lent for it.
@@ -160,21 +122,18 @@ fn mixed_slot(s: usize, work: &mut [u64], standing: &mut [u64])
     let a = s * WORDS;
     let e = a + WORDS;
     letter_row(s as u64, standing, work);
-    words::copy(work, &mut standing[a..e]);
+    standing[a..e].copy_from_slice(work);
 }
 
 // The rows of an exact search past those for the first place, for as many places as the table has room for, place by place.
-fn exact_rows(lengths: &[u32], firsts: &[u32], work: &mut [u64], standing: &mut [u64], end: usize)
-    requires firsts { Firsts lengths.now firsts.now }
-    requires lengths_bound { (first_word lengths.now (length lengths.now) ≤ row_words) × (length work.old ≡ row_words) }
+fn exact_rows(plan: &Plan, end: usize, work: &mut [u64], standing: &mut [u64])
+    requires work_len { length work.old ≡ row_words }
     requires end_bound { (end ≤ letter_shifts * letter_bases) × (end * row_words ≤ length standing.old) × (letter_bases * row_words ≤ length standing.old) }
     ensures standing_unchanged { (take (letter_bases * row_words) standing.new ≡ take (letter_bases * row_words) standing.old) × (length standing.new ≡ length standing.old) × (length work.new ≡ length work.old) }
-    ensures by_index { (s : ℕ) → letter_bases ≤ s → s < end → Filled (λ _. true) (shifted_at (s / letter_bases) lengths.now (row_slot (s % letter_bases) standing.old)) lengths.now (row_slot s standing.new) (length lengths.now) }
+    ensures by_index { (s : ℕ) → letter_bases ≤ s → s < end → Filled (λ _. true) (shifted_at (s / letter_bases) plan.now.layout.lengths.now (row_slot (s % letter_bases) standing.old)) plan.now.layout.lengths.now (row_slot s standing.new) (length plan.now.layout.lengths.now) }
 {
-    let mut s = BASES;
-    while s < end {
-        later_slot(s, lengths, firsts, work, standing);
-        s += 1;
+    for s in BASES..end {
+        later_slot(plan, s, work, standing);
     }
 }
 
@@ -184,68 +143,63 @@ fn mixed_rows(work: &mut [u64], standing: &mut [u64])
     ensures standing_unchanged { (take (letter_bases * row_words) standing.new ≡ take (letter_bases * row_words) standing.old) × (length standing.new ≡ length standing.old) × (length work.new ≡ length work.old) }
     ensures by_index { (s : ℕ) → letter_bases ≤ s → s < letter_digits → FromBases standing.old s (row_slot s standing.new) }
 {
-    let mut s = BASES;
-    while s < DIGITS {
+    for s in BASES..DIGITS {
         mixed_slot(s, work, standing);
-        s += 1;
     }
 }
 
 // The rows of all letters that a template's motifs may have, from those of the four letters of a sequence. `work` is lent for a row.
-pub fn letter_rows(
-    template: Template,
-    letters: &[u8],
-    lengths: &[u32],
-    firsts: &[u32],
-    work: &mut [u64],
-    standing: &mut [u64],
-)
-    requires sound_set { SoundSet letters.now lengths.now }
-    requires firsts { Firsts lengths.now firsts.now }
-    requires base_rows { BaseRows lengths.now letters.now standing.old }
-    requires work_len { (length work.old ≡ row_words) × (base_of template * row_words ≤ length standing.old) × (length standing.old ≤ letter_shifts * letter_bases * row_words) }
-    ensures letters { Letters template lengths.now letters.now standing.new }
+pub fn letter_rows(plan: &Plan, work: &mut [u64], standing: &mut [u64])
+    requires base_rows { BaseRows plan.now.layout.lengths.now plan.now.letters.now standing.old }
+    requires work_len { (length work.old ≡ row_words) × (base_of plan.now.search.template * row_words ≤ length standing.old) × (length standing.old ≤ letter_shifts * letter_bases * row_words) }
+    ensures letters { Letters plan.now.search.template plan.now.layout.lengths.now plan.now.letters.now standing.new }
     ensures standing_len_unchanged { (length standing.new ≡ length standing.old) × (length work.new ≡ length work.old) }
 {
-    let profile = template.profile;
+    let profile = plan.search.template.profile;
     match profile {
         Profile::Exact => {
-            let n = kept(template, standing);
-            exact_rows(lengths, firsts, work, standing, n * BASES);
+            let n = standing.len() / ROWS;
+            exact_rows(plan, n * BASES, work, standing);
         }
         Profile::Mixed => mixed_rows(work, standing),
     }
 }
 
-// Where in the table the row is that the last letter of a candidate is tested by, and how far it is shifted as it is used.
+// The row that the last letter of a candidate is tested by, and how far it is shifted as it is used.
 #[derive(Clone, Copy)]
-pub struct Test {
-    pub at: usize,
+pub struct Test<'a> {
+    pub row: &'a [u64],
     pub by: usize,
 }
 
-// The slot of the letter shifted so far, where it is kept, and else that of the row as it is.
-pub fn test_for(template: Template, size: u8, number: u64, inside: &[u8], standing: &[u64]) -> Test
-    requires sound_template { SoundTemplate template }
-    requires le_size { (1 ≤ size) × (size ≤ templates.size template) × Inside template inside.now }
-    requires template_in_bounds { base_of template * row_words ≤ length standing.now }
-    ensures at_in_bounds { (result.at + row_words ≤ length standing.now) × (result.by < 16) }
-    ensures by_index { (ns l : List ℕ) → Letters template ns l standing.now → TestsLast template ns l size number (between result.at (result.at + row_words) standing.now) result.by }
+// The row of the letter shifted so far, where it is kept, and else the row as it is.
+pub fn test_for<'a>(made: &Made<'a>, place: Place) -> Test<'a>
+    requires le_letters { (1 ≤ place.letters) × (place.letters ≤ made.now.plan.depth) }
+    ensures row_len { length result.row.now ≡ row_words }
+    ensures by_bound { result.by < 16 }
+    ensures tests_last { TestsLast made.now.plan.search.template made.now.plan.layout.lengths.now made.now.plan.letters.now place.letters place.number result.row.now result.by }
 {
-    let below = size as usize - 1;
-    let profile = template.profile;
-    let x = profile.last(number) as usize;
-    let i = (inside[below] % PLACES) as usize;
-    let n = kept(template, standing);
-    if i < n {
-        let base = profile.base() as usize;
-        return Test {
-            at: (i * base + x) * WORDS,
+    let plan = made.plan;
+    let standing = made.standing;
+    let below = place.letters as usize - 1;
+    let profile = plan.search.template.profile;
+    let x = profile.last(place.number) as usize;
+    let i = plan.inside[below].letter as usize;
+    let base = profile.base() as usize;
+    let kept = (i + 1) * base * WORDS <= standing.len();
+    if kept {
+        let a = (i * base + x) * WORDS;
+        let e = a + WORDS;
+        Test {
+            row: &standing[a..e],
             by: 0,
-        };
-    }
-    Test {
-        at: x * WORDS,
-        by: i,
+        }
+    } else {
+        let a = x * WORDS;
+        let e = a + WORDS;
+        Test {
+            row: &standing[a..e],
+            by: i,
+        }
     }
 }

@@ -3,6 +3,7 @@
 #![tactic(auto)]
 
 mod letters;
+pub mod made;
 pub mod path;
 pub mod tables;
 pub mod weights;
@@ -10,13 +11,13 @@ pub mod weights;
 use rules::{Letter, SequenceSet, Template};
 
 // The words of a row, and how long the tables are that a caller lends: a place for each letter of a motif; where each sequence's words
-// begin, where the last one's end, and whether each has one; where its letters begin; from one to SHIFTS rows for each letter; and a slot
-// for each prefix of a path, those with an even number of letters in one table and those with an odd one in another.
+// begin, and where the last one's end; where its letters begin; from one to SHIFTS rows for each letter; and a slot
+// for each prefix of a path.
 pub const WORDS: usize = rows::WORDS;
 
 pub const LETTERS: usize = Template::LETTERS as usize;
 
-pub const FIRSTS: usize = SequenceSet::SEQUENCES + 2;
+pub const FIRSTS: usize = SequenceSet::SEQUENCES + 1;
 
 pub const OFFSETS: usize = SequenceSet::SEQUENCES + 1;
 
@@ -27,8 +28,6 @@ pub const ROWS: usize = BASES * WORDS;
 
 pub const DIGITS: usize = Letter::DIGITS as usize;
 
-pub const MIXED_ROWS: usize = DIGITS * WORDS;
-
 // A letter's row is kept shifted for each of the first places of a component: a candidate that ends there costs one AND for each word.
 // For a later place it is shifted as it is used, which costs about as much again. They are kept for as many places as the table that is
 // lent has room for, at least one: in a leg of an exact search for the first four, as more of them would not fit the stack that a call
@@ -37,8 +36,5 @@ pub const SHIFTS: usize = 4;
 
 pub const STANDING: usize = SHIFTS * ROWS;
 
-// A letter's component and its place there stand in one number, which this divides.
-pub const PLACES: u8 = 16;
-
-// The words of one of the two tables of slots.
-pub const SLOTS: usize = LETTERS / 2 * WORDS;
+// The words of the table of slots.
+pub const SLOTS: usize = LETTERS * WORDS;

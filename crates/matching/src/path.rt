@@ -1,439 +1,256 @@
 // The path of a search: the rows of the prefixes of its place, kept from step to step.
-ghost use Rattle.std.specs.Prelude.{List, ◌≡◌, ℕ, ◌+◌, ◌-◌, ◌*◌, ◌/◌, ◌^◌, ◌≤◌, ◌<◌, length};
-ghost use Rattle.rules.specs.Limits.{sequence_set_sequences};
+ghost use Rattle.std.specs.Prelude.{List, Option, Some, None, ◌≡◌, ℕ, ◌+◌, ◌-◌, ◌*◌, ◌/◌, ◌^◌, ◌≤◌, ◌<◌, length};
+ghost use Rattle.rules.specs.Limits.{sequence_set_sequences, template_letters};
 ghost use Rattle.rules.specs.Profile.{base_of};
 ghost use Rattle.rules.specs.Sequences.{sequences};
-ghost use Rattle.rules.specs.Sound.{SoundSet, SoundTemplate};
+ghost use Rattle.rules.specs.Sound.{SoundSet};
 ghost use Rattle.rules.specs.Support.{support, parts};
 ghost use Rattle.rules.specs.Template as templates;
-ghost use Rattle.matching.specs.Path.{row_slot, parity, prefix_starts, gap_near, gap_far, Slot, Path, path_slots, Inside, BaseRows, TestsLast, Ready};
-ghost use Rattle.rows.specs.Set.{row_words, first_word, Firsts, is_marked, window_at, Filled, Marked, Bounded, Row};
+ghost use Rattle.matching.specs.Path.{row_slot, prefix_starts, gap_near, gap_far, Slot, Path, BaseRows, TestsLast};
+ghost use Rattle.rows.specs.Set.{row_words, is_marked, window_at, Filled, Marked, Bounded, Row};
 
-use super::PLACES;
-use super::letters::{letter_row, test_for};
-use rows::{WORDS, gap, set};
-use rules::Template;
+use super::letters::{Test, letter_row, test_for};
+use super::made::{Made, Plan};
+use super::{SLOTS, WORDS};
+use rows::{gap, set};
+use rules::Place;
+
+// The slot of the prefix of so many letters.
+pub fn slot<'a>(size: usize, slots: &'a [u64; SLOTS]) -> &'a [u64]
+    requires { size < template_letters }
+    ensures slot { result.now ≡ row_slot size slots.now }
+    ensures slot_len { length result.now ≡ row_words }
+{
+    let a = size * WORDS;
+    let e = a + WORDS;
+    &slots[a..e]
+}
 
 // The support of a candidate, and its row, from the slot of the prefix that is one letter shorter. Where the support is below `quorum`, a
 // number may be answered that is below it too, and the row may not be whole.
-fn extend(
-    template: Template,
-    size: u8,
-    number: u64,
-    letters: &[u8],
-    lengths: &[u32],
-    firsts: &[u32],
-    letter: &[u64],
-    by: usize,
-    slot: &[u64],
-    quorum: u32,
-    work: &mut [u64],
-) -> u32
-    requires sound_template { SoundTemplate template }
-    requires sound_set { SoundSet letters.now lengths.now }
-    requires le_size { (1 ≤ size) × (size ≤ templates.size template) × (by < 16) }
-    requires firsts { Firsts lengths.now firsts.now }
-    requires tests_last { TestsLast template lengths.now letters.now size number letter.now by }
-    requires slot { Slot template lengths.now letters.now slot.now (size - 1) (number / base_of template) }
-    requires letter_len { (length letter.now ≡ row_words) × (length slot.now ≡ row_words) × (length work.old ≡ row_words) }
-    ensures lower_bound { support (parts template size number) (sequences letters.now lengths.now) ≤ result }
-    ensures value { quorum ≤ result → result ≡ support (parts template size number) (sequences letters.now lengths.now) }
-    ensures row { quorum ≤ result → Row (prefix_starts template size number) lengths.now letters.now work.new }
+fn extend(plan: &Plan, place: Place, test: Test, slot: &[u64], quorum: u32, work: &mut [u64]) -> u32
+    requires le_size { (1 ≤ place.letters) × (place.letters ≤ templates.size plan.now.search.template) × (test.by < 16) }
+    requires tests_last { TestsLast plan.now.search.template plan.now.layout.lengths.now plan.now.letters.now place.letters place.number test.row.now test.by }
+    requires slot { Slot plan.now.search.template plan.now.layout.lengths.now plan.now.letters.now slot.now (place.letters - 1) (place.number / base_of plan.now.search.template) }
+    requires letter_len { (length test.row.now ≡ row_words) × (length slot.now ≡ row_words) × (length work.old ≡ row_words) }
+    ensures lower_bound { support (parts plan.now.search.template place.letters place.number) (sequences plan.now.letters.now plan.now.layout.lengths.now) ≤ result }
+    ensures value { quorum ≤ result → result ≡ support (parts plan.now.search.template place.letters place.number) (sequences plan.now.letters.now plan.now.layout.lengths.now) }
+    ensures row { quorum ≤ result → Row (prefix_starts plan.now.search.template place.letters place.number) plan.now.layout.lengths.now plan.now.letters.now work.new }
     ensures work_len_unchanged { length work.new ≡ length work.old }
 {
-    set::keep_all(lengths, firsts, slot, letter, by, quorum, work)
+    set::keep_all(&plan.layout, slot, test.row, test.by, quorum, work)
 }
 
 // The same for a candidate whose path stands in the slots.
 pub fn support(
-    template: Template,
-    size: u8,
-    number: u64,
-    inside: &[u8],
-    letters: &[u8],
-    lengths: &[u32],
-    firsts: &[u32],
-    standing: &[u64],
-    evens: &[u64],
-    odds: &[u64],
+    made: &Made,
+    place: Place,
+    slots: &[u64; SLOTS],
     quorum: u32,
-    work: &mut [u64],
+    work: &mut [u64; WORDS],
 ) -> u32
-    requires sound_template { SoundTemplate template }
-    requires sound_set { SoundSet letters.now lengths.now }
-    requires le_size { (1 ≤ size) × (size ≤ templates.size template) }
-    requires ready { Ready template lengths.now letters.now inside.now firsts.now standing.now }
-    requires path { Path template lengths.now letters.now evens.now odds.now size number }
-    requires evens_len { (length evens.now ≡ path_slots * row_words) × (length odds.now ≡ path_slots * row_words) × (length work.old ≡ row_words) }
-    ensures lower_bound { support (parts template size number) (sequences letters.now lengths.now) ≤ result }
-    ensures value { quorum ≤ result → result ≡ support (parts template size number) (sequences letters.now lengths.now) }
-    ensures row { quorum ≤ result → Row (prefix_starts template size number) lengths.now letters.now work.new }
-    ensures work_len_unchanged { length work.new ≡ length work.old }
+    requires le_size { (1 ≤ place.letters) × (place.letters ≤ made.now.plan.depth) }
+    requires path { Path made.now.plan.search.template made.now.plan.layout.lengths.now made.now.plan.letters.now slots.now place.letters place.number }
+    ensures lower_bound { support (parts made.now.plan.search.template place.letters place.number) (sequences made.now.plan.letters.now made.now.plan.layout.lengths.now) ≤ result }
+    ensures value { quorum ≤ result → result ≡ support (parts made.now.plan.search.template place.letters place.number) (sequences made.now.plan.letters.now made.now.plan.layout.lengths.now) }
+    ensures row { quorum ≤ result → Row (prefix_starts made.now.plan.search.template place.letters place.number) made.now.plan.layout.lengths.now made.now.plan.letters.now work.new }
 {
-    let below = size as usize - 1;
-    let a = below / 2 * WORDS;
-    let e = a + WORDS;
-    let test = test_for(template, size, number, inside, standing);
-    let b = test.at;
-    let f = b + WORDS;
-    if below % 2 == 0 {
-        return extend(
-            template,
-            size,
-            number,
-            letters,
-            lengths,
-            firsts,
-            &standing[b..f],
-            test.by,
-            &evens[a..e],
-            quorum,
-            work,
-        );
-    }
+    let before = slot(place.letters as usize - 1, slots);
     extend(
-        template,
-        size,
-        number,
-        letters,
-        lengths,
-        firsts,
-        &standing[b..f],
-        test.by,
-        &odds[a..e],
+        &made.plan,
+        place,
+        test_for(made, place),
+        before,
         quorum,
         work,
     )
 }
 
 // Opens the gap before a component in a slot that has the row of a prefix which ends the one before it.
-fn open_slot(
-    template: Template,
-    component: usize,
-    lengths: &[u32],
-    firsts: &[u32],
-    spare: &mut [u64],
-    slot: &mut [u64],
-)
-    requires sound_template { SoundTemplate template }
-    requires le_component { (1 ≤ component) × (component < template.count) × (length lengths.now ≤ sequence_set_sequences) }
-    requires firsts { Firsts lengths.now firsts.now }
-    requires bounded { Bounded lengths.now slot.old }
-    requires lengths_bound { (first_word lengths.now (length lengths.now) ≤ row_words) × (length spare.old ≡ row_words) × (length slot.old ≡ row_words) }
+fn open_slot(plan: &Plan, component: usize, spare: &mut [u64], slot: &mut [u64])
+    requires le_component { (1 ≤ component) × (component < plan.now.search.template.count) }
+    requires bounded { Bounded plan.now.layout.lengths.now slot.old }
+    requires slot_len { (length spare.old ≡ row_words) × (length slot.old ≡ row_words) }
     ensures slot_len_unchanged { (length slot.new ≡ length slot.old) × (length spare.new ≡ length spare.old) }
     ensures marked { Marked (is_marked slot.old) slot.new sequence_set_sequences }
-    ensures filled { Filled (is_marked slot.old) (window_at (gap_near template component) (templates.span (gap_near template component) (gap_far template component)) lengths.now slot.old) lengths.now slot.new (length lengths.now) }
+    ensures filled { Filled (is_marked slot.old) (window_at (gap_near plan.now.search.template component) (templates.span (gap_near plan.now.search.template component) (gap_far plan.now.search.template component)) plan.now.layout.lengths.now slot.old) plan.now.layout.lengths.now slot.new (length plan.now.layout.lengths.now) }
 {
-    let components = template.components();
+    let components = plan.search.template.components();
     let before = components[component - 1];
     let here = components[component];
     let apart = here.after(before);
-    gap::open_all(lengths, firsts, apart.near, apart.count, spare, slot);
+    gap::open_all(&plan.layout, apart.near, apart.count, spare, slot);
 }
 
 // Makes a slot that has the row of a prefix what a further letter is added to: where that stands inside a component the row as it is, and
 // else the row with the gap opened.
-fn end_slot(
-    template: Template,
-    size: u8,
-    inside: &[u8],
-    lengths: &[u32],
-    firsts: &[u32],
-    spare: &mut [u64],
-    slot: &mut [u64],
-)
-    requires sound_template { SoundTemplate template }
-    requires le_size { (1 ≤ size) × (size < templates.size template) × (length lengths.now ≤ sequence_set_sequences) }
-    requires inside { Inside template inside.now }
-    requires firsts { Firsts lengths.now firsts.now }
-    requires bounded { Bounded lengths.now slot.old }
-    requires lengths_bound { (first_word lengths.now (length lengths.now) ≤ row_words) × (length spare.old ≡ row_words) × (length slot.old ≡ row_words) }
-    ensures by_index { (l : List ℕ) (number : ℕ) → SoundSet l lengths.now → Row (prefix_starts template size number) lengths.now l slot.old → Slot template lengths.now l slot.new size number }
+fn end_slot(plan: &Plan, size: u8, spare: &mut [u64], slot: &mut [u64])
+    requires le_size { (1 ≤ size) × (size < templates.size plan.now.search.template) }
+    requires bounded { Bounded plan.now.layout.lengths.now slot.old }
+    requires slot_len { (length spare.old ≡ row_words) × (length slot.old ≡ row_words) }
+    ensures by_index { (number : ℕ) → Row (prefix_starts plan.now.search.template size number) plan.now.layout.lengths.now plan.now.letters.now slot.old → Slot plan.now.search.template plan.now.layout.lengths.now plan.now.letters.now slot.new size number }
     ensures spare_len_unchanged { (length spare.new ≡ length spare.old) × (length slot.new ≡ length slot.old) }
 {
-    let s = size as usize;
-    let place = inside[s];
-    if place % PLACES > 0 {
+    let spot = plan.inside[size as usize];
+    if spot.letter > 0 {
         return;
     }
-    let component = (place / PLACES) as usize;
-    open_slot(template, component, lengths, firsts, spare, slot);
+    open_slot(plan, spot.component as usize, spare, slot);
 }
 
 // Fills the slot of a prefix from that of the one a letter shorter, and answers its support. A further letter is added to its row where it
 // stands inside a component, and else to that row with the gap opened. Where the support is below `quorum`, a number may be answered that
 // is below it too, and the slot may not be whole.
 fn fill_slot(
-    template: Template,
-    size: u8,
-    number: u64,
-    inside: &[u8],
-    letters: &[u8],
-    lengths: &[u32],
-    firsts: &[u32],
-    letter: &[u64],
-    by: usize,
+    plan: &Plan,
+    place: Place,
+    test: Test,
     before: &[u64],
     quorum: u32,
     spare: &mut [u64],
     slot: &mut [u64],
 ) -> u32
-    requires sound_template { SoundTemplate template }
-    requires sound_set { SoundSet letters.now lengths.now }
-    requires le_size { (1 ≤ size) × (size < templates.size template) × (by < 16) }
-    requires inside { Inside template inside.now }
-    requires firsts { Firsts lengths.now firsts.now }
-    requires tests_last { TestsLast template lengths.now letters.now size number letter.now by }
-    requires slot { Slot template lengths.now letters.now before.now (size - 1) (number / base_of template) }
-    requires letter_len { (length letter.now ≡ row_words) × (length before.now ≡ row_words) × (length spare.old ≡ row_words) × (length slot.old ≡ row_words) }
-    ensures lower_bound { support (parts template size number) (sequences letters.now lengths.now) ≤ result }
-    ensures value { quorum ≤ result → result ≡ support (parts template size number) (sequences letters.now lengths.now) }
-    ensures slot_2 { quorum ≤ result → Slot template lengths.now letters.now slot.new size number }
+    requires le_size { (1 ≤ place.letters) × (place.letters < templates.size plan.now.search.template) × (test.by < 16) }
+    requires tests_last { TestsLast plan.now.search.template plan.now.layout.lengths.now plan.now.letters.now place.letters place.number test.row.now test.by }
+    requires slot { Slot plan.now.search.template plan.now.layout.lengths.now plan.now.letters.now before.now (place.letters - 1) (place.number / base_of plan.now.search.template) }
+    requires letter_len { (length test.row.now ≡ row_words) × (length before.now ≡ row_words) × (length spare.old ≡ row_words) × (length slot.old ≡ row_words) }
+    ensures lower_bound { support (parts plan.now.search.template place.letters place.number) (sequences plan.now.letters.now plan.now.layout.lengths.now) ≤ result }
+    ensures value { quorum ≤ result → result ≡ support (parts plan.now.search.template place.letters place.number) (sequences plan.now.letters.now plan.now.layout.lengths.now) }
+    ensures slot_2 { quorum ≤ result → Slot plan.now.search.template plan.now.layout.lengths.now plan.now.letters.now slot.new place.letters place.number }
     ensures spare_len_unchanged { (length spare.new ≡ length spare.old) × (length slot.new ≡ length slot.old) }
 {
-    let found = extend(
-        template, size, number, letters, lengths, firsts, letter, by, before, quorum, slot,
-    );
+    let found = extend(plan, place, test, before, quorum, slot);
     if found < quorum {
         return found;
     }
-    end_slot(template, size, inside, lengths, firsts, spare, slot);
+    end_slot(plan, place.letters, spare, slot);
     found
 }
 
 // The same for a prefix whose path stands in the slots: with its own slot there is the path to each candidate that has one letter more.
 fn push(
-    template: Template,
-    size: u8,
-    number: u64,
-    inside: &[u8],
-    letters: &[u8],
-    lengths: &[u32],
-    firsts: &[u32],
-    standing: &[u64],
+    made: &Made,
+    place: Place,
     quorum: u32,
-    evens: &mut [u64],
-    odds: &mut [u64],
-    spare: &mut [u64],
+    slots: &mut [u64; SLOTS],
+    spare: &mut [u64; WORDS],
 ) -> u32
-    requires sound_template { SoundTemplate template }
-    requires sound_set { SoundSet letters.now lengths.now }
-    requires le_size { (1 ≤ size) × (size < templates.size template) }
-    requires ready { Ready template lengths.now letters.now inside.now firsts.now standing.now }
-    requires path { Path template lengths.now letters.now evens.old odds.old size number }
-    requires evens_len { (length evens.old ≡ path_slots * row_words) × (length odds.old ≡ path_slots * row_words) × (length spare.old ≡ row_words) }
-    ensures lower_bound { support (parts template size number) (sequences letters.now lengths.now) ≤ result }
-    ensures value { quorum ≤ result → result ≡ support (parts template size number) (sequences letters.now lengths.now) }
-    ensures path_2 { quorum ≤ result → (x : ℕ) → x < base_of template → Path template lengths.now letters.now evens.new odds.new (size + 1) (number * base_of template + x) }
-    ensures path_3 { Path template lengths.now letters.now evens.new odds.new size number }
-    ensures evens_len_unchanged { (length evens.new ≡ length evens.old) × (length odds.new ≡ length odds.old) × (length spare.new ≡ length spare.old) }
+    requires le_size { (1 ≤ place.letters) × (place.letters < made.now.plan.depth) }
+    requires path { Path made.now.plan.search.template made.now.plan.layout.lengths.now made.now.plan.letters.now slots.old place.letters place.number }
+    ensures lower_bound { support (parts made.now.plan.search.template place.letters place.number) (sequences made.now.plan.letters.now made.now.plan.layout.lengths.now) ≤ result }
+    ensures value { quorum ≤ result → result ≡ support (parts made.now.plan.search.template place.letters place.number) (sequences made.now.plan.letters.now made.now.plan.layout.lengths.now) }
+    ensures path_2 { quorum ≤ result → (x : ℕ) → x < base_of made.now.plan.search.template → Path made.now.plan.search.template made.now.plan.layout.lengths.now made.now.plan.letters.now slots.new (place.letters + 1) (place.number * base_of made.now.plan.search.template + x) }
+    ensures path_3 { Path made.now.plan.search.template made.now.plan.layout.lengths.now made.now.plan.letters.now slots.new place.letters place.number }
 {
-    let s = size as usize;
-    let a = (s - 1) / 2 * WORDS;
+    let test = test_for(made, place);
+    let a = (place.letters as usize - 1) * WORDS;
     let e = a + WORDS;
-    let b = s / 2 * WORDS;
-    let f = b + WORDS;
-    let test = test_for(template, size, number, inside, standing);
-    let c = test.at;
-    let g = c + WORDS;
-    if s % 2 == 0 {
-        return fill_slot(
-            template,
-            size,
-            number,
-            inside,
-            letters,
-            lengths,
-            firsts,
-            &standing[c..g],
-            test.by,
-            &odds[a..e],
-            quorum,
-            spare,
-            &mut evens[b..f],
-        );
-    }
-    fill_slot(
-        template,
-        size,
-        number,
-        inside,
-        letters,
-        lengths,
-        firsts,
-        &standing[c..g],
-        test.by,
-        &evens[a..e],
-        quorum,
-        spare,
-        &mut odds[b..f],
-    )
+    let (below, rest) = slots.split_at_mut(e);
+    let (slot, _) = rest.split_at_mut(WORDS);
+    fill_slot(&made.plan, place, test, &below[a..e], quorum, spare, slot)
 }
 
-// Examines a candidate of a motif of `depth` letters, whose path stands in the slots, and answers its support. Where that reaches `quorum`,
-// there is then the path to each candidate that has one letter more, or, of a whole motif, its row in `work`. Where it is below, a number
-// may be answered that is below it too.
+// Examines a candidate whose path stands in the slots, and answers its support. Where that reaches `quorum`, there is then the path to each
+// candidate that has one letter more, or, of a whole motif, its row in `work`. Where it is below, a number may be answered that is below it
+// too. The slots and the two rows are tables of their own, and no struct: a part of one field lent by `&` beside another field lent by
+// `&mut` is not covered by the check.
 pub fn examine(
-    template: Template,
-    depth: u8,
-    size: u8,
-    number: u64,
-    inside: &[u8],
-    letters: &[u8],
-    lengths: &[u32],
-    firsts: &[u32],
-    standing: &[u64],
+    made: &Made,
+    place: Place,
     quorum: u32,
-    evens: &mut [u64],
-    odds: &mut [u64],
-    work: &mut [u64],
-    spare: &mut [u64],
+    slots: &mut [u64; SLOTS],
+    work: &mut [u64; WORDS],
+    spare: &mut [u64; WORDS],
 ) -> u32
-    requires sound_template { SoundTemplate template }
-    requires sound_set { SoundSet letters.now lengths.now }
-    requires le_size { (1 ≤ size) × (size ≤ depth) × (depth ≡ templates.size template) }
-    requires ready { Ready template lengths.now letters.now inside.now firsts.now standing.now }
-    requires path { Path template lengths.now letters.now evens.old odds.old size number }
-    requires evens_len { (length evens.old ≡ path_slots * row_words) × (length odds.old ≡ path_slots * row_words) × (length work.old ≡ row_words) × (length spare.old ≡ row_words) }
-    ensures lower_bound { support (parts template size number) (sequences letters.now lengths.now) ≤ result }
-    ensures value { quorum ≤ result → result ≡ support (parts template size number) (sequences letters.now lengths.now) }
-    ensures path_2 { quorum ≤ result → size < depth → (x : ℕ) → x < base_of template → Path template lengths.now letters.now evens.new odds.new (size + 1) (number * base_of template + x) }
-    ensures row { quorum ≤ result → size ≡ depth → Row (prefix_starts template size number) lengths.now letters.now work.new }
-    ensures path_3 { Path template lengths.now letters.now evens.new odds.new size number }
-    ensures evens_len_unchanged { (length evens.new ≡ length evens.old) × (length odds.new ≡ length odds.old) × (length work.new ≡ length work.old) × (length spare.new ≡ length spare.old) }
+    requires le_size { (1 ≤ place.letters) × (place.letters ≤ made.now.plan.depth) }
+    requires path { Path made.now.plan.search.template made.now.plan.layout.lengths.now made.now.plan.letters.now slots.old place.letters place.number }
+    ensures lower_bound { support (parts made.now.plan.search.template place.letters place.number) (sequences made.now.plan.letters.now made.now.plan.layout.lengths.now) ≤ result }
+    ensures value { quorum ≤ result → result ≡ support (parts made.now.plan.search.template place.letters place.number) (sequences made.now.plan.letters.now made.now.plan.layout.lengths.now) }
+    ensures path_2 { quorum ≤ result → place.letters < made.now.plan.depth → (x : ℕ) → x < base_of made.now.plan.search.template → Path made.now.plan.search.template made.now.plan.layout.lengths.now made.now.plan.letters.now slots.new (place.letters + 1) (place.number * base_of made.now.plan.search.template + x) }
+    ensures row { quorum ≤ result → place.letters ≡ made.now.plan.depth → Row (prefix_starts made.now.plan.search.template place.letters place.number) made.now.plan.layout.lengths.now made.now.plan.letters.now work.new }
+    ensures path_3 { Path made.now.plan.search.template made.now.plan.layout.lengths.now made.now.plan.letters.now slots.new place.letters place.number }
 {
-    if size < depth {
-        return push(
-            template, size, number, inside, letters, lengths, firsts, standing, quorum, evens,
-            odds, spare,
-        );
+    if place.letters < made.plan.depth {
+        return push(made, place, quorum, slots, spare);
     }
-    support(
-        template, size, number, inside, letters, lengths, firsts, standing, evens, odds, quorum,
-        work,
-    )
+    support(made, place, slots, quorum, work)
 }
 
-// Makes the rows of the path to a place, from the first slot on, and answers the support of the prefix one letter shorter, if it has a
-// letter.
-pub fn replay(
-    template: Template,
-    size: u8,
-    number: u64,
-    inside: &[u8],
-    letters: &[u8],
-    lengths: &[u32],
-    firsts: &[u32],
-    standing: &[u64],
-    evens: &mut [u64],
-    odds: &mut [u64],
-    spare: &mut [u64],
-) -> u32
-    requires sound_template { SoundTemplate template }
-    requires sound_set { SoundSet letters.now lengths.now }
-    requires le_size { (1 ≤ size) × (size ≤ templates.size template) × (number < base_of template ^ size) }
-    requires ready { Ready template lengths.now letters.now inside.now firsts.now standing.now }
-    requires slot { Slot template lengths.now letters.now (row_slot 0 evens.old) 0 0 }
-    requires evens_len { (length evens.old ≡ path_slots * row_words) × (length odds.old ≡ path_slots * row_words) × (length spare.old ≡ row_words) }
-    ensures value { 2 ≤ size → result ≡ support (parts template (size - 1) (number / base_of template)) (sequences letters.now lengths.now) }
-    ensures path { Path template lengths.now letters.now evens.new odds.new size number }
-    ensures evens_len_unchanged { (length evens.new ≡ length evens.old) × (length odds.new ≡ length odds.old) × (length spare.new ≡ length spare.old) }
+// Makes the rows of the path to the search's place, from the first slot on, and answers the support of the prefix one letter shorter, if it
+// has a letter.
+pub fn replay(made: &Made, slots: &mut [u64; SLOTS], spare: &mut [u64; WORDS]) -> Option<u32>
+    requires le_letters { (1 ≤ made.now.plan.search.place.letters) × (made.now.plan.search.place.letters ≤ templates.size made.now.plan.search.template) × (made.now.plan.search.place.number < base_of made.now.plan.search.template ^ made.now.plan.search.place.letters) }
+    requires slot { Slot made.now.plan.search.template made.now.plan.layout.lengths.now made.now.plan.letters.now (row_slot 0 slots.old) 0 0 }
+    ensures none { made.now.plan.search.place.letters ≡ 1 → result ≡ None }
+    ensures value { 2 ≤ made.now.plan.search.place.letters → result ≡ Some (support (parts made.now.plan.search.template (made.now.plan.search.place.letters - 1) (made.now.plan.search.place.number / base_of made.now.plan.search.template)) (sequences made.now.plan.letters.now made.now.plan.layout.lengths.now)) }
+    ensures path { Path made.now.plan.search.template made.now.plan.layout.lengths.now made.now.plan.letters.now slots.new made.now.plan.search.place.letters made.now.plan.search.place.number }
 {
-    let profile = template.profile;
-    let mut found: u32 = 0;
-    let mut d: u8 = 1;
-    while d < size {
-        let left = (size - d) as u32;
-        let prefix = profile.prefix(number, left);
-        found = push(
-            template, d, prefix, inside, letters, lengths, firsts, standing, 0, evens, odds, spare,
-        );
-        d += 1;
+    let place = made.plan.search.place;
+    let profile = made.plan.search.template.profile;
+    let mut found: Option<u32> = None;
+    for d in 1..place.letters {
+        let left = (place.letters - d) as u32;
+        let number = profile.prefix(place.number, left);
+        let prefix = Place { letters: d, number };
+        found = Some(push(made, prefix, 0, slots, spare));
     }
     found
 }
 
-// Fills the slot of a prefix from that of the one a letter shorter, in two slots that take turns, the even numbers of letters in one and
-// the odd ones in the other, and answers its support. `bases` has the rows of the four letters of a sequence; `letter` is lent for that of
-// the prefix's last one, and then for the gap.
+// Fills the slot of a prefix from that of the one a letter shorter, and answers its support. `bases` has the rows of the four letters of
+// a sequence; `letter` is lent for that of the prefix's last one, and then for the gap.
 fn take_turn(
-    template: Template,
-    size: u8,
-    number: u64,
-    inside: &[u8],
-    letters: &[u8],
-    lengths: &[u32],
-    firsts: &[u32],
+    plan: &Plan,
+    place: Place,
     bases: &[u64],
     letter: &mut [u64],
-    even: &mut [u64],
-    odd: &mut [u64],
+    before: &[u64],
+    slot: &mut [u64],
 ) -> u32
-    requires sound_template { SoundTemplate template }
-    requires sound_set { SoundSet letters.now lengths.now }
-    requires le_size { (1 ≤ size) × (size < templates.size template) }
-    requires inside { Inside template inside.now }
-    requires firsts { Firsts lengths.now firsts.now }
-    requires base_rows { BaseRows lengths.now letters.now bases.now }
-    requires slot { Slot template lengths.now letters.now (parity even.old odd.old (size - 1)) (size - 1) (number / base_of template) }
-    requires letter_len { (length letter.old ≡ row_words) × (length even.old ≡ row_words) × (length odd.old ≡ row_words) }
-    ensures value { result ≡ support (parts template size number) (sequences letters.now lengths.now) }
-    ensures slot_2 { Slot template lengths.now letters.now (parity even.new odd.new size) size number }
-    ensures letter_len_unchanged { (length letter.new ≡ length letter.old) × (length even.new ≡ length even.old) × (length odd.new ≡ length odd.old) }
+    requires le_size { (1 ≤ place.letters) × (place.letters < templates.size plan.now.search.template) }
+    requires base_rows { BaseRows plan.now.layout.lengths.now plan.now.letters.now bases.now }
+    requires slot { Slot plan.now.search.template plan.now.layout.lengths.now plan.now.letters.now before.now (place.letters - 1) (place.number / base_of plan.now.search.template) }
+    requires letter_len { (length letter.old ≡ row_words) × (length before.now ≡ row_words) × (length slot.old ≡ row_words) }
+    ensures value { result ≡ support (parts plan.now.search.template place.letters place.number) (sequences plan.now.letters.now plan.now.layout.lengths.now) }
+    ensures slot_2 { Slot plan.now.search.template plan.now.layout.lengths.now plan.now.letters.now slot.new place.letters place.number }
+    ensures letter_len_unchanged { (length letter.new ≡ length letter.old) × (length slot.new ≡ length slot.old) }
 {
-    let below = size as usize - 1;
-    let by = (inside[below] % PLACES) as usize;
-    let profile = template.profile;
-    letter_row(profile.last(number), bases, letter);
-    if size % 2 == 0 {
-        let found = extend(
-            template, size, number, letters, lengths, firsts, letter, by, odd, 0, even,
-        );
-        end_slot(template, size, inside, lengths, firsts, letter, even);
-        return found;
-    }
-    let found = extend(
-        template, size, number, letters, lengths, firsts, letter, by, even, 0, odd,
-    );
-    end_slot(template, size, inside, lengths, firsts, letter, odd);
+    let below = place.letters as usize - 1;
+    let by = plan.inside[below].letter as usize;
+    let profile = plan.search.template.profile;
+    letter_row(profile.last(place.number), bases, letter);
+    let found = extend(plan, place, Test { row: letter, by }, before, 0, slot);
+    end_slot(plan, place.letters, letter, slot);
     found
 }
 
-// The support of the prefix of a place that is one letter shorter, if it has a letter: the prefixes one after another, in two slots, the
-// first of which is at first that of the prefix with no letters.
+// The support of the prefix of the search's place that is one letter shorter, if it has a letter: the prefixes one after another, in two
+// slots, the first of which is at first that of the prefix with no letters.
 pub fn shorter(
-    template: Template,
-    size: u8,
-    number: u64,
-    inside: &[u8],
-    letters: &[u8],
-    lengths: &[u32],
-    firsts: &[u32],
+    plan: &Plan,
     bases: &[u64],
     letter: &mut [u64],
     even: &mut [u64],
     odd: &mut [u64],
-) -> u32
-    requires sound_template { SoundTemplate template }
-    requires sound_set { SoundSet letters.now lengths.now }
-    requires le_size { (1 ≤ size) × (size ≤ templates.size template) × (number < base_of template ^ size) }
-    requires inside { Inside template inside.now }
-    requires firsts { Firsts lengths.now firsts.now }
-    requires base_rows { BaseRows lengths.now letters.now bases.now }
-    requires slot { Slot template lengths.now letters.now even.old 0 0 }
+) -> Option<u32>
+    requires le_letters { (1 ≤ plan.now.search.place.letters) × (plan.now.search.place.letters ≤ templates.size plan.now.search.template) × (plan.now.search.place.number < base_of plan.now.search.template ^ plan.now.search.place.letters) }
+    requires base_rows { BaseRows plan.now.layout.lengths.now plan.now.letters.now bases.now }
+    requires slot { Slot plan.now.search.template plan.now.layout.lengths.now plan.now.letters.now even.old 0 0 }
     requires letter_len { (length letter.old ≡ row_words) × (length even.old ≡ row_words) × (length odd.old ≡ row_words) }
-    ensures { 2 ≤ size → result ≡ support (parts template (size - 1) (number / base_of template)) (sequences letters.now lengths.now) }
+    ensures none { plan.now.search.place.letters ≡ 1 → result ≡ None }
+    ensures value { 2 ≤ plan.now.search.place.letters → result ≡ Some (support (parts plan.now.search.template (plan.now.search.place.letters - 1) (plan.now.search.place.number / base_of plan.now.search.template)) (sequences plan.now.letters.now plan.now.layout.lengths.now)) }
 {
-    let profile = template.profile;
-    let mut found: u32 = 0;
-    let mut d: u8 = 1;
-    while d < size {
-        let left = (size - d) as u32;
-        let prefix = profile.prefix(number, left);
-        found = take_turn(
-            template, d, prefix, inside, letters, lengths, firsts, bases, letter, even, odd,
-        );
-        d += 1;
+    let place = plan.search.place;
+    let profile = plan.search.template.profile;
+    let mut before = &mut *even;
+    let mut slot = &mut *odd;
+    let mut found: Option<u32> = None;
+    for d in 1..place.letters {
+        let left = (place.letters - d) as u32;
+        let number = profile.prefix(place.number, left);
+        let prefix = Place { letters: d, number };
+        found = Some(take_turn(plan, prefix, bases, letter, before, slot));
+        (before, slot) = (slot, before);
     }
     found
 }

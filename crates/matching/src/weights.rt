@@ -1,22 +1,21 @@
 // Weighted supports: the counts of ways before a motif's last component, made once for all motifs of one prefix, and added where the
 // motif's row has a bit.
 ghost use Rattle.std.specs.Prelude.{true, map, ◌≡◌, ℕ, ◌+◌, ◌-◌, ◌*◌, ◌^◌, ◌≤◌, ◌<◌, length, take, drop, get_or};
-ghost use Rattle.rules.specs.Limits.{sequence_set_sequences, template_length, template_gap};
+ghost use Rattle.rules.specs.Limits.{template_length, template_gap};
 ghost use Rattle.rules.specs.Profile.{base_of};
 ghost use Rattle.rules.specs.Lists as lists;
 ghost use Rattle.rules.specs.Sequences.{sequences};
-ghost use Rattle.rules.specs.Sound.{SoundSet, SoundTemplate};
 ghost use Rattle.rules.specs.Support.{weight, parts};
-ghost use Rattle.rules.specs.Template as templates;
 ghost use Rattle.rows.specs.Bits.{held};
 ghost use Rattle.rows.specs.Flags.{count_most, added, masked};
-ghost use Rattle.matching.specs.Path.{path_slot, prefix_starts, Path, path_slots, Ready};
-ghost use Rattle.rows.specs.Set.{row_marks, row_words, first_word, Firsts, Offsets, between, bits_at, is_marked, Bounded, Row};
+ghost use Rattle.matching.specs.Path.{prefix_starts, Path};
+ghost use Rattle.rows.specs.Set.{row_marks, row_words, between, bits_at, is_marked, Bounded, Row};
 ghost use Rattle.matching.specs.Weights.{counts_at, kept_counts, HoldsCounts, counted_from, begun_counts, weight_at, weight_of, prefix_of, Leads, Counted};
 
-use super::path;
-use rows::{BITS, MARKS, WORDS, counts, words};
-use rules::{Offset, Template};
+use super::made::{Made, Plan};
+use super::{SLOTS, WORDS, path};
+use rows::{BITS, MARKS, counts};
+use rules::{Offset, Place};
 
 // What a component's ways are counted from in one sequence, where the row has a bit: for the first one way, and else what there is.
 fn begin(first: bool, row: &[u64], counts: &mut [u64])
@@ -58,10 +57,8 @@ fn lead_between(
 
 // The same in the sequences of one word of marks, those that have one.
 fn lead_sequences(
+    plan: &Plan,
     w: usize,
-    lengths: &[u32],
-    firsts: &[u32],
-    offsets: &[u32],
     row: &[u64],
     opened: &[u64],
     first: bool,
@@ -69,16 +66,14 @@ fn lead_sequences(
     n: usize,
     counts: &mut [u64],
 )
-    requires w_bound { (w < row_marks) × (length lengths.now ≤ sequence_set_sequences) × (1 ≤ d) × (d ≤ template_length + template_gap) × (1 ≤ n) × (n ≤ template_gap + 1) }
-    requires firsts { Firsts lengths.now firsts.now }
-    requires offsets { Offsets lengths.now offsets.now }
-    requires bounded { Bounded lengths.now row.now }
-    requires lengths_in_bounds { (first_word lengths.now (length lengths.now) ≤ length row.now) × (row_marks ≤ length row.now) × (length opened.now ≡ length row.now) × (lists.sum lengths.now ≤ length counts.old) }
-    requires by_index { (k : ℕ) → w * 64 ≤ k → k < length lengths.now → is_marked row.now k ≡ true → (i : ℕ) → get_or (begun_counts first lengths.now row.now counts.old k) i 0 ≤ count_most }
-    requires by_index_2 { (k : ℕ) → w * 64 ≤ k → k < length lengths.now → is_marked row.now k ≡ true → (i : ℕ) → get_or (bits_at lengths.now k opened.now) i 0 ≡ 0 → get_or (added d (d + n - 1) (begun_counts first lengths.now row.now counts.old k)) i 0 ≡ 0 }
-    ensures by_index_3 { (k : ℕ) → w * 64 ≤ k → k < w * 64 + 64 → is_marked row.now k ≡ true → kept_counts lengths.now opened.now counts.new k ≡ added d (d + n - 1) (begun_counts first lengths.now row.now counts.old k) }
-    ensures by_index_4 { (k : ℕ) → k < w * 64 → k < length lengths.now → counts_at lengths.now k counts.new ≡ counts_at lengths.now k counts.old }
-    ensures by_index_5 { (k : ℕ) → w * 64 + 64 ≤ k → k < length lengths.now → counts_at lengths.now k counts.new ≡ counts_at lengths.now k counts.old }
+    requires w_bound { (w < row_marks) × (1 ≤ d) × (d ≤ template_length + template_gap) × (1 ≤ n) × (n ≤ template_gap + 1) }
+    requires bounded { Bounded plan.now.layout.lengths.now row.now }
+    requires lengths_in_bounds { (length row.now ≡ row_words) × (length opened.now ≡ length row.now) × (lists.sum plan.now.layout.lengths.now ≤ length counts.old) }
+    requires by_index { (k : ℕ) → w * 64 ≤ k → k < length plan.now.layout.lengths.now → is_marked row.now k ≡ true → (i : ℕ) → get_or (begun_counts first plan.now.layout.lengths.now row.now counts.old k) i 0 ≤ count_most }
+    requires by_index_2 { (k : ℕ) → w * 64 ≤ k → k < length plan.now.layout.lengths.now → is_marked row.now k ≡ true → (i : ℕ) → get_or (bits_at plan.now.layout.lengths.now k opened.now) i 0 ≡ 0 → get_or (added d (d + n - 1) (begun_counts first plan.now.layout.lengths.now row.now counts.old k)) i 0 ≡ 0 }
+    ensures by_index_3 { (k : ℕ) → w * 64 ≤ k → k < w * 64 + 64 → is_marked row.now k ≡ true → kept_counts plan.now.layout.lengths.now opened.now counts.new k ≡ added d (d + n - 1) (begun_counts first plan.now.layout.lengths.now row.now counts.old k) }
+    ensures by_index_4 { (k : ℕ) → k < w * 64 → k < length plan.now.layout.lengths.now → counts_at plan.now.layout.lengths.now k counts.new ≡ counts_at plan.now.layout.lengths.now k counts.old }
+    ensures by_index_5 { (k : ℕ) → w * 64 + 64 ≤ k → k < length plan.now.layout.lengths.now → counts_at plan.now.layout.lengths.now k counts.new ≡ counts_at plan.now.layout.lengths.now k counts.old }
     ensures counts_len_unchanged { length counts.new ≡ length counts.old }
 {
     let base = w * BITS;
@@ -86,10 +81,9 @@ fn lead_sequences(
     while rest != 0 {
         let zeros = u64::trailing_zeros(rest);
         let at = base + zeros as usize;
-        let from = firsts[at] as usize;
-        let to = firsts[at + 1] as usize;
-        let a = offsets[at] as usize;
-        let e = offsets[at + 1] as usize;
+        let (from, to) = plan.layout.words(at);
+        let a = plan.offsets[at] as usize;
+        let e = plan.offsets[at + 1] as usize;
         lead_between(
             from,
             to,
@@ -102,15 +96,13 @@ fn lead_sequences(
             n,
             counts,
         );
-        rest = rest & (rest - 1);
+        rest &= rest - 1;
     }
 }
 
 // The same in every sequence that has a mark.
 fn lead_all(
-    lengths: &[u32],
-    firsts: &[u32],
-    offsets: &[u32],
+    plan: &Plan,
     row: &[u64],
     opened: &[u64],
     first: bool,
@@ -118,129 +110,55 @@ fn lead_all(
     n: usize,
     counts: &mut [u64],
 )
-    requires lengths_len_bound { (length lengths.now ≤ sequence_set_sequences) × (1 ≤ d) × (d ≤ template_length + template_gap) × (1 ≤ n) × (n ≤ template_gap + 1) }
-    requires firsts { Firsts lengths.now firsts.now }
-    requires offsets { Offsets lengths.now offsets.now }
-    requires bounded { Bounded lengths.now row.now }
-    requires lengths_in_bounds { (first_word lengths.now (length lengths.now) ≤ length row.now) × (row_marks ≤ length row.now) × (length opened.now ≡ length row.now) × (lists.sum lengths.now ≤ length counts.old) }
-    requires by_index { (k : ℕ) → k < length lengths.now → is_marked row.now k ≡ true → (i : ℕ) → get_or (begun_counts first lengths.now row.now counts.old k) i 0 ≤ count_most }
-    requires by_index_2 { (k : ℕ) → k < length lengths.now → is_marked row.now k ≡ true → (i : ℕ) → get_or (bits_at lengths.now k opened.now) i 0 ≡ 0 → get_or (added d (d + n - 1) (begun_counts first lengths.now row.now counts.old k)) i 0 ≡ 0 }
-    ensures holds_counts { HoldsCounts (is_marked row.now) (λ k. added d (d + n - 1) (begun_counts first lengths.now row.now counts.old k)) lengths.now opened.now counts.new (length lengths.now) }
+    requires le_d { (1 ≤ d) × (d ≤ template_length + template_gap) × (1 ≤ n) × (n ≤ template_gap + 1) }
+    requires bounded { Bounded plan.now.layout.lengths.now row.now }
+    requires lengths_in_bounds { (length row.now ≡ row_words) × (length opened.now ≡ length row.now) × (lists.sum plan.now.layout.lengths.now ≤ length counts.old) }
+    requires by_index { (k : ℕ) → k < length plan.now.layout.lengths.now → is_marked row.now k ≡ true → (i : ℕ) → get_or (begun_counts first plan.now.layout.lengths.now row.now counts.old k) i 0 ≤ count_most }
+    requires by_index_2 { (k : ℕ) → k < length plan.now.layout.lengths.now → is_marked row.now k ≡ true → (i : ℕ) → get_or (bits_at plan.now.layout.lengths.now k opened.now) i 0 ≡ 0 → get_or (added d (d + n - 1) (begun_counts first plan.now.layout.lengths.now row.now counts.old k)) i 0 ≡ 0 }
+    ensures holds_counts { HoldsCounts (is_marked row.now) (λ k. added d (d + n - 1) (begun_counts first plan.now.layout.lengths.now row.now counts.old k)) plan.now.layout.lengths.now opened.now counts.new (length plan.now.layout.lengths.now) }
     ensures counts_len_unchanged { length counts.new ≡ length counts.old }
 {
-    let mut w = 0;
-    while w < MARKS {
-        lead_sequences(
-            w, lengths, firsts, offsets, row, opened, first, d, n, counts,
-        );
-        w += 1;
+    for w in 0..MARKS {
+        lead_sequences(plan, w, row, opened, first, d, n, counts);
     }
-}
-
-// The same, the opened row being the slot of a prefix of so many letters.
-fn lead_slot(
-    size: usize,
-    lengths: &[u32],
-    firsts: &[u32],
-    offsets: &[u32],
-    row: &[u64],
-    evens: &[u64],
-    odds: &[u64],
-    first: bool,
-    d: usize,
-    n: usize,
-    counts: &mut [u64],
-)
-    requires size_bound { (size < 2 * path_slots) × (length evens.now ≡ path_slots * row_words) × (length odds.now ≡ path_slots * row_words) × (length row.now ≡ row_words) }
-    requires lengths_len_bound { (length lengths.now ≤ sequence_set_sequences) × (1 ≤ d) × (d ≤ template_length + template_gap) × (1 ≤ n) × (n ≤ template_gap + 1) }
-    requires firsts { Firsts lengths.now firsts.now }
-    requires offsets { Offsets lengths.now offsets.now }
-    requires bounded { Bounded lengths.now row.now }
-    requires lengths_bound { (first_word lengths.now (length lengths.now) ≤ row_words) × (lists.sum lengths.now ≤ length counts.old) }
-    requires by_index { (k : ℕ) → k < length lengths.now → is_marked row.now k ≡ true → (i : ℕ) → get_or (begun_counts first lengths.now row.now counts.old k) i 0 ≤ count_most }
-    requires by_index_2 { (k : ℕ) → k < length lengths.now → is_marked row.now k ≡ true → (i : ℕ) → get_or (bits_at lengths.now k (path_slot evens.now odds.now size)) i 0 ≡ 0 → get_or (added d (d + n - 1) (begun_counts first lengths.now row.now counts.old k)) i 0 ≡ 0 }
-    ensures holds_counts { HoldsCounts (is_marked row.now) (λ k. added d (d + n - 1) (begun_counts first lengths.now row.now counts.old k)) lengths.now (path_slot evens.now odds.now size) counts.new (length lengths.now) }
-    ensures counts_len_unchanged { length counts.new ≡ length counts.old }
-{
-    let o = size / 2 * WORDS;
-    let p = o + WORDS;
-    if size % 2 == 0 {
-        lead_all(
-            lengths,
-            firsts,
-            offsets,
-            row,
-            &evens[o..p],
-            first,
-            d,
-            n,
-            counts,
-        );
-        return;
-    }
-    lead_all(
-        lengths,
-        firsts,
-        offsets,
-        row,
-        &odds[o..p],
-        first,
-        d,
-        n,
-        counts,
-    );
 }
 
 // The sum of the counts at which a row has a bit, in the sequences of one word of marks, those that have one.
-fn add_sequences(
-    w: usize,
-    lengths: &[u32],
-    firsts: &[u32],
-    offsets: &[u32],
-    row: &[u64],
-    counts: &[u64],
-) -> u64
-    requires w_bound { (w < row_marks) × (length lengths.now ≤ sequence_set_sequences) }
-    requires firsts { Firsts lengths.now firsts.now }
-    requires offsets { Offsets lengths.now offsets.now }
-    requires bounded { Bounded lengths.now row.now }
-    requires lengths_in_bounds { (first_word lengths.now (length lengths.now) ≤ length row.now) × (row_marks ≤ length row.now) × (lists.sum lengths.now ≤ length counts.now) }
-    requires by_index { (k : ℕ) → k < length lengths.now → is_marked row.now k ≡ true → (p : ℕ) → get_or lengths.now k 0 ≤ p → get_or (bits_at lengths.now k row.now) p 0 ≡ 0 }
-    requires w_bound_2 { lists.sum (map (weight_at lengths.now row.now counts.now) (lists.run (w * 64) 64)) < 2 ^ 64 }
-    ensures { result ≡ lists.sum (map (weight_at lengths.now row.now counts.now) (lists.run (w * 64) 64)) }
+fn add_sequences(plan: &Plan, w: usize, row: &[u64], counts: &[u64]) -> u64
+    requires w_bound { w < row_marks }
+    requires bounded { Bounded plan.now.layout.lengths.now row.now }
+    requires lengths_in_bounds { (length row.now ≡ row_words) × (lists.sum plan.now.layout.lengths.now ≤ length counts.now) }
+    requires by_index { (k : ℕ) → k < length plan.now.layout.lengths.now → is_marked row.now k ≡ true → (p : ℕ) → get_or plan.now.layout.lengths.now k 0 ≤ p → get_or (bits_at plan.now.layout.lengths.now k row.now) p 0 ≡ 0 }
+    requires w_bound_2 { lists.sum (map (weight_at plan.now.layout.lengths.now row.now counts.now) (lists.run (w * 64) 64)) < 2 ^ 64 }
+    ensures { result ≡ lists.sum (map (weight_at plan.now.layout.lengths.now row.now counts.now) (lists.run (w * 64) 64)) }
 {
     let base = w * BITS;
     let mut total: u64 = 0;
+    // Kept by hand: by `SetBits` searches took 4 to 8 in 100 longer, though they ran as many instructions.
     let mut rest = row[w];
     while rest != 0 {
         let zeros = u64::trailing_zeros(rest);
         let at = base + zeros as usize;
-        let from = firsts[at] as usize;
-        let to = firsts[at + 1] as usize;
-        let a = offsets[at] as usize;
-        let e = offsets[at + 1] as usize;
+        let (from, to) = plan.layout.words(at);
+        let a = plan.offsets[at] as usize;
+        let e = plan.offsets[at + 1] as usize;
         total += counts::add(&row[from..to], &counts[a..e]);
-        rest = rest & (rest - 1);
+        rest &= rest - 1;
     }
     total
 }
 
 // The same in all sequences that have a mark.
-fn add_all(lengths: &[u32], firsts: &[u32], offsets: &[u32], row: &[u64], counts: &[u64]) -> u64
-    requires lengths_len_bound { length lengths.now ≤ sequence_set_sequences }
-    requires firsts { Firsts lengths.now firsts.now }
-    requires offsets { Offsets lengths.now offsets.now }
-    requires bounded { Bounded lengths.now row.now }
-    requires lengths_in_bounds { (first_word lengths.now (length lengths.now) ≤ length row.now) × (row_marks ≤ length row.now) × (lists.sum lengths.now ≤ length counts.now) }
-    requires by_index { (k : ℕ) → k < length lengths.now → is_marked row.now k ≡ true → (p : ℕ) → get_or lengths.now k 0 ≤ p → get_or (bits_at lengths.now k row.now) p 0 ≡ 0 }
-    requires counts_bound { weight_of lengths.now row.now counts.now < 2 ^ 64 }
-    ensures { result ≡ weight_of lengths.now row.now counts.now }
+fn add_all(plan: &Plan, row: &[u64], counts: &[u64]) -> u64
+    requires bounded { Bounded plan.now.layout.lengths.now row.now }
+    requires lengths_in_bounds { (length row.now ≡ row_words) × (lists.sum plan.now.layout.lengths.now ≤ length counts.now) }
+    requires by_index { (k : ℕ) → k < length plan.now.layout.lengths.now → is_marked row.now k ≡ true → (p : ℕ) → get_or plan.now.layout.lengths.now k 0 ≤ p → get_or (bits_at plan.now.layout.lengths.now k row.now) p 0 ≡ 0 }
+    requires counts_bound { weight_of plan.now.layout.lengths.now row.now counts.now < 2 ^ 64 }
+    ensures { result ≡ weight_of plan.now.layout.lengths.now row.now counts.now }
 {
     let mut total: u64 = 0;
-    let mut w = 0;
-    while w < MARKS {
-        total += add_sequences(w, lengths, firsts, offsets, row, counts);
-        w += 1;
+    for w in 0..MARKS {
+        total += add_sequences(plan, w, row, counts);
     }
     total
 }
@@ -249,108 +167,71 @@ fn add_all(lengths: &[u32], firsts: &[u32], offsets: &[u32], row: &[u64], counts
 // row of the prefix that ends one says where it stands, and the gap after it is opened, as it is in the prefix's slot. Before an only
 // component there is one way everywhere.
 fn count_ways(
-    template: Template,
-    depth: u8,
+    made: &Made,
     motif: u64,
-    inside: &[u8],
-    letters: &[u8],
-    lengths: &[u32],
-    firsts: &[u32],
-    offsets: &[u32],
-    standing: &[u64],
-    evens: &[u64],
-    odds: &[u64],
-    spare: &mut [u64],
+    slots: &[u64; SLOTS],
+    spare: &mut [u64; WORDS],
     ways: &mut [u64],
 )
-    requires sound_template { SoundTemplate template }
-    requires sound_set { SoundSet letters.now lengths.now }
-    requires depth_value { (depth ≡ templates.size template) × (motif < base_of template ^ depth) }
-    requires ready { Ready template lengths.now letters.now inside.now firsts.now standing.now }
-    requires offsets { Offsets lengths.now offsets.now }
-    requires path { Path template lengths.now letters.now evens.now odds.now depth motif }
-    requires evens_len { (length evens.now ≡ path_slots * row_words) × (length odds.now ≡ path_slots * row_words) × (length spare.old ≡ row_words) × (length letters.now ≤ length ways.old) }
-    ensures leads { Leads template lengths.now letters.now (prefix_of template motif) ways.new }
-    ensures spare_len_unchanged { (length spare.new ≡ length spare.old) × (length ways.new ≡ length ways.old) }
+    requires motif_bound { motif < base_of made.now.plan.search.template ^ made.now.plan.depth }
+    requires path { Path made.now.plan.search.template made.now.plan.layout.lengths.now made.now.plan.letters.now slots.now made.now.plan.depth motif }
+    requires letters_in_bounds { length made.now.plan.letters.now ≤ length ways.old }
+    ensures leads { Leads made.now.plan.search.template made.now.plan.layout.lengths.now made.now.plan.letters.now (prefix_of made.now.plan.search.template motif) ways.new }
+    ensures ways_len_unchanged { length ways.new ≡ length ways.old }
 {
+    let plan = made.plan;
+    let template = plan.search.template;
     let profile = template.profile;
     let components = template.components();
     let count = template.count as usize;
     if count == 1 {
-        let n = letters.len();
-        words::fill(&mut ways[..n], 1);
+        let n = plan.letters.len();
+        ways[..n].fill(1);
         return;
     }
     let mut size: u8 = 0;
-    let mut c = 1;
-    while c < count {
+    for c in 1..count {
         let before = components[c - 1];
         let here = components[c];
         let apart = here.after(before);
         let more = before.length as u8;
         size += more;
-        let left = (depth - size) as u32;
-        let prefix = profile.prefix(motif, left);
-        path::support(
-            template, size, prefix, inside, letters, lengths, firsts, standing, evens, odds, 0,
-            spare,
-        );
-        lead_slot(
-            size as usize,
-            lengths,
-            firsts,
-            offsets,
-            spare,
-            evens,
-            odds,
-            c == 1,
-            apart.near,
-            apart.count,
-            ways,
-        );
-        c += 1;
+        let left = (plan.depth - size) as u32;
+        let number = profile.prefix(motif, left);
+        let prefix = Place {
+            letters: size,
+            number,
+        };
+        path::support(made, prefix, slots, 0, spare);
+        let opened = path::slot(size as usize, slots);
+        lead_all(&plan, spare, opened, c == 1, apart.near, apart.count, ways);
     }
 }
 
-// The weighted support of a motif whose path and row these are. `counted` is 1 more than the prefix that `ways` was counted for, or 0: it
-// is counted anew only for another one.
+// The weighted support of a motif whose path and row these are. `counted` is the prefix that `ways` was counted for, if it was: it is
+// counted anew only for another one.
 pub fn weight(
-    template: Template,
-    depth: u8,
+    made: &Made,
     motif: u64,
     prefix: u64,
-    counted: u64,
-    inside: &[u8],
-    letters: &[u8],
-    lengths: &[u32],
-    firsts: &[u32],
-    offsets: &[u32],
-    standing: &[u64],
-    evens: &[u64],
-    odds: &[u64],
-    row: &[u64],
-    spare: &mut [u64],
+    counted: Option<u64>,
+    slots: &[u64; SLOTS],
+    row: &[u64; WORDS],
+    spare: &mut [u64; WORDS],
     ways: &mut [u64],
 ) -> u64
-    requires sound_template { SoundTemplate template }
-    requires sound_set { SoundSet letters.now lengths.now }
-    requires depth_value { (depth ≡ templates.size template) × (motif < base_of template ^ depth) × (prefix ≡ prefix_of template motif) }
-    requires ready { Ready template lengths.now letters.now inside.now firsts.now standing.now }
-    requires offsets { Offsets lengths.now offsets.now }
-    requires path { Path template lengths.now letters.now evens.now odds.now depth motif }
-    requires row { Row (prefix_starts template depth motif) lengths.now letters.now row.now }
-    requires counted { Counted template lengths.now letters.now counted ways.old }
-    requires evens_len { (length evens.now ≡ path_slots * row_words) × (length odds.now ≡ path_slots * row_words) × (length row.now ≡ row_words) × (length spare.old ≡ row_words) × (length letters.now ≤ length ways.old) }
-    ensures value { result ≡ weight (parts template depth motif) (sequences letters.now lengths.now) }
-    ensures leads { Leads template lengths.now letters.now prefix ways.new }
-    ensures spare_len_unchanged { (length spare.new ≡ length spare.old) × (length ways.new ≡ length ways.old) }
+    requires motif_bound { (motif < base_of made.now.plan.search.template ^ made.now.plan.depth) × (prefix ≡ prefix_of made.now.plan.search.template motif) }
+    requires path { Path made.now.plan.search.template made.now.plan.layout.lengths.now made.now.plan.letters.now slots.now made.now.plan.depth motif }
+    requires row { Row (prefix_starts made.now.plan.search.template made.now.plan.depth motif) made.now.plan.layout.lengths.now made.now.plan.letters.now row.now }
+    requires counted { Counted made.now.plan.search.template made.now.plan.layout.lengths.now made.now.plan.letters.now counted ways.old }
+    requires letters_in_bounds { length made.now.plan.letters.now ≤ length ways.old }
+    ensures value { result ≡ weight (parts made.now.plan.search.template made.now.plan.depth motif) (sequences made.now.plan.letters.now made.now.plan.layout.lengths.now) }
+    ensures leads { Leads made.now.plan.search.template made.now.plan.layout.lengths.now made.now.plan.letters.now prefix ways.new }
+    ensures ways_len_unchanged { length ways.new ≡ length ways.old }
 {
-    let fresh = prefix + 1;
-    if counted != fresh {
-        count_ways(
-            template, depth, motif, inside, letters, lengths, firsts, offsets, standing, evens,
-            odds, spare, ways,
-        );
+    let stale = counted != Some(prefix);
+    if stale {
+        count_ways(made, motif, slots, spare, ways);
     }
-    add_all(lengths, firsts, offsets, row, ways)
+    add_all(&made.plan, row, ways)
 }

@@ -6,7 +6,9 @@ use Prim.Native.Nat.{ℕ, ◌≤◌}
 use native.Mathlib.Omega.{arith}
 use lib.ListN.{length, take, length-map}
 use Rattle.rules.specs.Calls.{LegRule, on_refusal, leg_rule, stretch, motif_parts, supports_of, weights_of}
-use Rattle.rules.specs.Legs.{Stop, ended, spent, full, is_ended, Stretch, Passed}
+use Rattle.rules.specs.Legs.{is_ended, Stretch, Passed}
+use Rattle.rules.specs.declared.Stop.{Stop}
+use Rattle.rules.specs.declared.Stop.TheVariants.{Ended, Spent, Full}
 use Rattle.rules.specs.Lists.{each, put}
 use Rattle.rules.specs.Refusals.{first, search_checks}
 use Rattle.rules.specs.Sequences.{sequences}
@@ -26,12 +28,16 @@ use Rattle.rules.proofs.Sound.{search_sound}
 use Rattle.text.specs.Printed.{row, printed_page, Page}
 use Rattle.text.proofs.Line.{print_row_is}
 use Rattle.legs.specs.AcceptedLeg.{room_of}
-use Rattle.motifs.specs.Pages.{print_rows, leg_page}
+use Rattle.motifs.specs.Pages.{page_rows, print_rows, leg_page}
 
 -- what holds of a refused leg and of an accepted one holds of every leg
 by_verdict : (P : LegRule → Type 0) (v : Verdict) (f : ℕ → ℕ → LegRule) (l : LegRule) → ((n p : ℕ) → v ≡ refused n p → P (f n p)) → (v ≡ fine → P l) → P (on_refusal v f l)
 by_verdict P fine f l r a = a refl
 by_verdict P (refused n p) f l r a = r n p refl
+
+-- three tables of as many rows as a page may have
+pub all_room : (motifs supports weights : List ℕ) → length motifs ≡ page_rows → length supports ≡ page_rows → length weights ≡ page_rows → room_of motifs supports weights ≡ page_rows
+all_room motifs supports weights m s w = rw (m, s, w) refl
 
 pub listed_few : (W : Walk) (ps : List Place) → length (listed W ps) ≤ length ps
 unfolding listed
@@ -86,9 +92,9 @@ module _ (letters lengths : List ℕ) (s : Search) where
       l = stretch letters lengths s budget room
 
       go : (a : Stop) → l.stop ≡ a → is_ended a ≡ false → 1 ≤ l.steps
-      go ended q n = absurd (false≢true (sym n))
-      go spent q n = omega (arith, (why budget room).if_spent q)
-      go full q n = omega (arith, ((why budget room).if_full q).0, rows_few e budget room)
+      go Ended q n = absurd (false≢true (sym n))
+      go Spent q n = omega (arith, (why budget room).if_spent q)
+      go Full q n = omega (arith, ((why budget room).if_full q).0, rows_few e budget room)
 
   module _ (budget : ℕ) (motifs supports weights : List ℕ) where
     -- its rows have room

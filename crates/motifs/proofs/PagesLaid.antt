@@ -24,19 +24,17 @@ use Rattle.rules.proofs.Sound.{search_sound, search_fine}
 use Rattle.rules.proofs.Step.{at_end}
 use Rattle.rules.proofs.Whole.{listed_append}
 use Rattle.legs.specs.AcceptedLeg.{room_of}
-use Rattle.motifs.specs.declared.pages.Left.{Left}
-use Rattle.motifs.specs.declared.pages.Left.TheVariants as left
 use Rattle.motifs.specs.declared.pages.Way.{Way}
-use Rattle.motifs.specs.Left.{rows, has_more, further, rows_or_end}
+use Rattle.motifs.specs.Left.{Left, refusal, rows, end, nothing, has_more, further, rows_or_end}
 use Rattle.motifs.specs.Pages.{page_rows, page_steps, is_ended_told, print_rows, leg_page, covered, page_of, left_after, to_try, to_list, text_left, Goes, Printable}
 use Rattle.motifs.proofs.Leg.{accepted, rows_few, moves}
 
 -- how much is left: a line, or the candidates and a line
 abbrev pub amount : List ℕ → List ℕ → Left → ℕ
-amount letters lengths (left.Refusal n p) = 1
-amount letters lengths (left.Rows w) = 2 + length (to_try letters lengths w)
-amount letters lengths (left.End steps found) = 1
-amount letters lengths left.Nothing = 0
+amount letters lengths (refusal n p) = 1
+amount letters lengths (rows w) = 2 + length (to_try letters lengths w)
+amount letters lengths (end steps found) = 1
+amount letters lengths nothing = 0
 
 -- an end line with no more steps and rows
 none_more : (steps found : ℕ) → print_end (steps + 0) (found + 0) ≡ print_end steps found
@@ -116,12 +114,12 @@ module _ (letters lengths : List ℕ) where
     less_rows true e = omega arith
     less_rows false e = omega (arith, tried, moves letters lengths w.search g.passes page_steps page_rows (omega arith) (omega arith) e)
 
-    module _ (motifs supports weights : List ℕ) (r : room_of motifs supports weights ≡ page_rows) where
-      -- the rows of the leg are the page
-      pub leg_page_is : leg_page letters lengths w.search page_steps (room_of motifs supports weights) ≡ page_of letters lengths (rows w)
-      unfolding leg_page page_of
-      leg_page_is = rw (r, g.passes)
+    -- the rows of the leg are the page
+    pub leg_page_is : leg_page letters lengths w.search page_steps page_rows ≡ page_of letters lengths (rows w)
+    unfolding leg_page page_of
+    leg_page_is = rw g.passes
 
+    module _ (motifs supports weights : List ℕ) (r : room_of motifs supports weights ≡ page_rows) where
       told_is : (leg_rule letters lengths w.search page_steps motifs supports weights).told
           ≡ record { answer = gives l.stop; steps = l.steps; rows = length l.motifs; search = moved w.search l.at }
       unfolding leg_rule l
@@ -143,23 +141,23 @@ module _ (letters lengths : List ℕ) where
   -- A PAGE and what is left after it are what was left
   pub page_then : (s : Left) → Printable letters lengths s → text_left letters lengths s ≡ page_of letters lengths s ++ text_left letters lengths (left_after letters lengths s)
   unfolding text_left page_of left_after l
-  page_then (left.Refusal n p) g = sym (append-nil (print_refused n p))
-  page_then (left.Rows w) g = rows_of_page w g (is_ended (covered letters lengths w).stop) refl
-  page_then (left.End steps found) g = sym (append-nil (print_end steps found))
-  page_then left.Nothing g = refl
+  page_then (refusal n p) g = sym (append-nil (print_refused n p))
+  page_then (rows w) g = rows_of_page w g (is_ended (covered letters lengths w).stop) refl
+  page_then (end steps found) g = sym (append-nil (print_end steps found))
+  page_then nothing g = refl
 
   -- what is left after it can be gone on with
   pub ready_after : (s : Left) → Printable letters lengths s → Printable letters lengths (left_after letters lengths s)
   unfolding left_after l
-  ready_after (left.Refusal n p) g = tt
-  ready_after (left.Rows w) g = ready_rows w g (is_ended (covered letters lengths w).stop)
-  ready_after (left.End steps found) g = tt
-  ready_after left.Nothing g = tt
+  ready_after (refusal n p) g = tt
+  ready_after (rows w) g = ready_rows w g (is_ended (covered letters lengths w).stop)
+  ready_after (end steps _) g = tt
+  ready_after nothing g = tt
 
   -- and is less
   pub less_after : (s : Left) → Printable letters lengths s → has_more s ≡ true → amount letters lengths (left_after letters lengths s) < amount letters lengths s
   unfolding left_after l
-  less_after (left.Refusal n p) g m = omega arith
-  less_after (left.Rows w) g m = less_rows w g (is_ended (covered letters lengths w).stop) refl
-  less_after (left.End steps found) g m = omega arith
-  less_after left.Nothing g m = absurd (false≢true m)
+  less_after (refusal n p) g m = omega arith
+  less_after (rows w) g m = less_rows w g (is_ended (covered letters lengths w).stop) refl
+  less_after (end steps found) g m = omega arith
+  less_after nothing g m = absurd (false≢true m)

@@ -19,10 +19,8 @@ use Rattle.rules.proofs.Candidates.{start_first}
 use Rattle.rules.proofs.Searches.{walk_lawful}
 use Rattle.rules.proofs.Sound.{search_fine}
 use Rattle.rules.proofs.StepsSoFar.{from_first, begun_steps_few}
-use Rattle.motifs.specs.declared.pages.Left.{Left}
-use Rattle.motifs.specs.declared.pages.Left.TheVariants as left
 use Rattle.motifs.specs.Input.{InputRule, input_told, input_rule}
-use Rattle.motifs.specs.Left.{nothing, rows, unprinted, opening}
+use Rattle.motifs.specs.Left.{Left, refusal, rows, end, nothing, unprinted, opening}
 use Rattle.motifs.specs.Pages.{print_rows, page_of, left_after, pages, left_at, text_left, Goes, Printable}
 use Rattle.motifs.specs.Program.{pages_of, left_of, Program}
 use Rattle.motifs.proofs.PagesLaid.{amount, page_then, ready_after, less_after}
@@ -41,14 +39,14 @@ module _ (letters lengths : List ℕ) where
   -- after as many pages as there is to print nothing is left
   nothing_left : (n : ℕ) (s : Left) → Printable letters lengths s → amount letters lengths s ≤ n → left_at letters lengths n s ≡ nothing
   unfolding left_at left_after
-  nothing_left zero (left.Refusal k p) g h = absurd (omega arith)
-  nothing_left zero (left.Rows w) g h = absurd (omega arith)
-  nothing_left zero (left.End k r) g h = absurd (omega arith)
-  nothing_left zero left.Nothing g h = refl
-  nothing_left (suc n) (left.Refusal k p) g h = nothing_left n nothing tt (omega arith)
-  nothing_left (suc n) (left.Rows w) g h = nothing_left n (left_after letters lengths (rows w)) (ready_after letters lengths (rows w) g) (omega (arith, less_after letters lengths (rows w) g refl))
-  nothing_left (suc n) (left.End k r) g h = nothing_left n nothing tt (omega arith)
-  nothing_left (suc n) left.Nothing g h = nothing_left n nothing tt (omega arith)
+  nothing_left zero (refusal k p) g h = absurd (omega arith)
+  nothing_left zero (rows w) g h = absurd (omega arith)
+  nothing_left zero (end k r) g h = absurd (omega arith)
+  nothing_left zero nothing g h = refl
+  nothing_left (suc n) (refusal k p) g h = nothing_left n nothing tt (omega arith)
+  nothing_left (suc n) (rows w) g h = nothing_left n (left_after letters lengths (rows w)) (ready_after letters lengths (rows w) g) (omega (arith, less_after letters lengths (rows w) g refl))
+  nothing_left (suc n) (end k r) g h = nothing_left n nothing tt (omega arith)
+  nothing_left (suc n) nothing g h = nothing_left n nothing tt (omega arith)
 
 -- what an input that was not refused gave
 record Opened (input : List ℕ) (s : Search) : Type 0 where
@@ -82,11 +80,11 @@ begun_printed input s e =
     let at : start W ≡ s.place = start_first W (walk_lawful s.template s.quorum (sequences (parse_letters input) (parse_lengths input)) b.sound.template) ∙ sym b.at in
     rw (o.fine, o.begun, at, zero-add, zero-add)
 
-refused_printed : (input : List ℕ) (n p : ℕ) → input_told input ≡ refuses n p → text_left (parse_letters input) (parse_lengths input) (left.Refusal n p) ≡ print_rule input
+refused_printed : (input : List ℕ) (n p : ℕ) → input_told input ≡ refuses n p → text_left (parse_letters input) (parse_lengths input) (refusal n p) ≡ print_rule input
 unfolding text_left print_rule input_told
 refused_printed input n p = go (first (text_checks input)) refl
   where
-    go : (v : Verdict) → first (text_checks input) ≡ v → input_told input ≡ refuses n p → text_left (parse_letters input) (parse_lengths input) (left.Refusal n p) ≡ print_rule input
+    go : (v : Verdict) → first (text_checks input) ≡ v → input_told input ≡ refuses n p → text_left (parse_letters input) (parse_lengths input) (refusal n p) ≡ print_rule input
     go fine e h = let k : begin_rule (parse_letters input) (parse_lengths input) (parse_template input) (parse_quorum input) ≡ refuses n p = rw e at h in rw (e, k)
     go (refused m q) e h = let k : refuses m q ≡ refuses n p = rw e at h in rw e (cc)
 

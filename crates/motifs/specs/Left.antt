@@ -1,29 +1,33 @@
 -- What is left to print, at first and after a leg. Nothing here looks at the sequences.
-use Rattle.std.specs.Prelude.{Bool, true, false, ℕ, ◌+◌}
-use Rattle.rules.specs.Told.{Told, gives, refuses}
+use Rattle.std.specs.Prelude.{Bool, true, false, ℕ, ◌+◌, Option, Some, None}
+use Rattle.rules.specs.Told.{Told, gives, refuses, refusal_number, refusal_place}
 use Rattle.rules.specs.declared.Search.{Search}
-use Rattle.motifs.specs.declared.pages.Left.{Left}
+use Rattle.motifs.specs.declared.pages.Left as declared
 use Rattle.motifs.specs.declared.pages.Left.TheVariants as left
 use Rattle.motifs.specs.declared.pages.Way.{Way}
 
--- the line of a refusal; the rows of a search and its end line; the end line; nothing
-abbrev pub refusal : ℕ → ℕ → Left
-refusal n p = left.Refusal n p
+-- the line of a refusal, by its number and place; the rows of a search and its end line; the end line; nothing
+pub data Left : Type 0 where
+  refusal : ℕ → ℕ → Left
+  rows : Way → Left
+  end : ℕ → ℕ → Left
+  nothing : Left
 
-abbrev pub rows : Way → Left
-rows w = left.Rows w
+-- what the program's own values say of it
+abbrev pub told_left : declared.Left → Left
+told_left (left.Refusal r) = refusal (refusal_number r) (refusal_place r)
+told_left (left.Rows w) = rows w
+told_left (left.End steps found) = end steps found
 
-abbrev pub end : ℕ → ℕ → Left
-end steps found = left.End steps found
-
-abbrev pub nothing : Left
-nothing = left.Nothing
+abbrev pub told_rest : Option declared.Left → Left
+told_rest (Some l) = told_left l
+told_rest None = nothing
 
 abbrev pub has_more : Left → Bool
-has_more (left.Refusal n p) = true
-has_more (left.Rows w) = true
-has_more (left.End steps found) = true
-has_more left.Nothing = false
+has_more (refusal n p) = true
+has_more (rows w) = true
+has_more (end steps found) = true
+has_more nothing = false
 
 -- the way of a search that has not been printed
 abbrev pub unprinted : Search → Way

@@ -1,8 +1,9 @@
 -- THE PRINTOUT, page after page: each page is a function of what is left to print, and so is what is left after it. `text_left`
 -- says what all of them come to.
 use Rattle.std.specs.Prelude.{Bool, false, List, [], ◌++◌, ◌≡◌, ℕ, zero, suc, ◌+◌, ◌*◌, ◌^◌, ◌≤◌, ◌<◌, length}
-use Rattle.rules.specs.Calls.{on_refusal, moved, stretch}
-use Rattle.rules.specs.Legs.{Stop, is_ended, Stretch}
+use Rattle.rules.specs.Calls.{LegRule, on_refusal, leg_rule, moved, stretch}
+use Rattle.rules.specs.Legs.{is_ended, Stretch}
+use Rattle.rules.specs.declared.Stop.{Stop}
 use Rattle.rules.specs.Lists.{each, put}
 use Rattle.rules.specs.Refusals.{first, search_checks}
 use Rattle.rules.specs.Sequences.{sequences}
@@ -12,11 +13,10 @@ use Rattle.rules.specs.Walk.{from, listed, walk_of}
 use Rattle.rules.specs.declared.Place.{Place}
 use Rattle.rules.specs.declared.Search.{Search}
 use Rattle.text.specs.Printed.{line_room}
-use Rattle.motifs.specs.declared.pages.Left.{Left}
-use Rattle.motifs.specs.declared.pages.Left.TheVariants as left
 use Rattle.motifs.specs.declared.pages.Page.{Page}
+use Rattle.motifs.specs.declared.pages.Pages.{Pages}
 use Rattle.motifs.specs.declared.pages.Way.{Way}
-use Rattle.motifs.specs.Left.{nothing, rows_or_end}
+use Rattle.motifs.specs.Left.{Left, refusal, rows, end, nothing, told_rest, rows_or_end}
 
 -- the most rows of a page, the most steps of its leg, and the bytes of a full page
 abbrev pub page_rows : ℕ
@@ -48,17 +48,17 @@ module _ (letters lengths : List ℕ) where
 
   -- THE NEXT PAGE of what is left
   unfoldable pub page_of : Left → List ℕ
-  page_of (left.Refusal n p) = print_refused n p
-  page_of (left.Rows w) = print_rows w.search (covered w).motifs
-  page_of (left.End steps found) = print_end steps found
-  page_of left.Nothing = []
+  page_of (refusal n p) = print_refused n p
+  page_of (rows w) = print_rows w.search (covered w).motifs
+  page_of (end steps found) = print_end steps found
+  page_of nothing = []
 
   -- and what is left after it
   unfoldable pub left_after : Left → Left
-  left_after (left.Refusal n p) = nothing
-  left_after (left.Rows w) = let l : Stretch = covered w in rows_or_end w (is_ended l.stop) l.steps (length l.motifs) (moved w.search l.at)
-  left_after (left.End steps found) = nothing
-  left_after left.Nothing = nothing
+  left_after (refusal n p) = nothing
+  left_after (rows w) = let l : Stretch = covered w in rows_or_end w (is_ended l.stop) l.steps (length l.motifs) (moved w.search l.at)
+  left_after (end steps found) = nothing
+  left_after nothing = nothing
 
   -- THE PAGES laid end to end, the first n; and what is left after n
   unfoldable pub pages : ℕ → Left → List ℕ
@@ -78,10 +78,10 @@ module _ (letters lengths : List ℕ) where
 
   -- THE WHOLE TEXT of what is left: of a search all its rows, and the end line with all its steps and rows
   unfoldable pub text_left : Left → List ℕ
-  text_left (left.Refusal n p) = print_refused n p
-  text_left (left.Rows w) = print_rows w.search (to_list w) ++ print_end (w.steps + length (to_try w)) (w.rows + length (to_list w))
-  text_left (left.End steps found) = print_end steps found
-  text_left left.Nothing = []
+  text_left (refusal n p) = print_refused n p
+  text_left (rows w) = print_rows w.search (to_list w) ++ print_end (w.steps + length (to_try w)) (w.rows + length (to_list w))
+  text_left (end steps found) = print_end steps found
+  text_left nothing = []
 
   -- a search that can be gone on with: it passes its checks, and all its steps and rows can be counted
   pub record Goes (w : Way) : Type 0 where
@@ -90,14 +90,22 @@ module _ (letters lengths : List ℕ) where
     pub fewer : w.rows ≤ w.steps
 
   abbrev pub Printable : Left → Type 0
-  Printable (left.Refusal n p) = Unit {0}
-  Printable (left.Rows w) = Goes w
-  Printable (left.End steps found) = Unit {0}
-  Printable left.Nothing = Unit {0}
+  Printable (refusal n p) = Unit {0}
+  Printable (rows w) = Goes w
+  Printable (end steps found) = Unit {0}
+  Printable nothing = Unit {0}
 
   -- the next page of s stands at the front of a buffer, and what lies past it is as it was
   pub record Next (s : Left) (before after : List ℕ) (p : Page) : Type 0 where
     pub out : after ≡ put (page_of s) before
     pub end : p.length ≡ length (page_of s)
-    pub left : p.left ≡ left_after s
+    pub left : told_rest p.left ≡ left_after s
     pub short : p.length ≤ length after
+
+-- a leg over the sequences and into the tables of some pages
+abbrev pub leg_over : Pages → Search → ℕ → LegRule
+leg_over p s budget = leg_rule p.letters.now p.lengths.now s budget p.motifs p.supports p.weights
+
+-- the sequences are as they were, and the buffer has its bytes
+abbrev pub Kept : Pages → Pages → Type 0
+Kept before after = (after.letters.now ≡ before.letters.now) × (after.lengths.now ≡ before.lengths.now) × (length after.out ≡ page_bytes)

@@ -1,11 +1,10 @@
--- What the printing program prints: its pages, laid end to end, are what its rule says (`print_rule` of the rules' Text). `pages::next`
+-- What the printing program prints: its pages, laid end to end, are what its rule says (`print_rule` of the rules' Text). `Pages::next`
 -- promises that it leaves each page at the front of the buffer that is written out, and answers what is left after it.
 -- proofs/Program.antt proves the statement.
 use Rattle.std.specs.Prelude.{List, ◌++◌, ◌≡◌, ℕ}
 use Rattle.rules.specs.Text.{parse_letters, parse_lengths, print_rule}
-use Rattle.motifs.specs.declared.pages.Left.{Left}
 use Rattle.motifs.specs.Input.{input_told}
-use Rattle.motifs.specs.Left.{nothing, opening}
+use Rattle.motifs.specs.Left.{Left, nothing, opening}
 use Rattle.motifs.specs.Pages.{pages, left_at, text_left}
 
 -- the first n pages of an input, laid end to end, and what is left after them

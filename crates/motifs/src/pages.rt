@@ -1,19 +1,17 @@
 // What the program prints, page after page. What is left to print is a state, and the next page is a function of it.
 ghost use Rattle.std.specs.Prelude.{◌≡◌, ◌+◌, ◌^◌, ◌≤◌, ◌<◌, length};
-ghost use Rattle.rules.specs.Lists.{if};
-ghost use Rattle.rules.specs.Told.{refusal_number, refusal_place, told_answer, told_begun};
-ghost use Rattle.legs.specs.AcceptedLeg.{room_of};
-ghost use Rattle.motifs.specs.Left.{refusal, rows, nothing, has_more, opening, rows_or_end};
-ghost use Rattle.motifs.specs.Pages.{page_rows, page_bytes, is_ended_told, Goes, Printable, Next};
+ghost use Rattle.rules.specs.Lists.{if, put};
+ghost use Rattle.rules.specs.Told.{told_answer, told_leg};
+ghost use Rattle.motifs.specs.Left.{nothing, rows, told_left, told_rest, opening, rows_or_end};
+ghost use Rattle.motifs.specs.Pages.{page_rows, is_ended_told, leg_page, leg_over, Goes, Printable, Next, Kept};
 
-use crate::page::page;
-use rules::{Begun, Leg, LegAnswer, Refusal, Search};
-use text::print::{LINE, print_end, print_refused};
+use rules::{Leg, Refusal, Search, Stop};
+use text::print::{LINE, print_end, print_page, print_refused};
 
 // The most rows of a page, and the bytes of that many of the longest line.
-pub const ROWS: usize = 256;
+const ROWS: usize = 256;
 
-pub const BYTES: usize = LINE * ROWS;
+const BYTES: usize = LINE * ROWS;
 
 // The most steps of a page's leg: few enough that rows show while a long search goes on.
 const STEPS: u64 = 16384;
@@ -26,155 +24,154 @@ pub struct Way {
     pub rows: u64,
 }
 
-// What is left to print: the line of a refusal, by its number and place; the rows of a search from here on, and its end line;
-// the end line alone, by its steps and rows; or nothing.
+impl Way {
+    // What is left after a leg: the end line where it ended the search, and else the rows from where it stopped.
+    fn after(self, leg: Leg) -> Left
+        requires { (self.steps + leg.steps < 2 ^ 64) × (self.rows + leg.rows < 2 ^ 64) }
+        ensures { told_left result ≡ rows_or_end self (is_ended_told (told_answer leg.answer)) leg.steps leg.rows leg.search }
+    {
+        let steps = self.steps + leg.steps;
+        let rows = self.rows + leg.rows as u64;
+        if matches!(leg.answer, Ok(Stop::Ended)) {
+            Left::End(steps, rows)
+        } else {
+            Left::Rows(Way {
+                search: leg.search,
+                steps,
+                rows,
+            })
+        }
+    }
+}
+
+// What is left to print: the line of a refusal; the rows of a search from here on, and its end line; or the end line alone, by its
+// steps and rows.
 #[derive(Clone, Copy)]
 pub enum Left {
-    Refusal(u64, u64),
+    Refusal(Refusal),
     Rows(Way),
     End(u64, u64),
-    Nothing,
+}
+
+impl Left {
+    // What is left at first: the refusal that an input came to, or all of the search that was begun.
+    pub fn opening(begun: Result<Search, Refusal>) -> Left
+        ensures { told_left result ≡ opening (told_answer begun) }
+    {
+        match begun {
+            Err(why) => Left::Refusal(why),
+            Ok(search) => Left::Rows(Way {
+                search,
+                steps: 0,
+                rows: 0,
+            }),
+        }
+    }
 }
 
 // A page: its length in bytes, and what is left after it.
 #[derive(Clone, Copy)]
 pub struct Page {
     pub length: usize,
-    pub left: Left,
+    pub left: Option<Left>,
 }
 
-// A refusal, to be printed.
-fn refusal(why: Refusal) -> Left
-    ensures { result ≡ refusal (refusal_number why) (refusal_place why) }
-{
-    let number = why.number();
-    let place = why.place();
-    Left::Refusal(number, place)
-}
-
-// What is left at first: the refusal that an input came to, or all of the search that was begun.
-pub fn opening(begun: Begun) -> Left
-    ensures { result ≡ opening (told_begun begun) }
-{
-    match begun {
-        Begun::Refused(why) => refusal(why),
-        Begun::Search(search) => Left::Rows(Way {
-            search,
-            steps: 0,
-            rows: 0,
-        }),
+impl Page {
+    // What is still to be printed after a page: nothing more where the page was not written.
+    pub fn if_written(self, wrote: bool) -> Option<Left>
+        ensures { told_rest result ≡ if wrote (told_rest self.left) nothing }
+    {
+        if wrote { self.left } else { None }
     }
 }
 
-// Whether anything is left.
-pub fn more(left: Left) -> bool
-    ensures { result ≡ has_more left }
-{
-    match left {
-        Left::Refusal(_, _) => true,
-        Left::Rows(_) => true,
-        Left::End(_, _) => true,
-        Left::Nothing => false,
-    }
+// A leg, and how many bytes its page has.
+#[derive(Clone, Copy)]
+struct PrintedLeg {
+    leg: Leg,
+    length: usize,
 }
 
-// What is still to be printed after a page: nothing more where the page was not written.
-pub fn if_written(wrote: bool, left: Left) -> Left
-    ensures { result ≡ if wrote left nothing }
-{
-    if wrote { left } else { Left::Nothing }
+// The pages of a printout: the sequences, and the room for a page, as the tables of a leg's rows and as their text.
+#[derive(Drop)]
+pub struct Pages<'a> {
+    letters: &'a [u8],
+    lengths: &'a [u32],
+    motifs: [u64; ROWS],
+    supports: [u32; ROWS],
+    weights: [u64; ROWS],
+    pub out: [u8; BYTES],
 }
 
-// Whether a leg has ended the search.
-fn has_ended(answer: LegAnswer) -> bool
-    ensures { result ≡ is_ended_told (told_answer answer) }
-{
-    match answer {
-        LegAnswer::Ended => true,
-        LegAnswer::Spent => false,
-        LegAnswer::Full => false,
-        LegAnswer::Refused(_) => false,
-    }
-}
-
-// What is left after a leg: the end line where it ended the search, and else the rows from where it stopped.
-fn advance(way: Way, leg: Leg) -> Left
-    requires { (way.steps + leg.steps < 2 ^ 64) × (way.rows + leg.rows < 2 ^ 64) }
-    ensures { result ≡ rows_or_end way (is_ended_told (told_answer leg.answer)) leg.steps leg.rows leg.search }
-{
-    let answer = leg.answer;
-    let found = leg.rows as u64;
-    let steps = way.steps + leg.steps;
-    let rows = way.rows + found;
-    let search = leg.search;
-    if has_ended(answer) {
-        Left::End(steps, rows)
-    } else {
-        Left::Rows(Way {
-            search,
-            steps,
-            rows,
-        })
-    }
-}
-
-// The next page of a search: the rows of one leg more.
-fn next_rows(
-    letters: &[u8],
-    lengths: &[u32],
-    way: Way,
-    motifs: &mut [u64],
-    supports: &mut [u32],
-    weights: &mut [u64],
-    out: &mut [u8],
-) -> Page
-    requires goes { Goes letters.now lengths.now way }
-    requires weights_value { (room_of motifs.old supports.old weights.old ≡ page_rows) × (page_bytes ≤ length out.old) }
-    ensures { Next letters.now lengths.now (rows way) out.old out.new result }
-{
-    let search = way.search;
-    let p = page(
-        letters, lengths, search, STEPS, motifs, supports, weights, out,
-    );
-    let leg = p.leg;
-    let length = p.length;
-    let left = advance(way, leg);
-    Page { length, left }
-}
-
-// THE NEXT PAGE of what is left, at the front of `out`, and what is left after it. Past the page `out` stays.
-pub fn next(
-    letters: &[u8],
-    lengths: &[u32],
-    left: Left,
-    motifs: &mut [u64],
-    supports: &mut [u32],
-    weights: &mut [u64],
-    out: &mut [u8],
-) -> Page
-    requires printable { Printable letters.now lengths.now left }
-    requires weights_value { (room_of motifs.old supports.old weights.old ≡ page_rows) × (page_bytes ≤ length out.old) }
-    ensures { Next letters.now lengths.now left out.old out.new result }
-{
-    match left {
-        Left::Refusal(n, p) => {
-            let length = print_refused(n, p, out);
-            Page {
-                length,
-                left: Left::Nothing,
-            }
+impl<'a> Pages<'a> {
+    // The pages over some sequences.
+    pub fn new(letters: &'a [u8], lengths: &'a [u32]) -> Pages<'a>
+        ensures { (result.letters.now ≡ letters.now) × (result.lengths.now ≡ lengths.now) }
+    {
+        Pages {
+            letters,
+            lengths,
+            motifs: [0; ROWS],
+            supports: [0; ROWS],
+            weights: [0; ROWS],
+            out: [0; BYTES],
         }
-        Left::Rows(way) => { next_rows(letters, lengths, way, motifs, supports, weights, out) }
-        Left::End(steps, rows) => {
-            let length = print_end(steps, rows, out);
-            Page {
-                length,
-                left: Left::Nothing,
-            }
-        }
-        Left::Nothing => Page {
-            length: 0,
-            left: Left::Nothing,
-        },
+    }
+
+    // Runs a leg of a search, and leaves its page, a line for each of its rows, at the front of `out`; what lies past it stays. A
+    // refused leg has an empty page.
+    fn leg(&mut self, search: Search, budget: u64) -> PrintedLeg
+        ensures leg_value { told_leg result.leg ≡ (leg_over self.old search budget).told }
+        ensures kept { Kept self.old self.new }
+        ensures motifs_after { self.new.motifs ≡ (leg_over self.old search budget).motifs }
+        ensures supports_after { self.new.supports ≡ (leg_over self.old search budget).supports }
+        ensures weights_after { self.new.weights ≡ (leg_over self.old search budget).weights }
+        ensures length_value { result.length ≡ length (leg_page self.old.letters.now self.old.lengths.now search budget page_rows) }
+        ensures out_after { self.new.out ≡ put (leg_page self.old.letters.now self.old.lengths.now search budget page_rows) self.old.out }
+        ensures length_in_bounds { result.length ≤ length self.new.out }
+    {
+        let leg = search::leg(
+            self.letters,
+            self.lengths,
+            search,
+            budget,
+            &mut self.motifs,
+            &mut self.supports,
+            &mut self.weights,
+        );
+        let length = print_page(
+            search.template,
+            &self.motifs,
+            &self.supports,
+            &self.weights,
+            leg.rows,
+            &mut self.out,
+        );
+        PrintedLeg { leg, length }
+    }
+
+    // The next page of a search: the rows of one leg more.
+    fn next_rows(&mut self, way: Way) -> Page
+        requires { Goes self.old.letters.now self.old.lengths.now way }
+        ensures kept { Kept self.old self.new }
+        ensures next { Next self.old.letters.now self.old.lengths.now (rows way) self.old.out self.new.out result }
+    {
+        let PrintedLeg { leg, length } = self.leg(way.search, STEPS);
+        let left = Some(way.after(leg));
+        Page { length, left }
+    }
+
+    // THE NEXT PAGE of what is left, at the front of `out`, and what is left after it. Past the page `out` stays.
+    pub fn next(&mut self, left: Left) -> Page
+        requires { Printable self.old.letters.now self.old.lengths.now (told_left left) }
+        ensures kept { Kept self.old self.new }
+        ensures next { Next self.old.letters.now self.old.lengths.now (told_left left) self.old.out self.new.out result }
+    {
+        let length = match left {
+            Left::Refusal(why) => print_refused(why.number(), why.place(), &mut self.out),
+            Left::End(steps, rows) => print_end(steps, rows, &mut self.out),
+            Left::Rows(way) => return self.next_rows(way),
+        };
+        Page { length, left: None }
     }
 }

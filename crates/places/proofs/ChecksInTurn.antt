@@ -21,10 +21,6 @@ module _ (letters lengths : List ℕ) (s : Search) where
   unfolding check13
   told_13 e f = f ∙ rw e
 
-  pub before_told : {a b v : Verdict} → a ≡ first (set_checks letters lengths) → b ≡ first (value_checks_before_13 letters lengths s) → v ≡ a else b → v ≡ before_13 letters lengths s
-  unfolding before_13
-  before_told e f g = rw (← e, ← f) g
-
   pub in_turn : first (search_checks letters lengths s) ≡ before_13 letters lengths s else check13 letters lengths s
   unfolding search_checks first before_13
   in_turn = simp (else_assoc, else_fine)

@@ -7,8 +7,7 @@ use Prim.Native.Nat.{ℕ, zero, suc, ◌-◌, ◌/◌, ◌^◌, ◌≤◌}
 use native.Mathlib.Decide.{dec_lt}
 use native.Mathlib.Omega.{arith}
 use lib.Dec.{eqb, leb, ltb}
-use borrow.Author.Tests.{ne_eqb, le-leb, lt-leb}
-use Rattle.rules.specs.Lists.{if}
+use borrow.Author.Tests.{ne_eqb}
 use Rattle.rules.specs.Profile.{profile_of, base_of}
 use Rattle.rules.specs.Refusals.{is_passing}
 use Rattle.rules.specs.Saved.{meets_place_rule}
@@ -59,22 +58,21 @@ module _ (letters lengths : List ℕ) (s : Search) where
         go (suc j) h e = let z : suc j - 1 ≡ j = omega arith in rw z (candidate_valid t s.quorum ss j s.place.number e)
 
     -- the test of a place with letters: the prefix of no letters is frequent, and another if its support reaches the quorum
-    pub passes_by : {found : ℕ} {r : Bool}
-        → (2 ≤ s.place.letters → found ≡ support (parts s.template (s.place.letters - 1) (s.place.number / base_of s.template)) (sequences letters lengths))
-        → r ≡ if (leb s.place.letters 1) true (leb s.quorum found) → r ≡ is_passing letters lengths s
+    pub passes_by : {r : Bool} → (s.place.letters ≡ 1 → r ≡ true)
+        → (2 ≤ s.place.letters → r ≡ leb s.quorum (support (parts s.template (s.place.letters - 1) (s.place.number / base_of s.template)) (sequences letters lengths)))
+        → r ≡ is_passing letters lengths s
     unfolding reaches
-    passes_by {found} {r} f e =
-        e ∙ elim (dec_lt 1 s.place.letters) [
+    passes_by {r} one more =
+        elim (dec_lt 1 s.place.letters) [
           | no n ↦ (let z : s.place.letters - 1 ≡ 0 = omega arith in
-              ap (λ b. if b true (leb s.quorum found)) (le-leb s.place.letters 1 (omega arith))
+              one (omega arith)
               ∙ sym (ap (λ (j : ℕ). frequent s.template s.quorum (sequences letters lengths) j (s.place.number / base_of s.template)) z)
               ∙ passes_some)
-          | yes n ↦ (ap (λ b. if b true (leb s.quorum found)) (lt-leb s.place.letters 1 n)
-              ∙ ap (leb s.quorum) (f n)
+          | yes n ↦ (more n
               ∙ sym (frequent_support s.template s.quorum (sequences letters lengths) (s.place.letters - 1) (s.place.number / base_of s.template) (omega arith))
               ∙ passes_some)
         ]
 
   -- so a place of one letter is always a candidate
   pub passes_one : meets_place_rule s.template s.place ≡ true → s.place.letters ≡ 1 → true ≡ is_passing letters lengths s
-  passes_one rule e = passes_by rule (omega (arith, e)) {found = 0} (λ h. absurd (omega (arith, e, h))) (rw (le-leb s.place.letters 1 (omega (arith, e))) refl)
+  passes_one rule e = passes_by rule (omega (arith, e)) (λ _. refl) (λ h. absurd (omega (arith, e, h)))

@@ -2,46 +2,10 @@
 // letters, the end or a refusal, and then what the table and the buffer hold.
 #![tactic(auto)]
 
-ghost use Rattle.std.specs.Prelude.{◌≡◌, ◌≤◌, length};
-ghost use Rattle.rules.specs.Fasta.{reader_rule};
-ghost use Rattle.rules.specs.Told.{told_handed};
+ghost use Rattle.std.specs.Prelude.{◌≤◌, length};
 
-use fasta::Step;
-use rules::{FileRefusal, Handed, Offset, SequenceSet, least};
-
-// THE NEXT RECORD, by a reader over the file that is moved on to an offset: what it hands out, and where it stands then. No other
-// function has a reader.
-fn next_from(
-    file: &[u8],
-    at: usize,
-    letters: &mut [u8],
-    used: usize,
-    lengths: &mut [u32],
-    count: usize,
-) -> Step
-    ensures handed_value { told_handed result.handed ≡ (reader_rule file.now at letters.old used lengths.old count).told }
-    ensures at_value { result.at ≡ (reader_rule file.now at letters.old used lengths.old count).at }
-    ensures letters_after { letters.new ≡ (reader_rule file.now at letters.old used lengths.old count).letters }
-    ensures lengths_after { lengths.new ≡ (reader_rule file.now at letters.old used lengths.old count).lengths }
-{
-    let mut reader = fasta::new(file);
-    reader.at += at;
-    let handed = fasta::next(&mut reader, letters, used, lengths, count);
-    Step {
-        handed,
-        at: reader.at,
-    }
-}
-
-// Where the letters end that a record has behind the `used` of a buffer, and no further than the buffer goes.
-fn end_of(used: usize, letters: usize, room: usize) -> usize
-    requires { used ≤ room }
-    ensures { (used ≤ result) × (result ≤ room) }
-{
-    let left = room - used;
-    let more = least(letters, left);
-    used + more
-}
+use fasta::Reader;
+use rules::{FastaRecord, FileRefusal, Offset, SequenceSet};
 
 fn text(rt: &impl Print, what: &[u8]) {
     let _ = rt.write_all(what);
@@ -63,26 +27,33 @@ fn refused(rt: &impl Print, why: FileRefusal) {
 
 // What a call handed out: of a record its name, its letters, which stand behind the `used` of a buffer, and how many they are. It
 // answers how much of the buffer is used then.
-fn tell(rt: &impl Print, file: &[u8], handed: Handed, letters: &[u8], used: usize) -> usize
+fn tell(
+    rt: &impl Print,
+    reader: &Reader,
+    handed: Result<Option<FastaRecord>, FileRefusal>,
+    letters: &[u8],
+    used: usize,
+) -> usize
     requires { used ≤ length letters.now }
     ensures { result ≤ length letters.now }
 {
     match handed {
-        Handed::Record { name, letters: n } => {
-            let end = end_of(used, n, letters.len());
-            text(rt, fasta::name(file, name));
+        Ok(Some(record)) => {
+            // No further than the buffer goes.
+            let end = used + record.letters.min(letters.len() - used);
+            text(rt, reader.name(record.name));
             text(rt, b" [");
             text(rt, SequenceSet::part(letters, Offset(used), Offset(end)));
             text(rt, b"]");
-            number(rt, n as u64);
+            number(rt, record.letters as u64);
             text(rt, b"\n");
             end
         }
-        Handed::End => {
+        Ok(None) => {
             text(rt, b"end\n");
             used
         }
-        Handed::Refused(why) => {
+        Err(why) => {
             refused(rt, why);
             used
         }
@@ -92,27 +63,21 @@ fn tell(rt: &impl Print, file: &[u8], handed: Handed, letters: &[u8], used: usiz
 // All of a table, on one line.
 fn rows(rt: &impl Print, table: &[u32]) {
     text(rt, b"lengths");
-    let mut i = 0;
-    while i < table.len() {
-        number(rt, table[i] as u64);
-        i += 1;
+    for length in table {
+        number(rt, u64::from(*length));
     }
     text(rt, b"\n");
 }
 
-// Reads a file by so many calls, each from where the one before it left the reader, the buffer and the table.
+// Reads a file by so many calls, and tells what each handed out.
 fn read(rt: &impl Print, file: &[u8], calls: usize) {
+    let mut reader = Reader::new(file);
     let mut letters = [b'.'; 16];
     let mut lengths = [9u32; 4];
-    let mut at: usize = 0;
     let mut used: usize = 0;
-    let mut count: usize = 0;
-    while count < calls {
-        let step = next_from(file, at, &mut letters, used, &mut lengths, count);
-        let handed = step.handed;
-        used = tell(rt, file, handed, &letters, used);
-        at = step.at;
-        count += 1;
+    for count in 0..calls {
+        let handed = reader.next(&mut letters, used, &mut lengths, count);
+        used = tell(rt, &reader, handed, &letters, used);
     }
     rows(rt, &lengths);
     text(rt, b"letters ");

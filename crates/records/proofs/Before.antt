@@ -17,6 +17,10 @@ use Rattle.rules.proofs.Verdicts.{else_fine, first_append, first_both, none_of, 
 use Rattle.records.specs.ReadWrite.{read_rule}
 use Rattle.records.specs.RestoreOrder.{saved_checks_before_13, restore_checks_before_13}
 
+-- THE ORDER BEFORE 13 is that of the sequences and then that of the bytes
+pub in_turn : (letters lengths bs : List ℕ) → first (restore_checks_before_13 letters lengths bs) ≡ first (set_checks letters lengths) else first (saved_checks_before_13 letters lengths bs)
+in_turn letters lengths bs = first_append (set_checks letters lengths) (saved_checks_before_13 letters lengths bs)
+
 -- a check made after others
 pub then_next : (us : List Verdict) {q r w v : Verdict} → r ≡ q else w → q ≡ first us → w ≡ v → r ≡ first (us ++ (v ∷ []))
 unfolding first

@@ -1,34 +1,28 @@
--- Fields of records, read from the bytes: a field lies within its record, so that it may be read from the bytes at the
--- record's start; a byte more at the front of a number is that byte and 256 times the rest; and bytes are all 0 exactly if
--- the number that they are is 0.
+-- Fields of records: a byte more at the front of a number is that byte and 256 times the rest; and bytes are all 0 exactly if the
+-- number that they are is 0.
 use mathlib.Core.Path.{◌≡◌, refl, sym, ◌∙◌}
 use mathlib.Core.Bool.{◌&&◌}
 use mathlib.Core.List.{List, [], ◌∷◌}
-use Prim.Native.Nat.{ℕ, zero, suc, ◌+◌, ◌-◌, ◌*◌, ◌^◌, ◌≤◌, ◌<◌}
-use native.Mathlib.Nat.{add-zero, pow-suc, pow-le-pow_right, zero-lt-suc}
+use Prim.Native.Nat.{ℕ, zero, suc, ◌+◌, ◌-◌, ◌*◌, ◌^◌, ◌≤◌, ◌<◌, min}
+use native.Mathlib.Nat.{min_comm, add-zero, pow-suc, pow-le-pow_right, zero-lt-suc}
 use native.Mathlib.Omega.{arith}
 use lib.Dec.{eqb}
-use lib.ListN.{get_or, take, drop}
-use lib.Seq.{get_or-drop, get_or-take, drop-drop}
+use lib.ListN.{length, get_or, take, drop, length-drop}
+use lib.Seq.{get_or-drop, drop-drop, take_all}
+use Rattle.std.proofs.lemmas.List.{drop_min, take_min}
 use borrow.Author.Tests.{eq-eqb, ne_eqb}
 use Rattle.rules.specs.Limits.{record_bytes}
 use Rattle.rules.specs.Lists.{all_pass}
 use Rattle.rules.specs.Saved.{read_low, record_at, field, is_blank}
 
--- the same bytes are the same number
-read_same : (n : ℕ) (xs ys : List ℕ) → ((i : ℕ) → i < n → get_or xs i 0 ≡ get_or ys i 0) → read_low n xs ≡ read_low n ys
-unfolding read_low
-read_same zero xs ys h = refl
-read_same (suc n) xs ys h = rw (h 0 (omega arith), read_same n (drop 1 xs) (drop 1 ys) (λ i l. get_or-drop 1 xs i 0 ∙ h (1 + i) (omega arith) ∙ sym (get_or-drop 1 ys i 0)))
-
--- a field of record i, in the bytes
-field_within : (bs : List ℕ) (i k n : ℕ) → k + n ≤ record_bytes → field (record_at bs i) k n ≡ read_low n (drop (record_bytes * i + k) bs)
-unfolding field record_at
-field_within bs i k n h =
-    read_same n (drop k (record_at bs i)) (drop (record_bytes * i + k) bs) (λ j l.
-    get_or-drop k (record_at bs i) j 0
-    ∙ get_or-take record_bytes (drop (record_bytes * i) bs) (k + j) 0 (omega arith)
-    ∙ rw (← (drop-drop k (record_bytes * i) bs), get_or-drop k (drop (record_bytes * i) bs) j 0))
+-- a record is cut from what is left of the bytes at its start
+pub record_cut : (bs : List ℕ) (i a m : ℕ) {rest : List ℕ} → a ≡ min (record_bytes * i) (length bs) → rest ≡ take (length bs - a) (drop a bs) → m ≡ min (length rest) record_bytes
+    → take m rest ≡ record_at bs i
+unfolding record_at
+record_cut bs i a m {rest} e f g =
+    let whole : take (length bs - a) (drop a bs) ≡ drop a bs = take_all (length bs - a) (drop a bs) (omega (arith, length-drop a bs)) in
+    let q : rest ≡ drop (record_bytes * i) bs = f ∙ whole ∙ rw (e, drop_min) in
+    rw (g, min_comm (length rest) record_bytes, take_min, q)
 
 -- a number with one byte more at its front
 read_more : (bs : List ℕ) (p m : ℕ) → read_low (suc m) (drop p bs) ≡ get_or bs p 0 + 256 * read_low m (drop (p + 1) bs)
@@ -46,28 +40,29 @@ pub read_none : (bs : List ℕ) (p n : ℕ) → Read bs p n n 0
 unfolding read_low
 read_none bs p n = let e : n - n ≡ 0 = omega arith in record { left = omega arith; is = rw e; fits = rw e (omega arith) }
 
--- the byte before is read too, for which 8 bytes have room
-pub read_next : (bs : List ℕ) (p n j x b : ℕ) → Read bs p n j x → n ≤ 8 → 0 < j → b ≡ get_or bs (p + (j - 1)) 0 → b < 256
-    → Read bs p n (j - 1) (256 * x + b) × (256 * x + b < 2 ^ 64)
-read_next bs p n j x b r h some is byte =
+-- as long as a byte is left of at most 8, there is room for one more
+pub read_room : (bs : List ℕ) (p n j x : ℕ) → Read bs p n j x → n ≤ 8 → 0 < j → x < 256 ^ 7
+read_room bs p n j x r h some =
+    let m : 256 ^ (n - j) ≤ 256 ^ 7 = pow-le-pow_right (zero-lt-suc 255) {i = n - j} {j = 7} (omega (arith, r.left)) in omega (arith, r.fits)
+
+-- the byte before is read too
+pub read_next : (bs : List ℕ) (p n j x b : ℕ) → Read bs p n j x → 0 < j → b ≡ get_or bs (p + (j - 1)) 0 → b < 256 → Read bs p n (j - 1) (256 * x + b)
+read_next bs p n j x b r some is byte =
     let e : n - (j - 1) ≡ suc (n - j) = omega (arith, r.left) in
     let f : p + (j - 1) + 1 ≡ p + j = omega arith in
-    let m : 256 ^ (n - j) ≤ 256 ^ 7 = pow-le-pow_right (zero-lt-suc 255) {i = n - j} {j = 7} (omega (arith, r.left)) in (
-      record {
-        left = omega (arith, r.left);
-        is = rw (e, read_more bs (p + (j - 1)) (n - j), f) (omega (arith, r.is));
-        fits = rw e (omega (arith, r.fits, pow-suc 256 (n - j)));
-      },
-      omega (arith, r.fits),
-    )
+    record {
+      left = omega (arith, r.left);
+      is = rw (e, read_more bs (p + (j - 1)) (n - j), f) (omega (arith, r.is));
+      fits = rw e (omega (arith, r.fits, pow-suc 256 (n - j)));
+    }
 
 -- and where none is left the field has been read
-pub read_all : (bs : List ℕ) (i k n j x : ℕ) → Read bs (record_bytes * i + k) n j x → k + n ≤ record_bytes → j ≤ 0
-    → (x ≡ field (record_at bs i) k n) × (x < 256 ^ n)
-read_all bs i k n j x r h z =
+pub read_all : (r : List ℕ) (k n j x : ℕ) → Read r k n j x → j ≤ 0 → (x ≡ field r k n) × (x < 256 ^ n)
+unfolding field
+read_all r k n j x h z =
     let e : n - j ≡ n = omega arith in
-    let f : record_bytes * i + k + j ≡ record_bytes * i + k = omega arith in
-    (rw (e, f) at r.is ∙ sym (field_within bs i k n h), rw e at r.fits)
+    let f : k + j ≡ k = omega arith in
+    (rw (e, f) at h.is, rw e at h.fits)
 
 -- ZEROS. A number with one byte more is 0 exactly if the byte and the rest are
 zero_more : (x y : ℕ) → eqb x 0 && eqb y 0 ≡ eqb (x + 256 * y) 0

@@ -4,40 +4,43 @@ ghost use Rattle.rules.specs.Refusals.{check10, check22};
 ghost use Rattle.rules.specs.Saved.{read_search, is_sized, adds_up};
 ghost use Rattle.rules.specs.Told.{told_checked};
 
-use crate::read::{field, record_count};
-use rules::{Checked, Record, RecordNumber, Refusal, Search};
+use crate::read::SavedBytes;
+use rules::{Record, RecordNumber, Refusal, Search};
 
 // The bytes are as long as the records that they count, of which there are at least two.
-fn sized(bytes: &[u8]) -> bool
-    ensures { result ≡ is_sized bytes.now }
+#[tactic(auto, unfolding(rules::specs::Saved::is_sized))]
+fn sized(bytes: SavedBytes<'_>) -> bool
+    ensures { result ≡ is_sized bytes.entry.0.now }
 {
-    let n = bytes.len();
-    let count = record_count(bytes);
-    let all = Record::BYTES * (count as usize);
+    let n = bytes.0.len();
+    let count = bytes.record_count();
+    let all = Record::BYTES * usize::from(count);
     (Record::BYTES <= n) & (Record::EXTRA <= count) & (n == all)
 }
 
 // 10: bytes that are not as long as the records that they count.
-pub(crate) fn check_sized(bytes: &[u8]) -> Checked
-    ensures { told_checked result ≡ check10 bytes.now }
+#[tactic(auto, unfolding(rules::specs::Refusals::check10))]
+pub(crate) fn check_sized(bytes: SavedBytes<'_>) -> Result<(), Refusal>
+    ensures { told_checked result ≡ check10 bytes.entry.0.now }
 {
-    Checked::refuse_if(!sized(bytes), Refusal::SavedSize)
+    Refusal::SavedSize.when(!sized(bytes))
 }
 
 // K, as the size record has it, is the sum of the lengths, in the bytes that hold this search.
-fn adds_up(bytes: &[u8], s: Search) -> bool
-    requires { s ≡ read_search bytes.now }
-    ensures { result ≡ adds_up bytes.now }
+#[tactic(auto, unfolding(rules::specs::Saved::read_search, rules::specs::Saved::adds_up))]
+fn adds_up(bytes: SavedBytes<'_>, s: Search) -> bool
+    requires { s ≡ read_search bytes.0.now }
+    ensures { result ≡ adds_up bytes.entry.0.now }
 {
-    let k = field(bytes, RecordNumber(0), 6, 2);
-    let sum = s.template.letters() as u64;
-    k == sum
+    let k = bytes.record(RecordNumber(0)).field(6, 2);
+    k == u64::from(s.template.letters())
 }
 
 // 22: a K that is not the sum of the lengths.
-pub(crate) fn check_adds_up(bytes: &[u8], s: Search) -> Checked
-    requires { s ≡ read_search bytes.now }
-    ensures { told_checked result ≡ check22 bytes.now }
+#[tactic(auto, unfolding(rules::specs::Refusals::check22))]
+pub(crate) fn check_adds_up(bytes: SavedBytes<'_>, s: Search) -> Result<(), Refusal>
+    requires { s ≡ read_search bytes.0.now }
+    ensures { told_checked result ≡ check22 bytes.entry.0.now }
 {
-    Checked::refuse_if(!adds_up(bytes, s), Refusal::SavedSum)
+    Refusal::SavedSum.when(!adds_up(bytes, s))
 }

@@ -21,33 +21,25 @@ use Rattle.rules.specs.Sequences.{sequences}
 use Rattle.rules.specs.Sound.{SoundSet, SoundTemplate}
 use Rattle.rules.specs.Support.{occurrence_rows, parts, valid}
 use Rattle.rules.specs.Template.{size}
-use Rattle.rules.specs.Told.{Verdict, Told, fine, refused, gives, refuses, Counts}
+use Rattle.rules.specs.Told.{Verdict, Told, fine, refused, gives, refuses}
 use Rattle.rules.specs.declared.Template.{Template}
+use Rattle.rules.specs.declared.Recovered.{Recovered}
 use Rattle.rules.proofs.Occurs.{parts_worded, rows_are}
 use Rattle.rules.proofs.Sound.{set_sound, template_sound}
-use Rattle.rules.proofs.Verdicts.{first_append, first_both, else_fine}
+use Rattle.rules.proofs.Verdicts.{first_append, first_both, else_assoc, else_fine}
 use Rattle.checks.specs.CheckOrders.{template_checks}
-
--- ---- 14
-
--- a number is a motif's exactly if the template allows its letters
-module _ (t : Template) (m : ℕ) {k : ℕ} {spelled : Bool} (letters : k ≡ size t) (test : spelled ≡ valid t k m) where
-  -- if it does, 14 passes
-  pub motif_passes : spelled ≡ true → fine ≡ check14 t m
-  unfolding check14
-  motif_passes e = rw (← letters, ← test, e)
-
-  -- and else it is refused
-  pub motif_refused : spelled ≡ false → refused 14 0 ≡ check14 t m
-  unfolding check14
-  motif_refused e = rw (← letters, ← test, e)
 
 -- ---- 1 to 8, 24 and 14
 
+-- the sequences, the template, the motif
+pub in_turn : (letters lengths : List ℕ) (t : Template) (m : ℕ) → first (first_checks letters lengths t m) ≡ first (set_checks letters lengths) else (first (template_checks t) else check14 t m)
+unfolding first
+in_turn letters lengths t m = simp (else_assoc, else_fine)
+
 -- what they pass is sound
-pub first_sound : (letters lengths : List ℕ) (t : Template) (m : ℕ) {v : Verdict} → v ≡ first (first_checks letters lengths t m) → v ≡ fine → SoundSet letters lengths × SoundTemplate t
-first_sound letters lengths t m found e =
-    let h = (first_both (set_checks letters lengths) (template_checks t ++ (check14 t m ∷ []))).0 (sym found ∙ e) in
+pub first_sound : (letters lengths : List ℕ) (t : Template) (m : ℕ) → fine ≡ first (first_checks letters lengths t m) → SoundSet letters lengths × SoundTemplate t
+first_sound letters lengths t m e =
+    let h = (first_both (set_checks letters lengths) (template_checks t ++ (check14 t m ∷ []))).0 (sym e) in
     let k = (first_both (template_checks t) (check14 t m ∷ [])).0 h.1 in
     (set_sound letters lengths h.0, template_sound t k.0)
 
@@ -69,17 +61,17 @@ module _ (letters lengths : List ℕ) (t : Template) (m f : ℕ) (out : List ℕ
   then_15 = first_append (first_checks letters lengths t m) (check15 letters lengths t m f ∷ []) ∙ ap (λ v. first (first_checks letters lengths t m) else v) (else_fine (check15 letters lengths t m f))
 
   -- what 1 to 8, 24 and 14 refuse is told, and the buffer stays
-  pub rule_refused : {v : Verdict} {n p : ℕ} → v ≡ first (first_checks letters lengths t m) → v ≡ refused n p
+  pub rule_refused : {n p : ℕ} → refused n p ≡ first (first_checks letters lengths t m)
       → (refuses n p ≡ (recover_rule letters lengths t m f out).told) × (out ≡ (recover_rule letters lengths t m f out).out)
   unfolding recover_rule ◌else◌
-  rule_refused found e = rw (then_15, ← found, e) (refl, refl)
+  rule_refused e = rw (then_15, ← e) (refl, refl)
 
   -- what they pass is told by the rest of the rule
-  pub rule_fine : {v : Verdict} → v ≡ first (first_checks letters lengths t m) → v ≡ fine → {told : Told Counts} {out' : List ℕ}
+  pub rule_fine : fine ≡ first (first_checks letters lengths t m) → {told : Told Recovered} {out' : List ℕ}
       → told ≡ (rows_rule letters lengths t m f out).told → out' ≡ (rows_rule letters lengths t m f out).out
       → (told ≡ (recover_rule letters lengths t m f out).told) × (out' ≡ (recover_rule letters lengths t m f out).out)
   unfolding recover_rule rows_rule ◌else◌
-  rule_fine found e k q = rw (then_15, ← found, e) (k, q)
+  rule_fine e k q = rw (then_15, ← e) (k, q)
 
   -- ---- the rest: n is the length of the whole list, and all of it went out
   module _ {n : ℕ} (all : n ≡ length whole) {g : Progress} {out' : List ℕ} (went : buffer g out' ≡ emits (suc t.count) whole (buffer (progress f 0 0) out)) where

@@ -1,38 +1,35 @@
 // Recovery: every occurrence of a motif, from a row of their list on.
 #![tactic(auto)]
 
-ghost use Rattle.std.specs.Prelude.{[], ◌∷◌, ◌++◌, map, ◌≡◌, suc, ◌+◌, ◌*◌, ◌^◌, ◌≤◌, ◌<◌, length, take, drop};
-ghost use Rattle.descent.specs.Buffer.{buffer, progress, InBuffer, emits, with_front};
+ghost use Rattle.std.specs.Prelude.{[], ◌∷◌, ◌++◌, map, ◌≡◌, suc, ◌+◌, ◌*◌, ◌^◌, ◌≤◌, ◌<◌, ltb, length, take, drop};
+ghost use Rattle.descent.specs.Buffer.{buffer, emits, with_front};
 ghost use Rattle.descent.specs.Paths.{Flagged};
 ghost use Rattle.recovery.specs.Rule.{first_checks, rows_rule};
 ghost use Rattle.rules.specs.Calls.{recover_rule};
 ghost use Rattle.rules.specs.Letters.{value};
 ghost use Rattle.rules.specs.Limits.{sequence_set_letters, sequence_set_sequences, template_components};
-ghost use Rattle.rules.specs.Lists.{sign};
 ghost use Rattle.rules.specs.Occurrence.{occurrences};
 ghost use Rattle.rules.specs.Refusals.{first, check14};
 ghost use Rattle.rules.specs.Sequences.{sequences};
 ghost use Rattle.rules.specs.Sound.{SoundSet, SoundTemplate};
 ghost use Rattle.rules.specs.Support.{occurrence_rows, parts};
 ghost use Rattle.rules.specs.Template.{components, size};
-ghost use Rattle.rules.specs.Told.{told_checked, told_recovered};
+ghost use Rattle.rules.specs.Told.{told_checked, told_answer};
 ghost use Rattle.ways.specs.Counts.{counts, aligned};
 
 use checks::spelled::valid;
 use checks::{check_set, check_template};
-use descent::{Progress, list_starts};
-use rules::{Checked, Offset, Recovered, Refusal, SequenceNumber, SequenceSet, Template, sign};
+use descent::{Descent, FLAGS, Page};
+use rules::{Offset, Recovered, Refusal, SequenceNumber, SequenceSet, Template};
 use ways::{step, sum};
 
 // Sets the flags of the positions that have a number above 0, and clears the others.
-fn set_flags(ways: &[u64], flags: &mut [u8])
+fn set_flags(ways: &[u64], flags: &mut [bool])
     requires { length flags.old ≡ length ways.now }
-    ensures { flags.new ≡ map sign ways.now }
+    ensures { flags.new ≡ map (ltb 0) ways.now }
 {
-    let mut i = 0;
-    while i < ways.len() {
-        flags[i] = sign(ways[i]);
-        i += 1;
+    for (i, flag) in flags.iter_mut().enumerate() {
+        *flag = 0 < ways[i];
     }
 }
 
@@ -43,14 +40,14 @@ fn mark_component(
     template: Template,
     word: &[u8],
     component: usize,
-    ways: &mut [u64],
-    flags: &mut [u8],
+    ways: &mut [u64; SequenceSet::LETTERS],
+    flags: &mut [bool; FLAGS],
 )
     requires sound_template { SoundTemplate template }
-    requires component_lt_count { (component < template.count) × (size template ≤ length word.now) × (length sequence.now ≤ sequence_set_letters) × (length ways.old ≡ sequence_set_letters) × (length flags.old ≡ template_components * sequence_set_letters) }
+    requires component_lt_count { (component < template.count) × (size template ≤ length word.now) × (length sequence.now ≤ sequence_set_letters) }
     requires ways_value { component + 1 < template.count → take (length sequence.now) ways.old ≡ counts (aligned (drop (component + 1) (components template)) word.now) sequence.now }
     ensures ways_after { take (length sequence.now) ways.new ≡ counts (aligned (drop component (components template)) word.now) sequence.now }
-    ensures flags_after { flags.new ≡ take (component * sequence_set_letters) flags.old ++ (map sign (take (length sequence.now) ways.new) ++ drop (component * sequence_set_letters + length sequence.now) flags.old) }
+    ensures flags_after { flags.new ≡ take (component * sequence_set_letters) flags.old ++ (map (ltb 0) (take (length sequence.now) ways.new) ++ drop (component * sequence_set_letters + length sequence.now) flags.old) }
 {
     let n = sequence.len();
     step(sequence, template, word, component, &mut ways[..n]);
@@ -60,27 +57,24 @@ fn mark_component(
 }
 
 // The flags of all components in a sequence, from the last to the first. The ways that are left are those of the first.
-fn mark(sequence: &[u8], template: Template, motif: u64, ways: &mut [u64], flags: &mut [u8])
+fn mark(
+    sequence: &[u8],
+    template: Template,
+    motif: u64,
+    ways: &mut [u64; SequenceSet::LETTERS],
+    flags: &mut [bool; FLAGS],
+)
     requires sound_template { SoundTemplate template }
-    requires sequence_len_bound { (length sequence.now ≤ sequence_set_letters) × (length ways.old ≡ sequence_set_letters) × (length flags.old ≡ template_components * sequence_set_letters) }
+    requires sequence_len_bound { length sequence.now ≤ sequence_set_letters }
     ensures flagged { Flagged (parts template (size template) motif) (map value sequence.now) flags.new 0 }
     ensures ways_after { take (length sequence.now) ways.new ≡ counts (parts template (size template) motif) (map value sequence.now) }
 {
     let mut word = [0u8; Template::LETTERS as usize];
     let profile = template.profile;
     profile.spell(motif, &mut word);
-    let mut c = template.count as usize;
-    while 0 < c {
-        c -= 1;
-        mark_component(sequence, template, &word, c, ways, flags);
+    for component in (0..template.count as usize).rev() {
+        mark_component(sequence, template, &word, component, ways, flags);
     }
-}
-
-// How far the rows have come, and how many there are of some sequences.
-#[derive(Clone, Copy)]
-struct Listing {
-    progress: Progress,
-    length: u64,
 }
 
 // The rows of one sequence, and how many there are.
@@ -89,92 +83,85 @@ fn list_sequence(
     number: SequenceNumber,
     template: Template,
     motif: u64,
-    ways: &mut [u64],
-    flags: &mut [u8],
-    done: Progress,
-    out: &mut [u32],
-) -> Listing
+    ways: &mut [u64; SequenceSet::LETTERS],
+    flags: &mut [bool; FLAGS],
+    page: &mut Page<'_>,
+) -> u64
     requires sound_template { SoundTemplate template }
-    requires number_bound { (number.0 ≤ sequence_set_sequences) × (length sequence.now ≤ sequence_set_letters) × (length ways.old ≡ sequence_set_letters) × (length flags.old ≡ template_components * sequence_set_letters) }
-    requires in_buffer { InBuffer done (length out.old) }
+    requires number_bound { (number.0 ≤ sequence_set_sequences) × (length sequence.now ≤ sequence_set_letters) }
     requires sequence_len_bound { length (occurrences (parts template (size template) motif) (map value sequence.now)) < 2 ^ 64 }
-    ensures in_buffer_2 { InBuffer result.progress (length out.new) }
-    ensures out_after { buffer result.progress out.new ≡ emits (suc template.count) (with_front (number.0 ∷ []) (occurrences (parts template (size template) motif) (map value sequence.now))) (buffer done out.old) }
-    ensures length_value { result.length ≡ length (occurrences (parts template (size template) motif) (map value sequence.now)) }
+    ensures same_buffer { page.new.out.ghost_name ≡ page.old.out.ghost_name }
+    ensures page_after { buffer page.new.progress page.new.out.now ≡ emits (suc template.count) (with_front (number.0 ∷ []) (occurrences (parts template (size template) motif) (map value sequence.now))) (buffer page.old.progress page.old.out.now) }
+    ensures length_value { result ≡ length (occurrences (parts template (size template) motif) (map value sequence.now)) }
 {
     mark(sequence, template, motif, ways, flags);
     let n = sequence.len();
-    let length = sum(&ways[..n]);
-    let progress = list_starts(template, number, n, flags, ways, done, out);
-    Listing { progress, length }
+    let descent = Descent {
+        template,
+        letters: n,
+        flags,
+        ways,
+    };
+    descent.list_starts(number, page);
+    sum(&ways[..n])
 }
 
-// The rows of all sequences, each by its own part of the letters, from row `first` on, and how many there are.
+// The rows of all sequences, each by its own part of the letters, and how many there are.
 fn list_sequences(
     letters: &[u8],
     lengths: &[u32],
     template: Template,
     motif: u64,
-    first: u64,
-    ways: &mut [u64],
-    flags: &mut [u8],
-    out: &mut [u32],
-) -> Listing
+    ways: &mut [u64; SequenceSet::LETTERS],
+    flags: &mut [bool; FLAGS],
+    page: &mut Page<'_>,
+) -> u64
     requires sound_set { SoundSet letters.now lengths.now }
     requires sound_template { SoundTemplate template }
-    requires ways_len { (length ways.old ≡ sequence_set_letters) × (length flags.old ≡ template_components * sequence_set_letters) }
-    ensures out_after { buffer result.progress out.new ≡ emits (suc template.count) (occurrence_rows (parts template (size template) motif) (sequences letters.now lengths.now)) (buffer (progress first 0 0) out.old) }
-    ensures length_value { result.length ≡ length (occurrence_rows (parts template (size template) motif) (sequences letters.now lengths.now)) }
+    ensures same_buffer { page.new.out.ghost_name ≡ page.old.out.ghost_name }
+    ensures page_after { buffer page.new.progress page.new.out.now ≡ emits (suc template.count) (occurrence_rows (parts template (size template) motif) (sequences letters.now lengths.now)) (buffer page.old.progress page.old.out.now) }
+    ensures length_value { result ≡ length (occurrence_rows (parts template (size template) motif) (sequences letters.now lengths.now)) }
 {
-    let mut progress = Progress {
-        skip: first,
-        rows: 0,
-        at: 0,
-    };
     let mut length: u64 = 0;
     let mut begin: usize = 0;
-    let mut i = 0;
-    while i < lengths.len() {
-        let n = lengths[i] as usize;
-        let end = begin + n;
+    for (i, letters_here) in lengths.iter().enumerate() {
+        let end = begin + *letters_here as usize;
         let number = i + 1;
-        let listed = list_sequence(
+        length += list_sequence(
             SequenceSet::part(letters, Offset(begin), Offset(end)),
             SequenceNumber(number),
             template,
             motif,
             ways,
             flags,
-            progress,
-            out,
+            page,
         );
-        progress = listed.progress;
-        length += listed.length;
         begin = end;
-        i += 1;
     }
-    Listing { progress, length }
+    length
 }
 
 // 14: a number that is no motif's.
-fn check_motif(template: Template, motif: u64) -> Checked
+fn check_motif(template: Template, motif: u64) -> Result<(), Refusal>
     ensures { told_checked result ≡ check14 template motif }
 {
     let k = template.letters();
-    if valid(template, k, motif) {
-        Checked::Fine
-    } else {
-        Checked::Refused(Refusal::MotifNumber)
-    }
+    Refusal::MotifNumber.when(!valid(template, k, motif))
 }
 
 // 1 to 8, 24 and 14.
-fn check_recovery(letters: &[u8], lengths: &[u32], template: Template, motif: u64) -> Checked
+#[tactic(auto, using(rules::proofs::Verdicts::in_turn, crate::proofs::Rule::in_turn))]
+fn check_recovery(
+    letters: &[u8],
+    lengths: &[u32],
+    template: Template,
+    motif: u64,
+) -> Result<(), Refusal>
     ensures { told_checked result ≡ first (first_checks letters.now lengths.now template motif) }
 {
-    check_set(letters, lengths)
-        .then(check_template(template))
-        .then(check_motif(template, motif))
+    check_set(letters, lengths)?;
+    check_template(template)?;
+    check_motif(template, motif)
 }
 
 // What comes of it once those have passed. The list's length is counted, not listed; where the first row asked for lies above
@@ -186,23 +173,25 @@ fn recover_rows(
     motif: u64,
     first: u64,
     out: &mut [u32],
-) -> Recovered
+) -> Result<Recovered, Refusal>
     requires sound_set { SoundSet letters.now lengths.now }
     requires sound_template { SoundTemplate template }
-    ensures result_value { told_recovered result ≡ (rows_rule letters.now lengths.now template motif first out.old).told }
+    ensures result_value { told_answer result ≡ (rows_rule letters.now lengths.now template motif first out.old).told }
     ensures out_after { out.new ≡ (rows_rule letters.now lengths.now template motif first out.old).out }
 {
     let mut ways = [0u64; SequenceSet::LETTERS];
-    let mut flags = [0u8; Template::COMPONENTS as usize * SequenceSet::LETTERS];
-    let listed = list_sequences(
-        letters, lengths, template, motif, first, &mut ways, &mut flags, out,
+    let mut flags = [false; FLAGS];
+    let mut page = Page::new(first, out);
+    let length = list_sequences(
+        letters, lengths, template, motif, &mut ways, &mut flags, &mut page,
     );
-    let length = listed.length;
     if length < first {
-        return Recovered::Refused(Refusal::FirstRow);
+        return Err(Refusal::FirstRow);
     }
-    let written = listed.progress.rows;
-    Recovered::Rows { written, length }
+    Ok(Recovered {
+        rows: page.progress.rows,
+        length,
+    })
 }
 
 // Lists the occurrences of a motif: rows of k + 1 numbers, the sequence's number and then the starts, ordered by sequence, by
@@ -217,13 +206,10 @@ pub fn recover(
     motif: u64,
     first: u64,
     out: &mut [u32],
-) -> Recovered
-    ensures result_value { told_recovered result ≡ (recover_rule letters.now lengths.now template motif first out.old).told }
+) -> Result<Recovered, Refusal>
+    ensures result_value { told_answer result ≡ (recover_rule letters.now lengths.now template motif first out.old).told }
     ensures out_after { out.new ≡ (recover_rule letters.now lengths.now template motif first out.old).out }
 {
-    let checked = check_recovery(letters, lengths, template, motif);
-    match checked {
-        Checked::Refused(why) => Recovered::Refused(why),
-        Checked::Fine => recover_rows(letters, lengths, template, motif, first, out),
-    }
+    check_recovery(letters, lengths, template, motif)?;
+    recover_rows(letters, lengths, template, motif, first, out)
 }

@@ -1,15 +1,16 @@
 -- The counts at which a word has a bit, added: the places up to its lowest bit add nothing. And those of a row: what a
 -- part of it adds, one word or a stretch of them, and what comes after it add up to the whole; a stretch of empty words adds nothing.
 use mathlib.Core.Bool.{true, not}
-use mathlib.Core.List.{List, [], ◌∷◌, map}
+use mathlib.Core.List.{List, [], ◌∷◌, ◌++◌, map}
 use mathlib.Core.Path.{◌≡◌, refl, sym, ap, ◌∙◌}
 use Prim.Native.Nat.{ℕ, zero, suc, ◌+◌, ◌-◌, ◌*◌, ◌/◌, ◌%◌, ◌^◌, ◌≤◌, ◌<◌, min}
 use native.Mathlib.Decide.{dec_lt}
 use native.Mathlib.Nat.{add-zero, sub-zero, zero-add, pow-suc, div-lt_iff_lt-mul}
 use native.Mathlib.Omega.{arith}
-use lib.Count.{count_trailing_zeros}
-use lib.ListN.{length, take, drop, get_or, length-drop, get_or-eq_default}
-use lib.Seq.{length-take-le, get_or-take, get_or-drop}
+use lib.ListN.{length, take, drop, get_or, length-append, length-drop, get_or-append, get_or-eq_default, drop_of_length-le}
+use lib.Seq.{drop-cons, drop-drop, length-take-le, get_or-append-add}
+use Rattle.std.proofs.lemmas.List.{take-append-drop}
+use Rattle.rules.proofs.Over.{map_agree}
 use lib.Pow.{pow_pos, pow_mono, shr_lt}
 use borrow.Author.Tests.{not-true}
 use Rattle.rules.proofs.Tables.{sum_append}
@@ -21,7 +22,8 @@ use Rattle.rows.proofs.Bits.{getd_held, held_at, digit_none}
 use Rattle.rows.proofs.Dark.{none_set}
 use Rattle.rows.proofs.Digits.{digit, digit_past}
 use Rattle.rows.proofs.Held.{length_held}
-use Rattle.rows.proofs.Lowest.{Rest, none_left, lowest_late, lowest_set, lowest_first}
+use Rattle.rows.specs.SetBits.{Taken}
+use Rattle.rows.proofs.Lowest.{Rest, none_left, taken_late, taken_set, taken_first}
 
 -- SUMS over a run of places
 module _ (f : ℕ → ℕ) where
@@ -80,22 +82,18 @@ module _ (word : ℕ) (counts : List ℕ) where
     unfolding left_from
     left_end z = run_zeros (masked_at (held (word ∷ [])) counts) o (length counts - o) (λ i k l. masked_off i (omega arith) (none_left r z i k))
 
-    module _ (some : 0 < rest) where
+    module _ {place off : ℕ} (t : Taken rest place off) where
       -- its lowest bit is for a count that there is
-      pub next_inside : count_trailing_zeros 64 rest < length counts
-      next_inside = go (dec_lt (count_trailing_zeros 64 rest) (length counts))
+      pub next_inside : place < length counts
+      next_inside = go (dec_lt place (length counts))
         where
-          go : Dec (count_trailing_zeros 64 rest < length counts) → count_trailing_zeros 64 rest < length counts
+          go : Dec (place < length counts) → place < length counts
           go (yes l) = l
-          go (no n) = absurd (omega (arith, lowest_set r some, digit_past (length counts) word (count_trailing_zeros 64 rest) inside (omega arith)))
+          go (no n) = absurd (omega (arith, taken_set r t, digit_past (length counts) word place inside (omega arith)))
 
       -- which is the next to add
-      pub left_next : left_from o ≡ get_or counts (count_trailing_zeros 64 rest) 0 + left_from (count_trailing_zeros 64 rest + 1)
-      left_next = left_jump o (count_trailing_zeros 64 rest) few (lowest_late r some) next_inside (lowest_first r some) (lowest_set r some)
-
--- A ROW, part by part: what is left to add from word q on
-unfoldable pub row_left : List ℕ → List ℕ → ℕ → ℕ
-row_left row counts q = sum (map (masked_at (held row) counts) (run (64 * q) (length counts - 64 * q)))
+      pub left_next : left_from o ≡ get_or counts place 0 + left_from (place + 1)
+      left_next = left_jump o place few (taken_late r t) next_inside (taken_first r t) (taken_set r t)
 
 -- two functions that agree, each on a run of its own
 run_like : (f g : ℕ → ℕ) (a b n : ℕ) → ((i : ℕ) → i < n → f (a + i) ≡ g (b + i)) → map f (run a n) ≡ map g (run b n)
@@ -126,124 +124,115 @@ below_pow (suc k) m w l h =
           below_pow k m w (omega arith) (λ b i j. h b i (omega arith)))
     ]
 
--- the counts from word q up to place `to`
-abbrev pub part : List ℕ → ℕ → ℕ → List ℕ
-part counts q to = take (to - 64 * q) (drop (64 * q) counts)
+-- A ROW AND ITS COUNTS, 64 to each word but the last, which may have fewer; past them the row has no bit
+pub record Counted (row counts : List ℕ) : Type 0 where
+  pub most : 64 * length row ≤ length counts + 63
+  pub least : length counts ≤ 64 * length row
+  pub dark : (p : ℕ) → length counts ≤ p → get_or (held row) p 0 ≡ 0
 
-module _ (row counts : List ℕ) where
-  pub row_all : 0 + row_left row counts 0 ≡ sum (masked (held row) counts)
-  unfolding row_left masked
-  row_all = rw (sub-zero, zero-add)
+-- IN TWO PARTS: up to k words and their counts, and all that come after
+pub record Parts (row part rest counts near far : List ℕ) (k : ℕ) : Type 0 where
+  pub words : row ≡ part ++ rest
+  pub same : counts ≡ near ++ far
+  pub n : length part ≡ min k (length row)
+  pub m : length near ≡ min (64 * k) (length counts)
 
-  pub row_end : (q : ℕ) → length counts ≤ 64 * q → row_left row counts q ≡ 0
-  unfolding row_left run sum
-  row_end q h = let z : length counts - 64 * q ≡ 0 = omega arith in rw z
+module _ {row part rest counts near far : List ℕ} {k : ℕ} (q : Parts row part rest counts near far k) (c : Counted row counts) where
+  words_long : length row ≡ length part + length rest
+  words_long = ap length q.words ∙ length-append part rest
 
-  -- A PART, from word q up to word e
-  module _ (q e : ℕ) {to : ℕ} (ends : to ≡ min (64 * e) (length counts)) (low : 64 * q ≤ length counts) (some : q ≤ e) where
-    pub part_length : length (part counts q to) ≡ to - 64 * q
-    part_length = length-take-le (to - 64 * q) (drop (64 * q) counts) (rw length-drop (omega arith))
+  counts_long : length counts ≡ length near + length far
+  counts_long = ap length q.same ∙ length-append near far
 
-    -- words that have the bits that the row has there
-    module _ (ws : List ℕ) (same : (i : ℕ) → i < 64 * (e - q) → get_or (held ws) i 0 ≡ get_or (held row) (64 * q + i) 0) where
-      part_at : (i : ℕ) → i < to - 64 * q → masked_at (held ws) (part counts q to) (0 + i) ≡ masked_at (held row) counts (64 * q + i)
-      unfolding masked_at
-      part_at i h =
-          let z : 0 + i ≡ i = omega arith in
-          rw (z, same i (omega arith), get_or-take (to - 64 * q) (drop (64 * q) counts) i 0 h, get_or-drop (64 * q) counts i 0)
+  -- only the last words may have fewer
+  full : 0 < length far → length near ≡ 64 * length part
+  full h = omega (arith, counts_long, c.least)
 
-      -- mask its counts as the row does
-      part_masked : masked (held ws) (part counts q to) ≡ map (masked_at (held row) counts) (run (64 * q) (to - 64 * q))
-      unfolding masked
-      part_masked =
-          rw part_length
-          (run_like (masked_at (held ws) (part counts q to)) (masked_at (held row) counts) 0 (64 * q) (to - 64 * q) part_at)
+  few : length near ≤ 64 * length part
+  few = omega (arith, c.least)
 
-      part_sum : sum (masked (held ws) (part counts q to)) ≡ sum (map (masked_at (held row) counts) (run (64 * q) (to - 64 * q)))
-      part_sum = ap sum part_masked
+  bit_near : (p : ℕ) → p < 64 * length part → get_or (held row) p 0 ≡ get_or (held part) p 0
+  bit_near p h =
+      held_at row p
+      ∙ ap (λ (v : ℕ). digit v (p % 64)) (ap (λ (l : List ℕ). get_or l (p / 64) 0) q.words ∙ get_or-append part rest 0 (p / 64) (omega arith))
+      ∙ sym (held_at part p)
 
-      rest_sum : sum (map (masked_at (held row) counts) (run (64 * q + (to - 64 * q)) (length counts - to))) ≡ row_left row counts e
-      unfolding row_left run sum
-      rest_sum =
-          elim (dec_lt (length counts) (64 * e)) [
-            | yes l ↦ (
-                let z : length counts - to ≡ 0 = omega arith in
-                let y : length counts - 64 * e ≡ 0 = omega arith in
-                rw (z, y))
-            | no n ↦ (
-                let z : length counts - to ≡ length counts - 64 * e = omega arith in
-                let y : 64 * q + (to - 64 * q) ≡ 64 * e = omega arith in
-                rw (z, y))
-          ]
+  bit_far : (p : ℕ) → get_or (held row) (64 * length part + p) 0 ≡ get_or (held rest) p 0
+  bit_far p =
+      let w : (64 * length part + p) / 64 ≡ length part + p / 64 = omega arith in
+      let b : (64 * length part + p) % 64 ≡ p % 64 = omega arith in
+      held_at row (64 * length part + p)
+      ∙ rw (w, b) (ap (λ (v : ℕ). digit v (p % 64)) (ap (λ (l : List ℕ). get_or l (length part + p / 64) 0) q.words ∙ get_or-append-add part rest (p / 64) 0))
+      ∙ sym (held_at rest p)
 
-      pub part_next : row_left row counts q ≡ sum (masked (held ws) (part counts q to)) + row_left row counts e
-      unfolding row_left
-      part_next =
-          let z : length counts - 64 * q ≡ to - 64 * q + (length counts - to) = omega arith in
-          ap (λ (n : ℕ). sum (map (masked_at (held row) counts) (run (64 * q) n))) z
-          ∙ run_split (masked_at (held row) counts) (64 * q) (to - 64 * q) (length counts - to)
-          ∙ rw (part_sum, rest_sum)
+  dark_near : (p : ℕ) → length near ≤ p → get_or (held part) p 0 ≡ 0
+  dark_near p h =
+      elim (dec_lt p (64 * length part)) [
+        | yes l ↦ (sym (bit_near p l) ∙ c.dark p (omega (arith, counts_long, full)))
+        | no l ↦ get_or-eq_default (held part) 0 {n = p} (rw (length_held part) (omega arith))
+      ]
 
-  -- ONE WORD
-  module _ (q : ℕ) {to : ℕ} (e : to ≡ min (64 * q + 64) (length counts)) (low : 64 * q ≤ length counts) where
-    word_ends : to ≡ min (64 * (q + 1)) (length counts)
-    word_ends = omega arith
+  pub counted_part : Counted part near
+  counted_part = record { most = omega (arith, c.most, c.least); least = few; dark = dark_near }
 
-    word_length : length (part counts q to) ≡ to - 64 * q
-    word_length = part_length q (q + 1) word_ends low (omega arith)
+  pub counted_rest : Counted rest far
+  counted_rest = record {
+    most = omega (arith, c.most, c.least, words_long, counts_long);
+    least = omega (arith, c.least, words_long, counts_long);
+    dark = λ p h. sym (bit_far p) ∙ c.dark (64 * length part + p) (omega (arith, few, counts_long));
+  }
 
-    pub word_few : length (part counts q to) ≤ 64
-    word_few = omega (arith, word_length)
+  at_near : (i : ℕ) → i < length near → masked_at (held row) counts i ≡ masked_at (held part) near i
+  unfolding masked_at
+  at_near i h =
+      let v : get_or counts i 0 ≡ get_or near i 0 = ap (λ (l : List ℕ). get_or l i 0) q.same ∙ get_or-append near far 0 i h in
+      rw (bit_near i (omega (arith, few)), v)
 
-    word_same : (i : ℕ) → i < 64 * (q + 1 - q) → get_or (held (get_or row q 0 ∷ [])) i 0 ≡ get_or (held row) (64 * q + i) 0
-    word_same i h =
-        let c : q * 64 + i ≡ 64 * q + i = omega arith in
-        bit_at (get_or row q 0) counts i (omega arith) ∙ sym (rw c at (getd_held row q i (omega arith)))
+  at_far : (i : ℕ) → i < length far → masked_at (held row) counts (length near + i) ≡ masked_at (held rest) far (0 + i)
+  unfolding masked_at
+  at_far i h =
+      let z : 0 + i ≡ i = omega arith in
+      let v : get_or counts (length near + i) 0 ≡ get_or far i 0 = ap (λ (l : List ℕ). get_or l (length near + i) 0) q.same ∙ get_or-append-add near far i 0 in
+      let b : get_or (held row) (length near + i) 0 ≡ get_or (held rest) i 0 = rw (full (omega arith)) (bit_far i) in
+      rw (z, b, v)
 
-    pub word_next : row_left row counts q ≡ sum (masked (held (get_or row q 0 ∷ [])) (part counts q to)) + row_left row counts (q + 1)
-    word_next = part_next q (q + 1) word_ends low (omega arith) (get_or row q 0 ∷ []) word_same
+  -- what they add
+  pub sum_parts : sum (masked (held row) counts) ≡ sum (masked (held part) near) + sum (masked (held rest) far)
+  unfolding masked
+  sum_parts =
+      let z : 0 + length near ≡ length near = omega arith in
+      rw counts_long
+      (run_split (masked_at (held row) counts) 0 (length near) (length far)
+      ∙ rw (map_agree (masked_at (held row) counts) (masked_at (held part) near) 0 (length near) (λ i _ h. at_near i (omega arith)), z, run_like (masked_at (held row) counts) (masked_at (held rest) far) (length near) 0 (length far) at_far))
 
-    -- and where the row has no bit past the last count, the word is no longer than they are
-    pub word_fits : get_or row q 0 < 2 ^ 64 → ((p : ℕ) → length counts ≤ p → get_or (held row) p 0 ≡ 0)
-        → get_or row q 0 < 2 ^ length (part counts q to)
-    word_fits h dark =
-        rw word_length (below_pow 64 (to - 64 * q) (get_or row q 0) h (λ b i j.
-        let c : q * 64 + b ≡ 64 * q + b = omega arith in
-        sym (getd_held row q b j) ∙ rw c (dark (64 * q + b) (omega arith))))
+-- word q of a row and its counts, up to place `to`, and all that come after
+parts_end : (q : ℕ) (counts : List ℕ) {to : ℕ} → to ≡ min (64 * q + 64) (length counts) → 64 * q ≤ length counts → drop (64 * q + (to - 64 * q)) counts ≡ drop (64 * (q + 1)) counts
+parts_end q counts {to} e low =
+    elim (dec_lt (length counts) (64 * q + 64)) [
+      | yes l ↦ (drop_of_length-le counts {i = 64 * q + (to - 64 * q)} (omega arith) ∙ sym (drop_of_length-le counts {i = 64 * (q + 1)} (omega arith)))
+      | no l ↦ (let z : 64 * q + (to - 64 * q) ≡ 64 * (q + 1) = omega arith in ap (λ (n : ℕ). drop n counts) z)
+    ]
 
-  -- A STRETCH of words, which has counts and no bit past them, as the row does
-  module _ (q e : ℕ) {to : ℕ} (ends : to ≡ min (64 * e) (length counts)) (low : 64 * q ≤ length counts)
-      (some : q ≤ e) (inside : e ≤ length row) where
-    abbrev stretch : List ℕ
-    stretch = take (e - q) (drop q row)
+pub parts_at : (q : ℕ) (row counts : List ℕ) {to : ℕ} → q < length row → to ≡ min (64 * q + 64) (length counts) → 64 * q ≤ length counts
+    → Parts (drop q row) (get_or row q 0 ∷ []) (drop (q + 1) row) (drop (64 * q) counts) (take (to - 64 * q) (drop (64 * q) counts)) (drop (64 * (q + 1)) counts) 1
+parts_at q row counts {to} h e low =
+    let n : q + 1 ≡ suc q = omega arith in
+    let left = length-drop (64 * q) counts in
+    record {
+      words = rw n (drop-cons row q 0 h);
+      same = sym (take-append-drop (to - 64 * q) (drop (64 * q) counts)) ∙ ap (λ (l : List ℕ). take (to - 64 * q) (drop (64 * q) counts) ++ l) (drop-drop (to - 64 * q) (64 * q) counts ∙ parts_end q counts e low);
+      n = omega (arith, length-drop q row);
+      m = length-take-le (to - 64 * q) (drop (64 * q) counts) (omega (arith, left)) ∙ omega (arith, left);
+    }
 
-    stretch_length : length stretch ≡ e - q
-    stretch_length = length-take-le (e - q) (drop q row) (rw length-drop (omega arith))
+-- no counts are left
+pub none_to_add : (row counts : List ℕ) → length counts ≡ 0 → sum (masked (held row) counts) ≡ 0
+unfolding masked run sum
+none_to_add row counts z = rw z
 
-    stretch_same : (i : ℕ) → i < 64 * (e - q) → get_or (held stretch) i 0 ≡ get_or (held row) (64 * q + i) 0
-    stretch_same i h =
-        let w : q + i / 64 ≡ (64 * q + i) / 64 = omega arith in
-        let b : i % 64 ≡ (64 * q + i) % 64 = omega arith in
-        held_at stretch i
-        ∙ ap (λ (v : ℕ). digit v (i % 64)) (get_or-take (e - q) (drop q row) (i / 64) 0 (omega arith) ∙ get_or-drop q row (i / 64) 0)
-        ∙ rw (w, b) (sym (held_at row (64 * q + i)))
-
-    pub stretch_next : row_left row counts q ≡ sum (masked (held stretch) (part counts q to)) + row_left row counts e
-    stretch_next = part_next q e ends low some stretch stretch_same
-
-    pub stretch_counts : 64 * length row ≤ length counts + 63
-        → (64 * length stretch ≤ length (part counts q to) + 63) × (length (part counts q to) ≤ 64 * length stretch)
-    stretch_counts h =
-        let n = part_length q e ends low some in
-        (omega (arith, n, stretch_length), omega (arith, n, stretch_length))
-
-    pub stretch_dark : ((p : ℕ) → length counts ≤ p → get_or (held row) p 0 ≡ 0)
-        → (p : ℕ) → length (part counts q to) ≤ p → get_or (held stretch) p 0 ≡ 0
-    stretch_dark dark p h =
-        elim (dec_lt p (64 * (e - q))) [
-          | yes l ↦ (stretch_same p l ∙ dark (64 * q + p) (omega (arith, part_length q e ends low some)))
-          | no n ↦ get_or-eq_default (held stretch) 0 {n = p} (rw (length_held stretch, stretch_length) (omega arith))
-        ]
+-- ONE WORD that has no bit past its counts is no longer than they are
+pub word_fits : (word : ℕ) (counts : List ℕ) → word < 2 ^ 64 → Counted (word ∷ []) counts → word < 2 ^ length counts
+word_fits word counts h c = below_pow 64 (length counts) word h (λ b i j. sym (bit_at word counts b j) ∙ c.dark b i)
 
 -- EMPTY WORDS add nothing
 pub empty_sum : (row counts : List ℕ) → not (has_left row) ≡ true → 0 ≡ sum (masked (held row) counts)

@@ -5,12 +5,12 @@ use mathlib.Core.Path.{◌≡◌, refl, sym, ap, ◌∙◌}
 use Prim.Native.Nat.{ℕ, zero, suc, ◌+◌, ◌*◌, ◌/◌, ◌%◌, ◌^◌, ◌<◌}
 use native.Mathlib.Nat.{max-zero, zero-max, min-zero, pow-suc, mul_assoc}
 use native.Mathlib.Omega.{arith}
-use lib.Bits.{bit_and, bit_or, and_le_r, or_shifted_r}
+use lib.Bits.{bit_and, bit_or, and_le_r}
 use lib.ListN.{get_or, drop}
-use lib.Pow.{pow-add, shl_exact}
 use lib.Seq.{get_or-drop}
+use Rattle.std.specs.Int.{from_le_bytes, w64}
 use Rattle.rules.specs.Saved.{read_low, Bytes}
-use Rattle.rules.proofs.LowFirst.{bytes_drop, read_fits}
+use Rattle.rules.proofs.LowFirst.{bytes_drop}
 use Rattle.rows.specs.Bits.{held}
 use Rattle.rows.proofs.Bits.{word_bit}
 use Rattle.rows.proofs.Digits.{digit, digit_and, digit_or, digit_shr, digit_mod}
@@ -28,24 +28,11 @@ read_last (suc n) bs =
     rw (pow-suc, ← e) (sym (mul_assoc (get_or (drop 1 bs) n 0) (256 ^ n) 256)) in
     omega (arith, m, read_last n (drop 1 bs))
 
-bytes_wide : (n : ℕ) → 256 ^ n ≡ 2 ^ (8 * n)
-bytes_wide zero = refl
-bytes_wide (suc n) =
-    let e : 8 * suc n ≡ 8 * n + 8 = omega arith in
-    pow-suc 256 n ∙ ap (λ (x : ℕ). x * 256) (bytes_wide n) ∙ sym (ap (λ (x : ℕ). 2 ^ x) e ∙ pow-add 2 (8 * n) 8)
-
-pub read_first : (bs : List ℕ) {x : ℕ} → x ≡ get_or bs 0 0 → x ≡ read_low 1 bs
+-- what `from_le_bytes` makes of eight bytes
+pub read_eight : (bs : List ℕ) → from_le_bytes w64 bs ≡ read_low 8 bs
 unfolding read_low
-read_first bs e = omega arith
-
-module _ (bs : List ℕ) (bytes : Bytes bs) where
-  pub read_more : (n : ℕ) {x y : ℕ} → n < 8 → x ≡ read_low n bs → y ≡ get_or bs n 0
-      → bit_or x ((y * 2 ^ (8 * n)) % 2 ^ 64) ≡ read_low (suc n) bs
-  read_more n {x} {y} h e f =
-      let w : 256 ^ n ≡ 2 ^ (8 * n) = bytes_wide n in
-      let s : x < 2 ^ (8 * n) = omega (arith, read_fits n bs bytes) in
-      let z : (y * 2 ^ (8 * n)) % 2 ^ 64 ≡ y * 2 ^ (8 * n) = shl_exact 8 (8 * n) 64 (omega (arith, bytes n)) (omega arith) in
-      rw (z, or_shifted_r y (8 * n) x s) (sym (read_last n bs ∙ rw (w, ← e, ← f)))
+read_eight bs =
+    omega (arith, read_last 0 bs, read_last 1 bs, read_last 2 bs, read_last 3 bs, read_last 4 bs, read_last 5 bs, read_last 6 bs, read_last 7 bs)
 
 -- digit i of byte p
 pub read_digit : (n : ℕ) (bs : List ℕ) → Bytes bs → (p i : ℕ) → p < n → i < 8 → digit (read_low n bs) (8 * p + i) ≡ digit (get_or bs p 0) i

@@ -8,6 +8,7 @@ use native.Mathlib.Nat.{pow-suc, zero-add}
 use native.Mathlib.Numerals.{add-one}
 use native.Mathlib.Omega.{arith}
 use lib.Bits.{bit_or, or_add_and, and_le_l, and_le_r}
+use Rattle.std.specs.List.{fold}
 use lib.Dec.{eqb}
 use lib.ListN.{length, get_or}
 use lib.Seq.{ext_get_or}
@@ -89,3 +90,18 @@ pub map_word : (ws : List ℕ) → map (word_at ws) (run 0 (length ws)) ≡ ws
 map_word ws =
     ext_get_or 0 (map (word_at ws) (run 0 (length ws))) ws (length_map_run (word_at ws) 0 (length ws))
     (λ p l. let k : p < length ws = rw length_map_run at l in getd_map_run (word_at ws) 0 0 (length ws) p k ∙ ap (word_at ws) (zero-add p))
+
+-- some words joined to a first one
+joined_from : (a : ℕ) (ws : List ℕ) → eqb (fold bit_or a ws) 0 ≡ if (eqb a 0) (not (has_left ws)) false
+unfolding has_left
+joined_from a [] = elim (eqb a 0) as (λ b. b ≡ if b true false) [ true ↦ refl | false ↦ refl ]
+joined_from a (w ∷ ws) =
+    joined_from (bit_or a w) ws
+    ∙ rw (or_zero a w _ _ refl refl)
+    (elim (eqb a 0) as (λ b. if (if b (eqb w 0) false) (not (has_left ws)) false ≡ if b (not (if (eqb w 0) (has_left ws) true)) false) [
+      | true ↦ elim (eqb w 0) as (λ b. if b (not (has_left ws)) false ≡ not (if b (has_left ws) true)) [ true ↦ refl | false ↦ refl ]
+      | false ↦ refl
+    ])
+
+pub joined_words : (ws : List ℕ) {a : ℕ} → a ≡ fold bit_or 0 ws → eqb a 0 ≡ not (has_left ws)
+joined_words ws e = rw e (joined_from 0 ws)

@@ -6,17 +6,17 @@ use mathlib.Core.Path.{◌≡◌, refl, sym, ap, ◌∙◌}
 use Prim.Native.Nat.{ℕ, ◌+◌, ◌-◌, ◌*◌, ◌/◌, ◌%◌, ◌^◌, ◌≤◌, ◌<◌}
 use native.Mathlib.Omega.{arith}
 use lib.Bits.{bit_and, bit_or}
-use lib.Count.{count_trailing_zeros}
 use lib.Dec.{eqb}
 use lib.ListN.{length, take, get_or, set}
 use Rattle.rows.specs.Bits.{held}
 use Rattle.rows.specs.Flags.{bit}
-use Rattle.rows.specs.Set.{row_marks, first_word, bits_at, is_marked, Bounded, Firsts, tally, extended_at, is_extended_marked}
-use Rattle.rows.proofs.Lowest.{Walk, walk_begin, walk_turn, lowest_late}
+use Rattle.rows.specs.Set.{row_marks, words_of, first_word, bits_at, is_marked, Bounded, Firsts, tally, extended_at, is_extended_marked}
+use Rattle.rows.specs.SetBits.{Taken}
+use Rattle.rows.proofs.Lowest.{Walk, walk_begin, walk_take, taken_late}
 use Rattle.rows.proofs.Sets.{kept_from, extended_is_at, bits_are_at, turn_lies}
 use Rattle.rows.proofs.Single.{short_first, down_alone, one_kept}
 use Rattle.rows.proofs.Tally.{tally_append, tally_less, tally_turn, tally_end, tally_most}
-use Rattle.rows.proofs.MarksWalk.{Walked, Left, Next, walked_none, walked_end, walked_turn, left_none, left_end, left_turn, no_rest, next, mark_none, mark_left}
+use Rattle.rows.proofs.MarksWalk.{Walked, Left, Next, walked_none, walked_end, walked_turn, left_none, left_end, left_turn, no_rest, next_taken, mark_none, mark_left}
 
 -- what is done for the first `upto` marks of a word
 pub record KeptTo (i : ℕ) (ns ls ws : List ℕ) (w : ℕ) (x y : List ℕ) (left lost upto : ℕ) : Type 0 where
@@ -69,32 +69,29 @@ module _ (i : ℕ) (ns ls ws : List ℕ) (w : ℕ) (fits : get_or ws w 0 < 2 ^ 6
       end_walked = walked_end _ _ _ _ _ _ _ g.so_far.walked (w * 64 + 64) off
 
     -- A TURN: the sequence with the lowest mark that is left
-    module _ (some : 0 < rest) (firsts : List ℕ) (bounded : Bounded ns ws) (laid : Firsts ns firsts) (in-marks : w < row_marks) where
-      pub going_next : Next ns firsts ws w (w * 64 + g.upto) (w * 64 + count_trailing_zeros 64 rest)
-      going_next = next ws w g.rests some ns firsts bounded laid in-marks
+    module _ {place off : ℕ} (t : Taken rest place off) (firsts : List ℕ) (bounded : Bounded ns ws) (laid : Firsts ns firsts) (in-marks : w < row_marks) where
+      pub going_next : Next ns firsts ws w (w * 64 + g.upto) (w * 64 + place)
+      going_next = next_taken ws w g.rests t ns firsts bounded laid in-marks
 
-      z : ℕ
-      z = count_trailing_zeros 64 rest
+      late : g.upto ≤ place
+      late = taken_late g.rests t
 
-      late : g.upto ≤ count_trailing_zeros 64 rest
-      late = lowest_late g.rests some
-
-      new_skips : (k : ℕ) → w * 64 + g.upto ≤ k → k < w * 64 + count_trailing_zeros 64 rest → is_extended_marked i ns ls ws k ≡ false
+      new_skips : (k : ℕ) → w * 64 + g.upto ≤ k → k < w * 64 + place → is_extended_marked i ns ls ws k ≡ false
       new_skips k l u = mark_none i ns ls ws k (going_next.skips k l u)
 
-      module _ (out : List ℕ) (stays : take (first_word ns (w * 64 + count_trailing_zeros 64 rest)) out ≡ take (first_word ns (w * 64 + count_trailing_zeros 64 rest)) y)
-          (here : bits_at ns (w * 64 + count_trailing_zeros 64 rest) out ≡ extended_at i ns ls ws (w * 64 + count_trailing_zeros 64 rest))
-          {found : Bool} {v u : ℕ} (e : v ≡ bit found) (f : is_extended_marked i ns ls ws (w * 64 + count_trailing_zeros 64 rest) ≡ found) (o : u ≡ bit (not found)) where
-        pub going_turn : Going i ns ls ws w x out (bit_and rest (rest - 1)) (bit_or left ((v * 2 ^ count_trailing_zeros 64 rest) % 2 ^ 64)) (lost + u)
+      module _ (out : List ℕ) (stays : take (first_word ns (w * 64 + place)) out ≡ take (first_word ns (w * 64 + place)) y)
+          (here : bits_at ns (w * 64 + place) out ≡ extended_at i ns ls ws (w * 64 + place))
+          {found : Bool} {v u : ℕ} (e : v ≡ bit found) (f : is_extended_marked i ns ls ws (w * 64 + place) ≡ found) (o : u ≡ bit (not found)) where
+        pub going_turn : Going i ns ls ws w x out off (bit_or left ((v * 2 ^ place) % 2 ^ 64)) (lost + u)
         going_turn =
-            let q : w * 64 + count_trailing_zeros 64 rest + 1 ≡ w * 64 + (count_trailing_zeros 64 rest + 1) = omega arith in
-            let a = tally_turn (is_extended_marked i ns ls ws) (w * 64) g.upto (count_trailing_zeros 64 rest) late new_skips in
-            let b = tally_turn (is_marked ws) (w * 64) g.upto (count_trailing_zeros 64 rest) late going_next.skips in
-            let c : bit (is_marked ws (w * 64 + count_trailing_zeros 64 rest)) ≡ 1 = ap bit going_next.marked in
-            let d : bit (is_extended_marked i ns ls ws (w * 64 + count_trailing_zeros 64 rest)) ≡ bit found = ap bit f in
-            walk_turn _ _ g some (record {
+            let q : w * 64 + place + 1 ≡ w * 64 + (place + 1) = omega arith in
+            let a = tally_turn (is_extended_marked i ns ls ws) (w * 64) g.upto place late new_skips in
+            let b = tally_turn (is_marked ws) (w * 64) g.upto place late going_next.skips in
+            let c : bit (is_marked ws (w * 64 + place)) ≡ 1 = ap bit going_next.marked in
+            let d : bit (is_extended_marked i ns ls ws (w * 64 + place)) ≡ bit found = ap bit f in
+            walk_take _ _ g t (record {
               walked = rw q at (walked_turn _ _ _ _ _ _ _ g.so_far.walked _ going_next.skips out (omega arith) going_next.inside stays here);
-              lefts = rw q at (left_turn _ _ _ _ g.so_far.lefts _ new_skips going_next.later (omega arith) going_next.in_word e f (count_trailing_zeros 64 rest) (omega arith));
+              lefts = rw q at (left_turn _ _ _ _ g.so_far.lefts _ new_skips going_next.later (omega arith) going_next.in_word e f place (omega arith));
               tallied = omega (arith, a, b, c, d, o, one_of_two found, g.so_far.tallied);
             })
 
@@ -103,31 +100,31 @@ pub record Kept (i : ℕ) (ns ls ws : List ℕ) (w : ℕ) (x y : List ℕ) (rest
   pub lost : ℕ
   pub going : Going i ns ls ws w x y rest left lost
 
-module _ (i : ℕ) (ns ls ws : List ℕ) (w : ℕ) (fits : get_or ws w 0 < 2 ^ 64) (x y : List ℕ) (rest left : ℕ) (g : Kept i ns ls ws w x y rest left) (some : 0 < rest)
-    (firsts : List ℕ) (laid : Firsts ns firsts) (short : get_or firsts (length firsts - 1) 0 ≡ 1) (bounded : Bounded ns ws) (in-marks : w < row_marks)
+module _ (i : ℕ) (ns ls ws : List ℕ) (w : ℕ) (fits : get_or ws w 0 < 2 ^ 64) (x y : List ℕ) (rest left : ℕ) (g : Kept i ns ls ws w x y rest left) {place off : ℕ} (t : Taken rest place off)
+    (firsts : List ℕ) (laid : Firsts ns firsts) (short : (k : ℕ) → k < length ns → words_of (get_or ns k 0) ≡ 1) (bounded : Bounded ns ws) (in-marks : w < row_marks)
     (room : first_word ns (length ns) ≤ length ws) where
-  next_mark : Next ns firsts ws w (w * 64 + g.going.upto) (w * 64 + count_trailing_zeros 64 rest)
-  next_mark = going_next i ns ls ws w fits x y rest left g.lost g.going some firsts bounded laid in-marks
+  next_mark : Next ns firsts ws w (w * 64 + g.going.upto) (w * 64 + place)
+  next_mark = going_next i ns ls ws w fits x y rest left g.lost g.going t firsts bounded laid in-marks
 
   -- the word of the sequence with the lowest mark that is left
-  module _ {at : ℕ} (is : at ≡ row_marks + w * 64 + count_trailing_zeros 64 rest) where
-    begins : at ≡ first_word ns (w * 64 + count_trailing_zeros 64 rest)
-    begins = omega (arith, is, short_first ns (laid.short short) (w * 64 + count_trailing_zeros 64 rest) (omega (arith, next_mark.inside)))
+  module _ {at : ℕ} (is : at ≡ row_marks + w * 64 + place) where
+    begins : at ≡ first_word ns (w * 64 + place)
+    begins = omega (arith, is, short_first ns short (w * 64 + place) (omega (arith, next_mark.inside)))
 
-    ends : at + 1 ≡ first_word ns (w * 64 + count_trailing_zeros 64 rest + 1)
-    ends = omega (arith, is, short_first ns (laid.short short) (w * 64 + count_trailing_zeros 64 rest + 1) (omega (arith, next_mark.inside)))
+    ends : at + 1 ≡ first_word ns (w * 64 + place + 1)
+    ends = omega (arith, is, short_first ns short (w * 64 + place + 1) (omega (arith, next_mark.inside)))
 
     pub word_in : at < length ws
     word_in = omega (arith, (turn_lies ns _ next_mark.inside begins ends).1, room)
 
     pub kept_turn : i < 64 → length ls ≡ length ws → length y ≡ length ws → get_or ls at 0 < 2 ^ 64 → get_or ws at 0 < 2 ^ 64
         → {v : ℕ} → v ≡ bit (not (eqb (bit_and (get_or ws at 0) (get_or ls at 0 / 2 ^ i)) 0))
-        → Kept i ns ls ws w x (set y at (bit_and (get_or ws at 0) (get_or ls at 0 / 2 ^ i))) (bit_and rest (rest - 1)) (bit_or left ((v * 2 ^ count_trailing_zeros 64 rest) % 2 ^ 64))
+        → Kept i ns ls ws w x (set y at (bit_and (get_or ws at 0) (get_or ls at 0 / 2 ^ i))) off (bit_or left ((v * 2 ^ place) % 2 ^ 64))
     kept_turn s l o fl fw e =
         let found = not (eqb (bit_and (get_or ws at 0) (get_or ls at 0 / 2 ^ i)) 0) in
         let k = one_kept at (at + 1) i ls ws y (omega arith) s (omega (arith, word_in)) (omega (arith, word_in)) (omega (arith, word_in)) fl fw (down_alone i (get_or ls at 0)) refl in
         let z = extended_is_at ns _ next_mark.inside begins ends i ls ws in record {
           lost = g.lost + bit (not found);
-          going = going_turn i ns ls ws w fits x y rest left g.lost g.going some firsts bounded laid in-marks _ (kept_from _ _ begins k.0.0)
+          going = going_turn i ns ls ws w fits x y rest left g.lost g.going t firsts bounded laid in-marks _ (kept_from _ _ begins k.0.0)
               (sym (bits_are_at ns _ next_mark.inside begins ends _) ∙ k.1.0 ∙ z) e (mark_left i ns ls ws _ next_mark.marked k.1.1 z) refl;
         }

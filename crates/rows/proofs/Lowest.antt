@@ -6,6 +6,7 @@ use native.Mathlib.Decide.{dec_lt}
 use native.Mathlib.Omega.{arith}
 use lib.Bits.{bit_and}
 use lib.Count.{count_trailing_zeros}
+use Rattle.rows.specs.SetBits.{Taken}
 use Rattle.rows.proofs.Digits.{digit}
 use Rattle.rows.proofs.Bits.{digit_none}
 use Rattle.rows.proofs.Zeros.{zeros_below, zeros_at, zeros_least, cleared_to, cleared_past, cleared_less}
@@ -42,7 +43,7 @@ module _ {word e rest : ℕ} (r : Rest word e rest) where
     lowest_set = sym (r.stays (count_trailing_zeros 64 rest) lowest_late) ∙ zeros_at rest some r.fits
 
     pub lowest_first : (b : ℕ) → e ≤ b → b < count_trailing_zeros 64 rest → digit word b ≡ 0
-    lowest_first b l u = sym (r.stays b l) ∙ zeros_below rest b u
+    lowest_first b l u = sym (r.stays b l) ∙ zeros_below rest some r.fits b u
 
     -- what is left without it, which is less
     pub lowest_off : Rest word (count_trailing_zeros 64 rest + 1) (bit_and rest (rest - 1))
@@ -54,6 +55,20 @@ module _ {word e rest : ℕ} (r : Rest word e rest) where
 
     pub lowest_less : bit_and rest (rest - 1) < rest
     lowest_less = cleared_less rest some r.fits
+
+-- THE LOWEST TAKEN OFF
+module _ {word e rest : ℕ} (r : Rest word e rest) {place off : ℕ} (t : Taken rest place off) where
+  pub taken_late : e ≤ place
+  taken_late = rw t.lowest (lowest_late r t.some)
+
+  pub taken_in : place < 64
+  taken_in = rw t.lowest (lowest_in r t.some)
+
+  pub taken_set : digit word place ≡ 1
+  taken_set = rw t.lowest (lowest_set r t.some)
+
+  pub taken_first : (b : ℕ) → e ≤ b → b < place → digit word b ≡ 0
+  taken_first = rw t.lowest (lowest_first r t.some)
 
 -- HOW FAR A WALK HAS COME: what is left of the word, and what is done for the digits that are gone
 pub record Walk (done : ℕ → Type 0) (word rest : ℕ) : Type 0 where
@@ -70,5 +85,13 @@ walk_turn done before {word} {rest} g some d = record {
   upto = count_trailing_zeros 64 rest + 1;
   high = omega (arith, lowest_in g.rests some);
   rests = lowest_off g.rests some;
+  so_far = d;
+}
+
+pub walk_take : (done before : ℕ → Type 0) {word rest place off : ℕ} → Walk before word rest → Taken rest place off → done (place + 1) → Walk done word off
+walk_take done before g t d = record {
+  upto = _;
+  high = omega (arith, taken_in g.rests t);
+  rests = rw (t.off, t.lowest) (lowest_off g.rests t.some);
   so_far = d;
 }

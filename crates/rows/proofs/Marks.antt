@@ -59,9 +59,6 @@ module _ (ns x y : List ℕ) (w v : ℕ) (s : w < row_marks) (stays : take (firs
 pub marked_none : (h : ℕ → Bool) (x : List ℕ) → Marked h x 0
 marked_none h x = record { same = λ k l. absurd (omega arith) }
 
-pub marked_end : (h : ℕ → Bool) (x : List ℕ) (k n : ℕ) → k ≡ n → Marked h x k → Marked h x n
-marked_end h x k n e q = rw e at q
-
 -- a row has room for the marks, and so has each that is as long
 module _ (ns : List ℕ) (k : ℕ) {a b n m : ℕ} (e : a ≡ b) (f : b ≡ n) (g : n ≡ m) (h : first_word ns k ≤ m) where
   pub marks_in : row_marks ≤ a

@@ -16,6 +16,7 @@ use Rattle.rows.specs.Flags.{bit, has_left}
 use Rattle.rows.specs.Set.{row_marks, first_word, bits_at, is_marked, Bounded, Firsts, words_of, is_extended_marked, extended_at}
 use Rattle.rows.proofs.Digits.{digit, digit_or, digit_mod, digit_past, digit_shl_in, digit_shl_out}
 use Rattle.rows.proofs.Bits.{getd_held, digit_none, bit_most}
+use Rattle.rows.specs.SetBits.{Taken}
 use Rattle.rows.proofs.Lowest.{Rest, none_left, lowest_late, lowest_in, lowest_set, lowest_first}
 use Rattle.rows.proofs.Sets.{first_least, first_most, between_kept, take_less}
 
@@ -163,6 +164,10 @@ module _ (row : List ℕ) (w : ℕ) {e rest : ℕ} (r : Rest (get_or row w 0) e 
           begins = t.same (w * 64 + count_trailing_zeros 64 rest) (omega arith);
           ends = t.same (w * 64 + count_trailing_zeros 64 rest + 1) (omega arith);
         }
+
+  -- the same where it is taken off
+  pub next_taken : {place off : ℕ} → Taken rest place off → (ns firsts : List ℕ) → Bounded ns row → Firsts ns firsts → w < row_marks → Next ns firsts row w (w * 64 + e) (w * 64 + place)
+  next_taken t = rw t.lowest (next t.some)
 
 -- A NEW MARK: only of a sequence that had one, and there where a bit is left
 module _ (i : ℕ) (ns ls ws : List ℕ) (k : ℕ) where

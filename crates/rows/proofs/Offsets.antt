@@ -6,15 +6,14 @@ use Prim.Native.Nat.{ℕ, zero, suc, ◌+◌, ◌-◌, ◌*◌, ◌≤◌, ◌<�
 use native.Mathlib.Decide.{dec_lt}
 use native.Mathlib.Omega.{arith}
 use lib.Dec.{eqb}
-use lib.ListN.{length, take, drop, get_or, set, length-set}
+use lib.ListN.{length, take, drop, get_or, set}
 use lib.Seq.{drop-drop, get_or-set_same, get_or-set_other}
-use mir.Val.{bool_byte}
 use borrow.Author.Tests.{eqb-true}
 use Rattle.rules.specs.Limits.{sequence_set_sequences}
 use Rattle.rules.specs.Lists.{sum}
 use Rattle.rules.specs.Sequences.{split}
 use Rattle.rows.specs.Rows.{lettered}
-use Rattle.rows.specs.Set.{row_marks, words_of, first_word, between, lettered_at, Firsts, Offsets}
+use Rattle.rows.specs.Set.{row_marks, words_of, first_word, between, lettered_at, Offsets}
 use Rattle.rows.proofs.Sets.{first_next}
 
 -- the letters before sequence k
@@ -95,22 +94,6 @@ short_more ns k true q {v} e = record {
         | yes m ↦ q.one refl j m
         | no m ↦ (let y : k ≡ j = omega arith in rw (← y) (sym e ∙ eqb-true v 1 z))
       ];
-}
-
-one_true : (b : Bool) → bool_byte b ≡ 1 → b ≡ true
-one_true true e = refl
-one_true false e = absurd (omega arith)
-
--- the table with its last number
-pub tabled_firsts : (ns t : List ℕ) (k : ℕ) → k ≡ length ns → length ns + 1 < length t → Tabled (first_word ns) k t → (short : Bool) → Short ns k short
-    → Firsts ns (set t (length t - 1) (bool_byte short))
-tabled_firsts ns t k e h q short s = record {
-  long = rw (length-set t (length t - 1) (bool_byte short)) h;
-  same = λ j l. get_or-set_other t (length t - 1) j (bool_byte short) 0 (λ z. omega arith) ∙ q.same j (omega arith);
-  short = λ z j l.
-      let y : get_or (set t (length t - 1) (bool_byte short)) (length (set t (length t - 1) (bool_byte short)) - 1) 0 ≡ bool_byte short =
-      rw (length-set t (length t - 1) (bool_byte short)) (get_or-set_same t (length t - 1) (bool_byte short) 0 (omega arith)) in
-      s.one (one_true short (sym y ∙ z)) j (omega arith);
 }
 
 pub tabled_offsets : (ns t : List ℕ) (k : ℕ) → k ≡ length ns → length ns < length t → Tabled (offset_of ns) k t → Offsets ns t

@@ -21,23 +21,23 @@ none_kept word vs ws e n =
     masked_off (held (word ∷ [])) vs o z ∙ sym (masked_off (held (word ∷ [])) ws o z))
 
 -- A TURN, at the places from `from` up to `to`
-module _ (row l : List ℕ) (from : ℕ) {to : ℕ} (whole : from % 64 ≡ 0) (inside : from < length l) (e : to ≡ min (from + 64) (length l))
+module _ (row l : List ℕ) (q from : ℕ) {to : ℕ} (at : from ≡ 64 * q) (inside : from < length l) (e : to ≡ min (from + 64) (length l))
     (x : List ℕ) (long : length x ≡ length l) where
   pub part_length : length (mid_of from (to - from) x) ≡ to - from
   part_length = mid_len from to x (omega arith)
 
   module _ (ys : List ℕ)
-      (q : masked (held (get_or row (from / 64) 0 ∷ [])) ys ≡ masked (held (get_or row (from / 64) 0 ∷ [])) (replicate (length (mid_of from (to - from) x)) 1))
+      (ones : masked (held (get_or row q 0 ∷ [])) ys ≡ masked (held (get_or row q 0 ∷ [])) (replicate (length (mid_of from (to - from) x)) 1))
       (before : (p : ℕ) → p < min from (length l) → masked_at (held row) x p ≡ masked_at (held row) (replicate (length l) 1) p) where
     abbrev word : List ℕ
-    word = held (get_or row (from / 64) 0 ∷ [])
+    word = held (get_or row q 0 ∷ [])
 
     abbrev y : List ℕ
     y = put_mid from (to - from) x ys
 
     written_length : length ys ≡ to - from
     written_length =
-        sym (length_masked word ys) ∙ ap length q ∙ length_masked word (replicate (length (mid_of from (to - from) x)) 1)
+        sym (length_masked word ys) ∙ ap length ones ∙ length_masked word (replicate (length (mid_of from (to - from) x)) 1)
         ∙ length-replicate (length (mid_of from (to - from) x)) 1 ∙ part_length
 
     front_length : length (take from x) ≡ from
@@ -56,9 +56,9 @@ module _ (row l : List ℕ) (from : ℕ) {to : ℕ} (whole : from % 64 ≡ 0) (i
     word_bit : (p : ℕ) → from ≤ p → p < to → get_or word (p - from) 0 ≡ get_or (held row) p 0
     word_bit p h u =
         let z : 0 * 64 + (p - from) ≡ p - from = omega arith in
-        let w : from / 64 ≡ p / 64 = omega arith in
+        let w : q ≡ p / 64 = omega arith in
         let b : p - from ≡ p % 64 = omega arith in
-        rw z at (getd_held (get_or row (from / 64) 0 ∷ []) 0 (p - from) (omega arith)) ∙ rw (w, b) (sym (held_at row p))
+        rw z at (getd_held (get_or row q 0 ∷ []) 0 (p - from) (omega arith)) ∙ rw (w, b) (sym (held_at row p))
 
     here : (p : ℕ) → from ≤ p → p < to → masked_at (held row) y p ≡ masked_at (held row) (replicate (length l) 1) p
     unfolding masked_at
@@ -67,7 +67,7 @@ module _ (row l : List ℕ) (from : ℕ) {to : ℕ} (whole : from % 64 ≡ 0) (i
         let a : ◌≡◌ {A = ℕ} (get_or (replicate n 1) (p - from) 0) 1 = get_or-replicate n (p - from) 1 0 (omega (arith, part_length)) in
         let b : ◌≡◌ {A = ℕ} (get_or (replicate (length l) 1) p 0) 1 = get_or-replicate (length l) p 1 0 (omega arith) in
         let w : masked_at word ys (p - from) ≡ masked_at word (replicate n 1) (p - from) =
-        sym (getd_masked word ys (p - from)) ∙ ap (λ (z : List ℕ). get_or z (p - from) 0) q ∙ getd_masked word (replicate n 1) (p - from) in
+        sym (getd_masked word ys (p - from)) ∙ ap (λ (z : List ℕ). get_or z (p - from) 0) ones ∙ getd_masked word (replicate n 1) (p - from) in
         rw (at_word p h u, ← (word_bit p h u)) (w ∙ rw (a, b))
 
     pub ones_turn : (p : ℕ) → p < min (from + 64) (length l) → masked_at (held row) y p ≡ masked_at (held row) (replicate (length l) 1) p

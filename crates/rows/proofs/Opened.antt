@@ -1,23 +1,20 @@
 -- A gap opened in one word: its digits are the bits, so a shift of the word is a shift of the bits, and what leaves the word is lost.
-use mathlib.Core.List.{List, [], ◌∷◌, map}
+use mathlib.Core.List.{[], ◌∷◌, map}
 use mathlib.Core.Path.{◌≡◌, sym, ap, ◌∙◌}
 use Prim.Native.Nat.{ℕ, ◌+◌, ◌-◌, ◌*◌, ◌%◌, ◌^◌, ◌≤◌, ◌<◌}
 use native.Mathlib.Decide.{dec_lt}
 use native.Mathlib.Omega.{arith}
 use lib.Bits.{bit_or}
-use lib.ListN.{length, take, drop, get_or, set, length-set}
-use lib.Seq.{take-set-le, drop-set-lt, get_or-set_same, lt-length-set}
+use lib.ListN.{get_or}
 use Rattle.rules.specs.Lists.{run}
 use Rattle.rows.specs.Bits.{held}
 use Rattle.rows.specs.Flags.{ago}
-use Rattle.rows.specs.Rows.{either, behind_at, behind, window}
-use Rattle.rows.specs.Set.{between}
+use Rattle.rows.specs.Rows.{either, behind_at, behind}
 use Rattle.rows.specs.Words.{either_word}
 use Rattle.rows.proofs.Bits.{digit_none, getd_held, held_run, either_row}
 use Rattle.rows.proofs.Digits.{digit, digit_mod, digit_shl_in, digit_shl_out}
 use Rattle.rows.proofs.Gaps.{ago_in, ago_out}
 use Rattle.rows.proofs.Held.{length_held}
-use Rattle.rows.proofs.Single.{one_word}
 
 pub joined_word : (w v : ℕ) → held (bit_or w v ∷ []) ≡ either (held (w ∷ [])) (held (v ∷ []))
 unfolding either_word run
@@ -43,14 +40,3 @@ shifted_word w d = word_behind (w * 2 ^ d % 2 ^ 64) w d (λ b h.
 
 pub shifted_out : (w d : ℕ) → 64 ≤ d → held (0 ∷ []) ≡ behind d (held (w ∷ []))
 shifted_out w d h = word_behind 0 w d (λ b l. digit_none b ∙ sym (ago_out (held (w ∷ [])) b d (omega arith)))
-
--- WHERE IT STANDS: a sequence of one word, as the code writes it
-module _ (a e d n : ℕ) (l : List ℕ) (k : e - a ≡ 1) (h : e ≤ length l) where
-  pub one_opened : (v : ℕ) → held (v ∷ []) ≡ window d n (held (get_or l a 0 ∷ []))
-      → (take a (set l a v) ≡ take a l) × (drop e (set l a v) ≡ drop e l) × (length (set l a v) ≡ length l) × (held (between a e (set l a v)) ≡ window d n (held (between a e l)))
-  one_opened v f =
-      let i : a < length l = omega arith in
-      let p : between a e (set l a v) ≡ v ∷ [] =
-      one_word a e (set l a v) k (lt-length-set l a v i) ∙ ap (λ (x : ℕ). x ∷ []) (get_or-set_same l a v 0 i) in
-      let q : held (v ∷ []) ≡ window d n (held (between a e l)) = rw (one_word a e l k i) f in
-      (take-set-le a l a v (omega arith), drop-set-lt e l a v (omega arith), length-set l a v, ap held p ∙ q)

@@ -9,8 +9,12 @@ use native.Mathlib.Nat.{zero-max, max-zero, div-one}
 use native.Mathlib.Omega.{arith}
 use lib.Bits.{bit_and, bit_or, bit_xor, differ}
 use lib.Dec.{eqb}
-use lib.ListN.{length, take, drop, get_or, get_or-eq_default}
-use lib.Seq.{get_or-take, get_or-drop}
+use lib.ListN.{length, take, drop, get_or, get_or-eq_default, get_or-append, length-append}
+use lib.Seq.{get_or-take, get_or-drop, drop-drop}
+use Rattle.std.proofs.lemmas.Grind.{get_or_default_zero}
+use Rattle.std.proofs.lemmas.List.{get_or_push}
+use Rattle.std.specs.List.{push}
+use Rattle.std.specs.Simd.{first_chunks}
 use borrow.Author.Tests.{eqb-true}
 use Rattle.rules.specs.Letters.{value, is_letter, letter}
 use Rattle.rules.specs.Lists.{if}
@@ -60,21 +64,48 @@ module _ (i : ℕ) (s : List ℕ) where
       let o : p + 0 ≡ p = omega arith in rw (← z, o, v, div-one) (omega (arith, ap (λ (n : ℕ). n / 2 ^ i) f))) before
 
   -- eight of them
-  pub plane_eight : Bytes s → (p q w : ℕ) {x v : ℕ} → q ≡ p + 8 → q ≤ length s → i < 8 → x ≡ read_low 8 (take (q - p) (drop p s)) / 2 ^ i
+  pub plane_eight : Bytes s → (p q w : ℕ) {x v : ℕ} → q ≡ p + 8 → q ≤ length s → i < 8 → x ≡ read_low 8 (take 8 (drop p s)) / 2 ^ i
       → (v < 256) × ((b : ℕ) → b < 8 → get_or (held (v ∷ [])) b 0 ≡ get_or (held (x ∷ [])) (8 * b) 0) → Plane q w
       → Plane p (bit_or ((w * 2 ^ 8) % 2 ^ 64) v)
   plane_eight bytes p q w {x} {v} e h n f g before =
-      let part = take (q - p) (drop p s) in
+      let part = take 8 (drop p s) in
       plane_turn 8 p q w v e g.0
       (λ b l. let o : i + 8 * b ≡ 8 * b + i = omega arith in
       sym (word_bit v b (omega arith)) ∙ g.1 b l ∙ word_bit x (8 * b) (omega arith)
       ∙ ap (λ (y : ℕ). digit y (8 * b)) f ∙ digit_shr (read_low 8 part) i (8 * b) ∙ ap (digit (read_low 8 part)) o
-      ∙ read_digit 8 part (bytes_take (q - p) (drop p s) (bytes_drop p s bytes)) b i l n
-      ∙ ap (λ (y : ℕ). digit y i) (get_or-take (q - p) (drop p s) b 0 (omega arith) ∙ get_or-drop p s b 0)) before
+      ∙ read_digit 8 part (bytes_take 8 (drop p s) (bytes_drop p s bytes)) b i l n
+      ∙ ap (λ (y : ℕ). digit y i) (get_or-take 8 (drop p s) b 0 (omega arith) ∙ get_or-drop p s b 0)) before
 
   -- after the last turn
   pub plane_whole : (p w : ℕ) → p ≡ 0 → Plane p w → Plane 0 w
   plane_whole p w e h = rw e at h
+
+-- WHAT IS READ FROM BEHIND: what is left to read are the f k, one after another
+pub record Reads {X : Type 0} (f : ℕ → X) (r : List X) : Type 0 where
+  pub same : (k : ℕ) (d : X) → k < length r → get_or r k d ≡ f k
+
+-- a turn takes the last
+pub reads_turn : {X : Type 0} (f : ℕ → X) {r rest : List X} {x : X} → Reads f r → r ≡ push rest x → (x ≡ f (length rest)) × (length r ≡ length rest + 1) × Reads f rest
+reads_turn {X} f {r} {rest} {x} e q =
+    let n : length r ≡ length rest + 1 = omega (arith, ap length q, length-append rest (x ∷ [])) in (
+      sym (ap (λ (l : List X). get_or l (length rest) x) q ∙ get_or_push rest x x (length rest) refl) ∙ e.same (length rest) x (omega arith),
+      n,
+      record { same = λ k d h. sym (ap (λ (l : List X). get_or l k d) q ∙ get_or-append rest (x ∷ []) d k h) ∙ e.same k d (omega arith) },
+    )
+
+-- letters from place p on, and eights of them
+pub reads_letters : (s : List ℕ) (p : ℕ) → Reads (λ k. get_or s (p + k) 0) (drop p s)
+reads_letters s p = record { same = λ k d h. get_or_default_zero (drop p s) k d h ∙ get_or-drop p s k 0 }
+
+chunk_at : (m k : ℕ) (s d : List ℕ) → k < m → get_or (first_chunks 8 m s) k d ≡ take 8 (drop (8 * k) s)
+chunk_at zero k s d h = absurd (omega arith)
+chunk_at (suc m) zero s d h = refl
+chunk_at (suc m) (suc k) s d h =
+    let e : 8 * suc k ≡ 8 + 8 * k = omega arith in
+    chunk_at m k (drop 8 s) d (omega arith) ∙ rw e (ap (take 8) (drop-drop (8 * k) 8 s))
+
+pub reads_eights : (s : List ℕ) (m : ℕ) → length (first_chunks 8 m s) ≡ m → Reads (λ k. take 8 (drop (8 * k) s)) (first_chunks 8 m s)
+reads_eights s m n = record { same = λ k d h. chunk_at m k s d (omega (arith, n)) }
 
 -- THE LETTERS are four bytes
 letters_are : (P : ℕ → Type 0) → P 65 → P 67 → P 71 → P 84 → (y : ℕ) → is_letter y ≡ true → P y

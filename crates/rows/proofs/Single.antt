@@ -64,3 +64,28 @@ module _ (a e i : ℕ) (ls ws out : List ℕ) (n : e - a ≡ 1) (s : i < 64) (hl
         (take-set-le a out a v (omega arith), length-set out a v),
         (ap held p ∙ q, f ∙ left_word v (omega (arith, and_le_l (get_or ws a 0) d)) ∙ ap has_left q),
       )
+
+-- A ROW OF ONE WORD
+pub alone : (l : List ℕ) → length l ≡ 1 → l ≡ get_or l 0 0 ∷ []
+alone [] n = absurd (omega arith)
+alone (w ∷ []) n = refl
+alone (w ∷ v ∷ l) n = absurd (omega arith)
+
+pub set_alone : (l : List ℕ) (v : ℕ) → length l ≡ 1 → set l 0 v ≡ v ∷ []
+set_alone [] v n = absurd (omega arith)
+set_alone (w ∷ []) v n = refl
+set_alone (w ∷ u ∷ l) v n = absurd (omega arith)
+
+-- with one letter more
+pub alone_kept : (i : ℕ) (ls ws out : List ℕ) → length ls ≡ 1 → length ws ≡ 1 → length out ≡ 1 → i < 64 → get_or ls 0 0 < 2 ^ 64 → get_or ws 0 0 < 2 ^ 64
+    → (held (set out 0 (bit_and (get_or ws 0 0) (get_or ls 0 0 / 2 ^ i))) ≡ extended i (held ls) (held ws))
+    × (not (eqb (bit_and (get_or ws 0 0) (get_or ls 0 0 / 2 ^ i)) 0) ≡ has_left (held (set out 0 (bit_and (get_or ws 0 0) (get_or ls 0 0 / 2 ^ i)))))
+alone_kept i ls ws out m n o s fl fw =
+    let x = get_or ls 0 0 in
+    let w = get_or ws 0 0 in
+    let v = bit_and w (x / 2 ^ i) in
+    let q : held (v ∷ []) ≡ extended i (held (x ∷ [])) (held (w ∷ [])) = rw (down_alone i x) (kept_word i x w s fl) in
+    let a : held (set out 0 v) ≡ held (v ∷ []) = ap held (set_alone out v o) in (
+      a ∙ q ∙ ap (λ (l : List ℕ). extended i (held l) (held (w ∷ []))) (sym (alone ls m)) ∙ ap (λ (l : List ℕ). extended i (held ls) (held l)) (sym (alone ws n)),
+      left_word v (omega (arith, and_le_l w (x / 2 ^ i))) ∙ ap has_left (sym a),
+    )

@@ -11,6 +11,7 @@ use lib.Dec.{eqb}
 use lib.ListN.{length, take, get_or}
 use borrow.Author.Tests.{eq-eqb, eqb-true}
 use lib.Seq.{ext_get_or, get_or-take, length-take-le}
+use Rattle.std.specs.Int.{from_bool}
 use Rattle.rules.proofs.Over.{length_map_run, getd_map_run}
 use Rattle.rules.specs.Lists.{run, sum}
 use Rattle.rows.specs.Bits.{held}
@@ -20,6 +21,10 @@ use Rattle.rows.proofs.Bits.{held_at, bit_small, bit_most}
 use Rattle.rows.proofs.Digits.{digit}
 use Rattle.rows.proofs.Held.{length_held}
 use Rattle.rows.proofs.Zeros.{digit_zero, digit_suc}
+
+-- what `From` makes of a flag
+pub bit_from : (b : Bool) {v : ℕ} → v ≡ from_bool b → v ≡ bit b
+bit_from b e = e ∙ elim b as (λ (x : Bool). from_bool x ≡ bit x) [ true ↦ refl | false ↦ refl ]
 
 pub bit_few : (b : Bool) {v : ℕ} → v ≡ bit b → v ≤ 1
 bit_few b e = omega (arith, e, bit_most b)

@@ -7,3 +7,4 @@ pub mod Rows
 pub mod Set
 pub mod Told
 pub mod Bases
+pub mod SetBits

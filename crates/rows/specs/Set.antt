@@ -30,12 +30,10 @@ first_word ns zero = row_marks
 first_word [] (suc k) = row_marks
 first_word (n ∷ ns) (suc k) = words_of n + first_word ns k
 
--- a table of where each sequence's words begin, and then where those of all end; its last number may be 1 only in a short set: one in
--- which each sequence has one word
+-- a table of where each sequence's words begin, and then where those of all end
 pub record Firsts (ns firsts : List ℕ) : Type 0 where
-  pub long : length ns + 1 < length firsts
+  pub long : length ns < length firsts
   pub same : (k : ℕ) → k ≤ length ns → get_or firsts k 0 ≡ first_word ns k
-  pub short : get_or firsts (length firsts - 1) 0 ≡ 1 → (k : ℕ) → k < length ns → words_of (get_or ns k 0) ≡ 1
 
 -- and one of where its letters do in the buffer
 pub record Offsets (ns offsets : List ℕ) : Type 0 where

@@ -3,10 +3,11 @@ ghost use Rattle.std.specs.Prelude.{true, ◌≡◌, ℕ, ◌+◌, ◌*◌, ◌�
 ghost use Rattle.rules.specs.Limits.{sequence_set_sequences};
 ghost use Rattle.rows.specs.Bits.{held};
 ghost use Rattle.rows.specs.Rows.{behind, window};
-ghost use Rattle.rows.specs.Set.{row_marks, first_word, Firsts, between, bits_at, is_marked, window_at, Filled, Marked, Bounded};
+ghost use Rattle.rows.specs.Set.{row_marks, first_word, bits_at, is_marked, window_at, Filled, Marked, Bounded};
 
+use super::layout::Layout;
+use super::set_bits::SetBits;
 use super::{BITS, MARKS, words};
-use rules::least;
 
 // A word shifted up by `d` places: 0 where all of its bits leave it.
 fn shift(word: u64, d: usize) -> u64
@@ -23,88 +24,60 @@ fn open_word(word: u64, d: usize, count: usize) -> u64
     let mut all = word;
     let mut have = 1;
     while have < count {
-        let step = least(have, count - have);
-        all = all | shift(all, step);
+        let step = have.min(count - have);
+        all |= shift(all, step);
         have += step;
     }
     shift(all, d)
 }
 
-// Opens a gap in the words from `from` up to `to`. `spare` is lent for the work.
-fn open_between(from: usize, to: usize, d: usize, count: usize, spare: &mut [u64], row: &mut [u64])
-    requires { (from ≤ to) × (to ≤ length spare.old) × (to ≤ length row.old) × (1 ≤ count) }
-    ensures row_unchanged { (take from row.new ≡ take from row.old) × (drop to row.new ≡ drop to row.old) }
-    ensures row_len_unchanged { (length row.new ≡ length row.old) × (length spare.new ≡ length spare.old) }
-    ensures row_after { held (between from to row.new) ≡ window d count (held (between from to row.old)) }
+// Opens a gap in the words of a sequence, one of which is opened apart: most sets have short sequences. `spare` is lent for the work.
+fn open_sequence(d: usize, count: usize, spare: &mut [u64], row: &mut [u64])
+    requires { (length spare.old ≡ length row.old) × (1 ≤ count) }
+    ensures { held row.new ≡ window d count (held row.old) }
 {
-    words::open_gap(d, count, &mut spare[from..to], &mut row[from..to]);
-}
-
-// The same in the words of a sequence, one of which is opened apart: most sets have short sequences.
-fn open_sequence(from: usize, to: usize, d: usize, count: usize, spare: &mut [u64], row: &mut [u64])
-    requires { (from ≤ to) × (to ≤ length spare.old) × (to ≤ length row.old) × (1 ≤ count) }
-    ensures row_unchanged { (take from row.new ≡ take from row.old) × (drop to row.new ≡ drop to row.old) }
-    ensures row_len_unchanged { (length row.new ≡ length row.old) × (length spare.new ≡ length spare.old) }
-    ensures row_after { held (between from to row.new) ≡ window d count (held (between from to row.old)) }
-{
-    if to - from == 1 {
-        row[from] = open_word(row[from], d, count);
+    if row.len() == 1 {
+        row[0] = open_word(row[0], d, count);
         return;
     }
-    open_between(from, to, d, count, spare, row);
+    words::open_gap(d, count, spare, row);
 }
 
 // Opens a gap in the sequences of one word of marks, those that have one.
 fn open_sequences(
+    layout: &Layout,
     w: usize,
-    lengths: &[u32],
-    firsts: &[u32],
     d: usize,
     count: usize,
     spare: &mut [u64],
     row: &mut [u64],
 )
-    requires w_bound { (w < row_marks) × (length lengths.now ≤ sequence_set_sequences) × (1 ≤ count) }
-    requires firsts { Firsts lengths.now firsts.now }
-    requires bounded { Bounded lengths.now row.old }
-    requires lengths_in_bounds { (first_word lengths.now (length lengths.now) ≤ length row.old) × (length spare.old ≡ length row.old) }
-    ensures row_unchanged { take (first_word lengths.now (min (w * 64) (length lengths.now))) row.new ≡ take (first_word lengths.now (min (w * 64) (length lengths.now))) row.old }
-    ensures row_unchanged_2 { drop (first_word lengths.now (w * 64 + 64)) row.new ≡ drop (first_word lengths.now (w * 64 + 64)) row.old }
+    requires w_bound { (w < row_marks) × (1 ≤ count) }
+    requires bounded { Bounded layout.now.lengths.now row.old }
+    requires lengths_in_bounds { (first_word layout.now.lengths.now (length layout.now.lengths.now) ≤ length row.old) × (length spare.old ≡ length row.old) }
+    ensures row_unchanged { take (first_word layout.now.lengths.now (min (w * 64) (length layout.now.lengths.now))) row.new ≡ take (first_word layout.now.lengths.now (min (w * 64) (length layout.now.lengths.now))) row.old }
+    ensures row_unchanged_2 { drop (first_word layout.now.lengths.now (w * 64 + 64)) row.new ≡ drop (first_word layout.now.lengths.now (w * 64 + 64)) row.old }
     ensures row_len_unchanged { (length row.new ≡ length row.old) × (length spare.new ≡ length spare.old) }
-    ensures by_index { (k : ℕ) → w * 64 ≤ k → k < w * 64 + 64 → is_marked row.old k ≡ true → bits_at lengths.now k row.new ≡ window_at d count lengths.now row.old k }
+    ensures by_index { (k : ℕ) → w * 64 ≤ k → k < w * 64 + 64 → is_marked row.old k ≡ true → bits_at layout.now.lengths.now k row.new ≡ window_at d count layout.now.lengths.now row.old k }
 {
     let base = w * BITS;
-    let mut rest = row[w];
-    while rest != 0 {
-        let zeros = u64::trailing_zeros(rest);
-        let at = base + zeros as usize;
-        let from = firsts[at] as usize;
-        let to = firsts[at + 1] as usize;
-        open_sequence(from, to, d, count, spare, row);
-        rest = rest & (rest - 1);
+    for place in SetBits(row[w]) {
+        let at = base + place as usize;
+        let (from, to) = layout.words(at);
+        open_sequence(d, count, &mut spare[from..to], &mut row[from..to]);
     }
 }
 
 // Opens a gap in every sequence that has a mark, each in its own words; the marks stay.
-pub fn open_all(
-    lengths: &[u32],
-    firsts: &[u32],
-    d: usize,
-    count: usize,
-    spare: &mut [u64],
-    row: &mut [u64],
-)
-    requires lengths_len_bound { (length lengths.now ≤ sequence_set_sequences) × (1 ≤ count) }
-    requires firsts { Firsts lengths.now firsts.now }
-    requires bounded { Bounded lengths.now row.old }
-    requires lengths_in_bounds { (first_word lengths.now (length lengths.now) ≤ length row.old) × (length spare.old ≡ length row.old) }
+pub fn open_all(layout: &Layout, d: usize, count: usize, spare: &mut [u64], row: &mut [u64])
+    requires count_bound { 1 ≤ count }
+    requires bounded { Bounded layout.now.lengths.now row.old }
+    requires lengths_in_bounds { (first_word layout.now.lengths.now (length layout.now.lengths.now) ≤ length row.old) × (length spare.old ≡ length row.old) }
     ensures marked { Marked (is_marked row.old) row.new sequence_set_sequences }
-    ensures filled { Filled (is_marked row.old) (window_at d count lengths.now row.old) lengths.now row.new (length lengths.now) }
+    ensures filled { Filled (is_marked row.old) (window_at d count layout.now.lengths.now row.old) layout.now.lengths.now row.new (length layout.now.lengths.now) }
     ensures row_len_unchanged { (length row.new ≡ length row.old) × (length spare.new ≡ length spare.old) }
 {
-    let mut w = 0;
-    while w < MARKS {
-        open_sequences(w, lengths, firsts, d, count, spare, row);
-        w += 1;
+    for w in 0..MARKS {
+        open_sequences(layout, w, d, count, spare, row);
     }
 }

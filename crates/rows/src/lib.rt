@@ -4,7 +4,9 @@
 
 pub mod counts;
 pub mod gap;
+pub mod layout;
 pub mod set;
+pub mod set_bits;
 pub mod shift;
 pub mod words;
 

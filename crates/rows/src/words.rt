@@ -3,14 +3,11 @@ ghost use Rattle.std.specs.Prelude.{true, not, [], ◌∷◌, map, ◌≡◌, �
 ghost use Rattle.rules.specs.Letters.{letter, is_letter};
 ghost use Rattle.rules.specs.Limits.{letter_bases};
 ghost use Rattle.rules.specs.Lists.{run, over};
-ghost use Rattle.rules.specs.Saved.{read_low};
 ghost use Rattle.rows.specs.Flags.{bit, has_left};
 ghost use Rattle.rows.specs.Bits.{held};
 ghost use Rattle.rows.specs.Rows.{either, ahead, behind, window, extended, lettered};
 ghost use Rattle.rows.specs.Words as words;
 ghost use Rattle.rows.specs.Bases.{word_of};
-
-use rules::least;
 
 // The 64 bits from bit `i` of two words on.
 pub fn down(i: usize, low: u64, high: u64) -> u64
@@ -36,38 +33,6 @@ pub fn up(i: usize, low: u64, high: u64) -> u64
     (high << i) | ((low >> 1) >> (63 - i))
 }
 
-// Writes `value` to each of some words.
-pub fn fill(out: &mut [u64], value: u64)
-    ensures { out.new ≡ replicate (length out.old) value }
-{
-    let mut q = 0;
-    while q < out.len() {
-        out[q] = value;
-        q += 1;
-    }
-}
-
-// Whether a word is not 0.
-pub fn marked(word: u64) -> bool
-    ensures { result ≡ not (eqb word 0) }
-{
-    word != 0
-}
-
-// 1 of true.
-pub fn one(found: bool) -> u64
-    ensures { result ≡ bit found }
-{
-    if found { 1 } else { 0 }
-}
-
-// 1 of false.
-pub fn none(found: bool) -> u32
-    ensures { result ≡ bit (not found) }
-{
-    if found { 0 } else { 1 }
-}
-
 // The words of the four letters' rows for the same letters of a sequence.
 #[derive(Clone, Copy)]
 pub struct Bases {
@@ -75,28 +40,6 @@ pub struct Bases {
     pub c: u64,
     pub g: u64,
     pub t: u64,
-}
-
-// A byte as a word.
-fn wide(byte: u8) -> u64
-    ensures { result ≡ byte }
-{
-    byte as u64
-}
-
-// Eight bytes as one number, the lowest first, as the processor loads them at once.
-fn eight(bytes: &[u8]) -> u64
-    requires { length bytes.now ≡ 8 }
-    ensures { result ≡ read_low 8 bytes.now }
-{
-    wide(bytes[0])
-        | (wide(bytes[1]) << 8)
-        | (wide(bytes[2]) << 16)
-        | (wide(bytes[3]) << 24)
-        | (wide(bytes[4]) << 32)
-        | (wide(bytes[5]) << 40)
-        | (wide(bytes[6]) << 48)
-        | (wide(bytes[7]) << 56)
 }
 
 // The lowest bits of a word's eight bytes, side by side: those of two bytes are moved together, then those of four, then all.
@@ -119,18 +62,15 @@ pub fn letter_words(sequence: &[u8]) -> Bases
     let mut first: u64 = 0;
     let mut second: u64 = 0;
     let mut third: u64 = 0;
-    let mut p = sequence.len();
-    while 0 < p % 8 {
-        p -= 1;
-        let byte = wide(sequence[p]);
+    let (eights, rest) = sequence.as_chunks::<8>();
+    for letter in rest.iter().rev() {
+        let byte = u64::from(*letter);
         first = (first << 1) | (byte & 1);
         second = (second << 1) | ((byte >> 1) & 1);
         third = (third << 1) | ((byte >> 2) & 1);
     }
-    while 0 < p {
-        let end = p;
-        p -= 8;
-        let bytes = eight(&sequence[p..end]);
+    for eight in eights.iter().rev() {
+        let bytes = u64::from_le_bytes(*eight);
         first = (first << 8) | gather(bytes);
         second = (second << 8) | gather(bytes >> 1);
         third = (third << 8) | gather(bytes >> 2);
@@ -150,12 +90,10 @@ fn keep_plain(row: &[u64], letters: &[u64], n: usize, out: &mut [u64]) -> u64
     ensures out_after { out.new ≡ over (words.extended_word 0 letters.now row.now) n out.old }
 {
     let mut all: u64 = 0;
-    let mut q = 0;
-    while q < n {
+    for q in 0..n {
         let v = row[q] & letters[q];
         out[q] = v;
-        all = all | v;
-        q += 1;
+        all |= v;
     }
     all
 }
@@ -169,14 +107,12 @@ fn keep_words(row: &[u64], letters: &[u64], i: usize, n: usize, out: &mut [u64])
 {
     let mut all: u64 = 0;
     let mut low = letters[0];
-    let mut q = 0;
-    while q < n {
+    for q in 0..n {
         let high = letters[q + 1];
         let v = row[q] & down_some(i, low, high);
         out[q] = v;
-        all = all | v;
+        all |= v;
         low = high;
-        q += 1;
     }
     all
 }
@@ -193,13 +129,13 @@ pub fn keep_letter(row: &[u64], letters: &[u64], i: usize, out: &mut [u64]) -> b
         return false;
     }
     if i == 0 {
-        return marked(keep_plain(row, letters, n, out));
+        return keep_plain(row, letters, n, out) != 0;
     }
     let last = n - 1;
     let all = keep_words(row, letters, i, last, out);
     let v = row[last] & down(i, letters[last], 0);
     out[last] = v;
-    marked(all | v)
+    all | v != 0
 }
 
 // The first `n` words of a row shifted down by `i` positions.
@@ -207,10 +143,8 @@ fn down_words(row: &[u64], i: usize, n: usize, out: &mut [u64])
     requires { (length out.old ≡ length row.now) × (n < length row.now) × (i < 64) }
     ensures { out.new ≡ over (words.ahead_word i row.now) n out.old }
 {
-    let mut q = 0;
-    while q < n {
+    for q in 0..n {
         out[q] = down(i, row[q], row[q + 1]);
-        q += 1;
     }
 }
 
@@ -234,10 +168,8 @@ fn shift_words(row: &[u64], e: usize, i: usize, out: &mut [u64])
     requires out_value { out.old ≡ over (words.behind_word e i row.now) (e + 1) out.old }
     ensures { out.new ≡ over (words.behind_word e i row.now) (length row.now) out.old }
 {
-    let mut q = e + 1;
-    while q < out.len() {
+    for q in e + 1..out.len() {
         out[q] = up(i, row[q - e - 1], row[q - e]);
-        q += 1;
     }
 }
 
@@ -250,10 +182,10 @@ fn shift_up(row: &[u64], d: usize, out: &mut [u64])
     let i = d % 64;
     let n = out.len();
     if n <= e {
-        fill(out, 0);
+        out.fill(0);
         return;
     }
-    fill(&mut out[..e], 0);
+    out[..e].fill(0);
     out[e] = up(i, 0, row[0]);
     shift_words(row, e, i, out);
 }
@@ -263,22 +195,8 @@ fn join(row: &mut [u64], other: &[u64])
     requires { length other.now ≡ length row.old }
     ensures { held row.new ≡ either (held row.old) (held other.now) }
 {
-    let mut q = 0;
-    while q < row.len() {
-        row[q] = row[q] | other[q];
-        q += 1;
-    }
-}
-
-// Copies a row.
-pub fn copy(row: &[u64], out: &mut [u64])
-    requires { length out.old ≡ length row.now }
-    ensures { out.new ≡ row.now }
-{
-    let mut q = 0;
-    while q < out.len() {
-        out[q] = row[q];
-        q += 1;
+    for q in 0..row.len() {
+        row[q] |= other[q];
     }
 }
 
@@ -289,7 +207,7 @@ fn spread(count: usize, row: &mut [u64], spare: &mut [u64])
 {
     let mut have = 1;
     while have < count {
-        let d = least(have, count - have);
+        let d = have.min(count - have);
         shift_up(row, d, spare);
         join(row, spare);
         have += d;
@@ -302,7 +220,7 @@ pub fn open_gap(d: usize, count: usize, spare: &mut [u64], row: &mut [u64])
     requires { (length spare.old ≡ length row.old) × (1 ≤ count) }
     ensures { held row.new ≡ window d count (held row.old) }
 {
-    copy(row, spare);
+    spare.copy_from_slice(row);
     spread(count, spare, row);
     shift_up(spare, d, row);
 }

@@ -6,7 +6,9 @@ use Prim.Native.Nat.{ℕ, ◌≤◌}
 use native.Mathlib.Omega.{arith}
 use lib.ListN.{length, take, length-map}
 use Rattle.rules.specs.Calls.{begun, motif_parts, supports_of, weights_of, begin_rule, LegRule, leg_rule}
-use Rattle.rules.specs.Legs.{Stop, ended, Stretch, leg, legs, AmpleGrants}
+use Rattle.rules.specs.Legs.{Stretch, leg, legs, AmpleGrants}
+use Rattle.rules.specs.declared.Stop.{Stop}
+use Rattle.rules.specs.declared.Stop.TheVariants.{Ended}
 use Rattle.rules.specs.Relay.{frequent_motifs, their_supports, their_weights, whole_steps, Complete, Lent, Roomy, Ample, Relayed, alone, then_more, relay}
 use Rattle.rules.specs.Sequences.{sequences}
 use Rattle.rules.specs.Support.{support, weight, parts}
@@ -31,7 +33,7 @@ ample_granted [] a = tt
 ample_granted (g ∷ gs) a = (a.0, omega arith, ample_granted gs a.4)
 
 -- after a leg that ended nothing comes
-ended_alone : (a : Told Stop) (k m : Relayed) → a ≡ gives ended → then_more a k m ≡ k
+ended_alone : (a : Told Stop) (k m : Relayed) → a ≡ gives Ended → then_more a k m ≡ k
 ended_alone a k m e = rw e
 
 module _ (letters lengths : List ℕ) (t : Template) (quorum : ℕ) (s : Search) (e : begin_rule letters lengths t quorum ≡ gives s) where
@@ -74,17 +76,17 @@ module _ (letters lengths : List ℕ) (t : Template) (quorum : ℕ) (s : Search)
       }
 
   -- legs that end have listed exactly the walk's motifs, in as many steps as it has candidates
-  pub relay_complete : (gs : List Lent) → (relay letters lengths gs s).answer ≡ gives ended
+  pub relay_complete : (gs : List Lent) → (relay letters lengths gs s).answer ≡ gives Ended
       → let r = relay letters lengths gs s in Complete t quorum (sequences letters lengths) r.steps r.motifs r.supports r.weights
   unfolding W ss
   relay_complete gs a =
       let l = legs W (map granted gs) (start W) in
-      let r : relay letters lengths gs s ≡ rows_of letters lengths s l = from_start gs (λ refused short. refused ended a) in
-      let q : l.stop ≡ ended = gives_same _ _ (sym (ap (λ r. r.answer) r) ∙ a) in
+      let r : relay letters lengths gs s ≡ rows_of letters lengths s l = from_start gs (λ refused short. refused Ended a) in
+      let q : l.stop ≡ Ended = gives_same _ _ (sym (ap (λ r. r.answer) r) ∙ a) in
       rw r (complete l (all_listed W L (map granted gs) q) (all_tried W L (map granted gs) q))
 
   -- legs with budget and room end, if there are as many as the whole search has steps
-  pub relay_ends : (gs : List Lent) → Roomy t gs → Ample gs → whole_steps t quorum (sequences letters lengths) ≤ length gs → (relay letters lengths gs s).answer ≡ gives ended
+  pub relay_ends : (gs : List Lent) → Roomy t gs → Ample gs → whole_steps t quorum (sequences letters lengths) ≤ length gs → (relay letters lengths gs s).answer ≡ gives Ended
   unfolding W ss whole_steps walk_in
   relay_ends gs h a k =
       ap (λ r. r.answer) (from_start gs (λ refused short. short h)) ∙ ap gives (legs_enough W L (map granted gs) (ample_granted gs a) (omega (arith, k, length-map gs granted)))
@@ -99,7 +101,7 @@ module _ (letters lengths : List ℕ) (t : Template) (quorum : ℕ) (s : Search)
     lent = record { budget = budget; motifs = motifs; supports = supports; weights = weights; buffer = [] }
 
     -- where it ends it is all there is of the relay, and so complete
-    pub leg_complete : (leg_rule letters lengths s budget motifs supports weights).told.answer ≡ gives ended
+    pub leg_complete : (leg_rule letters lengths s budget motifs supports weights).told.answer ≡ gives Ended
         → let l = leg_rule letters lengths s budget motifs supports weights in let n = l.told.rows in
         Complete t quorum (sequences letters lengths) l.told.steps (take n l.motifs) (take n l.supports) (take n l.weights)
     unfolding relay lent
@@ -110,7 +112,7 @@ module _ (letters lengths : List ℕ) (t : Template) (quorum : ℕ) (s : Search)
 
     -- and it ends, if it has the budget and the room for all
     pub leg_ends : whole_steps t quorum (sequences letters lengths) ≤ budget → let n = length (frequent_motifs t quorum (sequences letters lengths)) in
-        n ≤ length motifs → n ≤ length supports → n ≤ length weights → (leg_rule letters lengths s budget motifs supports weights).told.answer ≡ gives ended
+        n ≤ length motifs → n ≤ length supports → n ≤ length weights → (leg_rule letters lengths s budget motifs supports weights).told.answer ≡ gives Ended
     unfolding W ss lent whole_steps frequent_motifs walk_in
     leg_ends h i j k =
         let q : leg (walk_of letters lengths s) budget (granted lent).room s.place ≡ leg W budget (granted lent).room (start W) = rw (b.walk, b.at, start_first W L) in

@@ -10,7 +10,7 @@ use native.Mathlib.Nat.{eq-or-lt_of_le}
 use native.Mathlib.Omega.{arith}
 use lib.ListN.{length, get_or}
 use Rattle.rules.specs.Calls.{unless, on_refusal, LegRule, written_unless}
-use Rattle.rules.specs.Legs.{Stop}
+use Rattle.rules.specs.declared.Stop.{Stop}
 use Rattle.rules.specs.Lists.{if}
 use Rattle.rules.specs.Refusals.{◌else◌, first, first_bad}
 use Rattle.rules.specs.Refused.{FirstOf, FirstBad, RefusesAt}

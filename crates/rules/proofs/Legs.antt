@@ -9,14 +9,16 @@ use lib.Dec.{ltb, eqb}
 use borrow.Author.Tests.{eqb-true, eqb-false, eq-eqb, ne_eqb, ltb-true}
 use Rattle.rules.specs.Lists.{if, keep}
 use Rattle.rules.specs.Walk.{Walk, place, children, later, choose, up, from, next, start, motif, listed}
-use Rattle.rules.specs.Legs.{Stop, ended, spent, full, is_ended, Stretch, halt, then, on, Grant, leg, legs, Passed, AmpleGrants}
+use Rattle.rules.specs.Legs.{is_ended, Stretch, halt, then, on, Grant, leg, legs, Passed, AmpleGrants}
+use Rattle.rules.specs.declared.Stop.{Stop}
+use Rattle.rules.specs.declared.Stop.TheVariants.{Ended, Spent, Full}
 use Rattle.rules.specs.declared.Place.{Place}
 use Rattle.rules.proofs.Step.{step_at, at_end}
 use Rattle.rules.proofs.Whole.{listed_append, listed_skip}
 
 -- a loop's way along a leg: s steps taken, ns listed, and q the place
 abbrev pub so_far : ℕ → List ℕ → Place → Stretch
-so_far s ns q = record { stop = spent; steps = s; motifs = ns; at = q }
+so_far s ns q = record { stop = Spent; steps = s; motifs = ns; at = q }
 
 pub so_far_start : (p : Place) (l : Stretch) → l ≡ on (so_far 0 [] p) l
 so_far_start p l = let h : 0 + l.steps ≡ l.steps = omega arith in rw h
@@ -27,10 +29,10 @@ so_far_step s ns ms q q' l = let h : s + suc l.steps ≡ suc s + l.steps = omega
 pub so_far_stop : (s : ℕ) (ns : List ℕ) (a : Stop) (q : Place) → on (so_far s ns q) (halt a q) ≡ record { stop = a; steps = s; motifs = ns; at = q }
 so_far_stop s ns a q = let h : s + 0 ≡ s = omega arith in rw (h, append-nil)
 
-ended_true : (a : Stop) → is_ended a ≡ true → a ≡ ended
-ended_true ended e = refl
-ended_true spent e = absurd (false≢true e)
-ended_true full e = absurd (false≢true e)
+ended_true : (a : Stop) → is_ended a ≡ true → a ≡ Ended
+ended_true Ended e = refl
+ended_true Spent e = absurd (false≢true e)
+ended_true Full e = absurd (false≢true e)
 
 module _ (W : Walk) where
   open W use {base, may, good, depth}
@@ -73,20 +75,20 @@ module _ (W : Walk) where
 
   -- a leg's clauses, for a loop that follows it
   module _ (b r : ℕ) (p : Place) where
-    pub leg_ended : p.letters ≡ 0 → leg W b r p ≡ halt ended p
+    pub leg_ended : p.letters ≡ 0 → leg W b r p ≡ halt Ended p
     unfolding leg
     leg_ended e = go b
       where
-        go : (b : ℕ) → leg W b r p ≡ halt ended p
+        go : (b : ℕ) → leg W b r p ≡ halt Ended p
         go zero = rw (eq-eqb p.letters 0 e)
         go (suc b) = rw (eq-eqb p.letters 0 e)
 
     module _ (h : 1 ≤ p.letters) where
-      pub leg_spent : leg W 0 r p ≡ halt spent p
+      pub leg_spent : leg W 0 r p ≡ halt Spent p
       unfolding leg
       leg_spent = rw (ne_eqb p.letters 0 (omega arith))
 
-      pub leg_full : motif W p ≡ true → leg W (suc b) 0 p ≡ halt full p
+      pub leg_full : motif W p ≡ true → leg W (suc b) 0 p ≡ halt Full p
       unfolding leg
       leg_full e = rw (ne_eqb p.letters 0 (omega arith), e)
 
@@ -102,14 +104,14 @@ module _ (W : Walk) where
   pub record Why (b r : ℕ) (l : Stretch) : Type 0 where
     pub steps_fit : l.steps ≤ b
     pub listed_fit : length l.motifs ≤ r
-    pub if_spent : l.stop ≡ spent → l.steps ≡ b
-    pub if_full : l.stop ≡ full → (length l.motifs ≡ r) × (motif W l.at ≡ true)
+    pub if_spent : l.stop ≡ Spent → l.steps ≡ b
+    pub if_full : l.stop ≡ Full → (length l.motifs ≡ r) × (motif W l.at ≡ true)
 
   pub leg_why : (b r : ℕ) (p : Place) → Why b r (leg W b r p)
   unfolding leg
   leg_why zero r p = record { steps_fit = omega arith; listed_fit = omega arith; if_spent = λ e. refl; if_full = go (eqb p.letters 0) }
     where
-      go : (c : Bool) → if c ended spent ≡ full → (◌≡◌ {A = ℕ} 0 r) × (motif W p ≡ true)
+      go : (c : Bool) → if c Ended Spent ≡ Full → (◌≡◌ {A = ℕ} 0 r) × (motif W p ≡ true)
       go true e = (cc, cc)
       go false e = (cc, cc)
   leg_why (suc b) r p = go (eqb p.letters 0) (motif W p) r refl refl (λ k. leg_why b k (next W p))
@@ -134,16 +136,16 @@ module _ (W : Walk) where
     -- T4
     pub leg_law : (b r : ℕ) (p : Place) → p.letters ≤ depth → Passed W p (leg W b r p)
     unfolding leg
-    leg_law zero r p h = halted (if (eqb p.letters 0) ended spent) p h (go (eqb p.letters 0))
+    leg_law zero r p h = halted (if (eqb p.letters 0) Ended Spent) p h (go (eqb p.letters 0))
       where
-        go : (b : Bool) → is_ended (if b ended spent) ≡ b
+        go : (b : Bool) → is_ended (if b Ended Spent) ≡ b
         go true = refl
         go false = refl
     leg_law (suc b) r p h = go (eqb p.letters 0) (motif W p) r refl refl (λ k. leg_law b k (next W p) (next_size p h))
       where
         go : (a c : Bool) (r : ℕ) → eqb p.letters 0 ≡ a → motif W p ≡ c → ((k : ℕ) → Passed W (next W p) (leg W b k (next W p))) → Passed W p (leg W (suc b) r p)
-        go true c r e f ih = rw e (halted ended p h (sym e))
-        go false true zero e f ih = rw (e, f) (halted full p h (sym e))
+        go true c r e f ih = rw e (halted Ended p h (sym e))
+        go false true zero e f ih = rw (e, f) (halted Full p h (sym e))
         go false true (suc r) e f ih = rw (e, f) (stepped p _ (p.number ∷ []) (omega (arith, eqb-false)) h (ih r) (λ ps. listed_take p ps f))
         go false false r e f ih = rw (e, f) (stepped p _ [] (omega (arith, eqb-false)) h (ih r) (λ ps. listed_skip W p ps f))
 
@@ -181,7 +183,7 @@ module _ (W : Walk) where
         go false r ih = joins p l (legs W gs l.at) r (ih l.at r.fits)
 
     -- legs that answer `ended` passed all there is
-    pub ended_all : (gs : List Grant) (p : Place) → p.letters ≤ depth → (legs W gs p).stop ≡ ended → ((legs W gs p).motifs ≡ listed W (from W p)) × ((legs W gs p).steps ≡ length (from W p))
+    pub ended_all : (gs : List Grant) (p : Place) → p.letters ≤ depth → (legs W gs p).stop ≡ Ended → ((legs W gs p).motifs ≡ listed W (from W p)) × ((legs W gs p).steps ≡ length (from W p))
     ended_all gs p h e = (r.lists ∙ ap (listed W) (sym whole), r.counts ∙ ap length (sym whole))
       where
         r : Passed W p (legs W gs p)
@@ -191,7 +193,7 @@ module _ (W : Walk) where
         whole = r.split ∙ ap (λ ps. r.taken ++ ps) (at_end W pos (legs W gs p).at (eqb-true _ 0 (sym r.says ∙ ap is_ended e))) ∙ append-nil r.taken
 
     -- with a budget and room in each leg, as many legs as there are candidates are enough
-    pub legs_end : (gs : List Grant) (p : Place) → AmpleGrants gs → 1 ≤ p.letters → p.letters ≤ depth → length (from W p) ≤ length gs → (legs W gs p).stop ≡ ended
+    pub legs_end : (gs : List Grant) (p : Place) → AmpleGrants gs → 1 ≤ p.letters → p.letters ≤ depth → length (from W p) ≤ length gs → (legs W gs p).stop ≡ Ended
     unfolding legs
     legs_end [] p a h k l = absurd (omega (arith, ap length (step_at W pos p h k)))
     legs_end (g ∷ gs) p a h k l = go (is_ended t.stop) refl (legs_end gs t.at a.2)
@@ -202,15 +204,15 @@ module _ (W : Walk) where
         r : Passed W p t
         r = leg_law g.budget g.room p k
 
-        go : (b : Bool) → is_ended t.stop ≡ b → (1 ≤ t.at.letters → t.at.letters ≤ depth → length (from W t.at) ≤ length gs → (legs W gs t.at).stop ≡ ended)
-            → (if b t (on t (legs W gs t.at))).stop ≡ ended
+        go : (b : Bool) → is_ended t.stop ≡ b → (1 ≤ t.at.letters → t.at.letters ≤ depth → length (from W t.at) ≤ length gs → (legs W gs t.at).stop ≡ Ended)
+            → (if b t (on t (legs W gs t.at))).stop ≡ Ended
         go true e ih = ended_true t.stop e
         go false e ih = ih (omega (arith, eqb-false t.at.letters 0 (sym r.says ∙ e))) r.fits
             (omega (arith, r.counts, simp length-append at (ap length r.split), moves g.budget g.room p a.0 a.1 h))
 
     -- one leg is enough, with a budget of as many and room for all that are listed: else a candidate is left, and for it a step of
     -- the budget, or it is a motif and there is a row for it
-    pub leg_end : (b r : ℕ) (p : Place) → p.letters ≤ depth → length (from W p) ≤ b → length (listed W (from W p)) ≤ r → (leg W b r p).stop ≡ ended
+    pub leg_end : (b r : ℕ) (p : Place) → p.letters ≤ depth → length (from W p) ≤ b → length (listed W (from W p)) ≤ r → (leg W b r p).stop ≡ Ended
     leg_end b r p k h l = go t.stop refl
       where
         t : Stretch
@@ -225,9 +227,9 @@ module _ (W : Walk) where
         rows : motif W t.at ≡ true → listed W (q.taken ++ (t.at ∷ from W (next W t.at))) ≡ t.motifs ++ (t.at.number ∷ listed W (from W (next W t.at)))
         rows m = listed_append W q.taken _ ∙ rw (q.lists, listed_take t.at (from W (next W t.at)) m)
 
-        go : (a : Stop) → t.stop ≡ a → t.stop ≡ ended
-        go ended e = e
-        go spent e = absurd (omega (arith, (leg_why b r p).if_spent e, q.counts, simp length-append at (ap length (left (ap is_ended e)))))
-        go full e =
+        go : (a : Stop) → t.stop ≡ a → t.stop ≡ Ended
+        go Ended e = e
+        go Spent e = absurd (omega (arith, (leg_why b r p).if_spent e, q.counts, simp length-append at (ap length (left (ap is_ended e)))))
+        go Full e =
             let w = (leg_why b r p).if_full e in
             absurd (omega (arith, w.0, simp length-append at (ap length (ap (listed W) (left (ap is_ended e)) ∙ rows w.1))))

@@ -7,7 +7,9 @@ use Prim.Native.Nat.{ℕ, min}
 use native.Mathlib.Omega.{arith}
 use lib.ListN.{length, take, length-map}
 use Rattle.rules.specs.Calls.{LegRule, moved, stretch, supports_of, weights_of, leg_rule, Written, written_unless, save_rule}
-use Rattle.rules.specs.Legs.{Stop, ended, spent, full, is_ended, Stretch, on, Grant, grant, leg, legs, Passed}
+use Rattle.rules.specs.Legs.{is_ended, Stretch, on, Grant, grant, leg, legs, Passed}
+use Rattle.rules.specs.declared.Stop.{Stop}
+use Rattle.rules.specs.declared.Stop.TheVariants.{Ended, Spent, Full}
 use Rattle.rules.specs.Lists.{if}
 use Rattle.rules.specs.Refusals.{first, search_checks, save_checks}
 use Rattle.rules.specs.Relay.{Lent, Roomy, Relayed, alone, followed, go_on, restored, then_more, relay}
@@ -47,9 +49,9 @@ rows_of letters lengths s l =
 
 -- what follows a leg that stopped and was not refused
 after_stop : (a : Told Stop) (st : Stop) (k m : Relayed) → a ≡ gives st → then_more a k m ≡ if (is_ended st) k (followed k m)
-after_stop a ended k m e = rw e
-after_stop a spent k m e = rw e
-after_stop a full k m e = rw e
+after_stop a Ended k m e = rw e
+after_stop a Spent k m e = rw e
+after_stop a Full k m e = rw e
 
 -- no save on the way is refused: if one were, the last answer would be its refusal, and some buffer would have no room
 abbrev pub Unrefused : Template → List Lent → Relayed → Type 0

@@ -20,10 +20,11 @@ use Rattle.rules.specs.Sequences.{sequences}
 use Rattle.rules.specs.Sound.{SoundTemplate}
 use Rattle.rules.specs.Support.{parts}
 use Rattle.rules.specs.Template.{size}
-use Rattle.rules.specs.Told.{Verdict, fine, refused, gives, Counts}
+use Rattle.rules.specs.Told.{Verdict, fine, refused, gives}
 use Rattle.rules.specs.Walk.{walk_of}
 use Rattle.rules.specs.declared.Search.{Search}
 use Rattle.rules.specs.declared.Template.{Template}
+use Rattle.rules.specs.declared.Recovered.{Recovered}
 use Rattle.rules.proofs.Bound.{parts_few}
 use Rattle.rules.proofs.Legs.{leg_why}
 use Rattle.rules.proofs.Lists.{keep_few}
@@ -95,7 +96,7 @@ row_short t sound ss m row h =
     omega (arith, ap length r.3, r.4.one_each, parts_few t (size t) m)
 
 -- a recovery tells its rows, each of which has that many numbers at the most
-pub recover_stays : (letters lengths : List ℕ) (t : Template) (m f : ℕ) (out : List ℕ) (c : Counts)
+pub recover_stays : (letters lengths : List ℕ) (t : Template) (m f : ℕ) (out : List ℕ) (c : Recovered)
     → (recover_rule letters lengths t m f out).told ≡ gives c → Stays (c.rows * suc t.count) out (recover_rule letters lengths t m f out).out
 unfolding recover_rule page
 recover_stays letters lengths t m f out c e = written_stays (first (recover_checks letters lengths t m f)) _ c (joined rows) out (c.rows * w) e fits

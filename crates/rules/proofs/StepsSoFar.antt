@@ -6,7 +6,8 @@ use Prim.Native.Nat.{ℕ, ◌^◌, ◌≤◌, ◌<◌, min}
 use native.Mathlib.Omega.{arith}
 use lib.ListN.{length, length-append}
 use Rattle.rules.specs.Calls.{begun, stretch, begin_rule, leg_rule}
-use Rattle.rules.specs.Legs.{spent, Stretch, leg, legs, Passed}
+use Rattle.rules.specs.Legs.{Stretch, leg, legs, Passed}
+use Rattle.rules.specs.declared.Stop.TheVariants.{Spent}
 use Rattle.rules.specs.Relay.{whole_steps, Lent, Roomy, relay}
 use Rattle.rules.specs.Sequences.{sequences}
 use Rattle.rules.specs.Sound.{SoundTemplate}
@@ -54,13 +55,13 @@ module _ (letters lengths : List ℕ) (t : Template) (quorum : ℕ) (s : Search)
       (omega (arith, r, from_first t quorum (sequences letters lengths) b.template))
 
   -- so a leg of it never uses up a budget of 2 ^ 63
-  pub never_spent : (budget : ℕ) (motifs supports weights : List ℕ) → 2 ^ 63 ≤ budget → (leg_rule letters lengths s budget motifs supports weights).told.answer ≡ gives spent → ⊥
+  pub never_spent : (budget : ℕ) (motifs supports weights : List ℕ) → 2 ^ 63 ≤ budget → (leg_rule letters lengths s budget motifs supports weights).told.answer ≡ gives Spent → ⊥
   unfolding leg_rule stretch
   never_spent budget motifs supports weights h a =
       let W : Walk = walk_of letters lengths s in
       let room : ℕ = min (length motifs) (min (length supports) (length weights)) in
       let l : Stretch = leg W budget room s.place in
-      let q : gives l.stop ≡ gives spent = rw (search_fine letters lengths s b.sound) at a in
+      let q : gives l.stop ≡ gives Spent = rw (search_fine letters lengths s b.sound) at a in
       let used : l.steps ≡ budget = (leg_why W budget room s.place).if_spent cc in
       let most = passed_most W s.place l (leg_law W (walk_lawful s.template s.quorum (sequences letters lengths) b.sound.template).pos budget room s.place (place_deep letters lengths s b.sound)) in
       let all : length (from W s.place) ≡ whole_steps t quorum (sequences letters lengths) = rw (b.walk, b.at) (from_first t quorum (sequences letters lengths) b.template) in

@@ -1,20 +1,21 @@
--- Laws of the ordered checks: none of a list refuses exactly if each is fine, which goes check by check; and the search for
--- the first bad one of a list, by index, as a loop makes it.
+-- Laws of the ordered checks: none of a list refuses exactly if each is fine, which goes check by check; and the first
+-- bad one of a list, which is not at any index before.
+use Rattle.std.specs.Prelude.{Result, Ok, Err, IsErr, IsErrAnd}
 use mathlib.Core.Path.{◌≡◌, refl, sym}
 use mathlib.Core.Logic.{◌↔◌}
 use mathlib.Core.Bool.{Bool, true, false, false≢true}
 use mathlib.Core.List.{List, [], ◌∷◌, ◌++◌, map}
 use Prim.Native.Nat.{ℕ, zero, suc, ◌+◌, ◌≤◌, ◌<◌}
-use native.Mathlib.Nat.{add_right_comm, zero-add}
-use native.Mathlib.Numerals.{add-one}
+use native.Mathlib.Nat.{zero-add}
 use native.Mathlib.Omega.{arith}
 use lib.Dec.{ltb}
-use lib.ListN.{length, get_or, take, drop, drop_of_length-le}
-use lib.Seq.{drop-cons, get_or-take, length-take-le}
+use lib.ListN.{length, get_or, take}
+use lib.Seq.{get_or-take, length-take-le}
 use borrow.Author.Tests.{ltb-false, le-ltb}
 use Rattle.rules.specs.Lists.{if}
 use Rattle.rules.specs.Refusals.{◌else◌, first, refuse_if, first_bad, outside}
-use Rattle.rules.specs.Told.{Verdict, fine, refused}
+use Rattle.rules.specs.Told.{Verdict, fine, refused, refuses, refusal_number, refusal_place, told_checked, told_answer}
+use Rattle.rules.specs.declared.Refusal.{Refusal}
 use Rattle.rules.proofs.Tests.{neither}
 
 -- a refusal is not fine
@@ -39,6 +40,11 @@ else_assoc (refused n p) v w = refl
 pub fine_else : (v : Verdict) → fine else v ≡ v
 unfolding ◌else◌
 fine_else v = refl
+
+-- and a refusal stays, whatever comes after it
+pub refused_else : (n p : ℕ) (v : Verdict) → refused n p else v ≡ refused n p
+unfolding ◌else◌
+refused_else n p v = refl
 
 pub else_fine : (v : Verdict) → v else fine ≡ v
 unfolding ◌else◌
@@ -109,11 +115,6 @@ module _ {A : Type 0} (n : ℕ) (bad : ℕ → A → Bool) where
   first_bad_map f e k [] = refl
   first_bad_map f e k (x ∷ xs) = rw (e k x, first_bad_map f e (suc k) xs)
 
-  -- past the end there is none
-  pub over : (k : ℕ) (xs : List A) (i : ℕ) → length xs ≤ i → first_bad n bad (i + k) (drop i xs) ≡ fine
-  unfolding first_bad
-  over k xs i h = rw (drop_of_length-le xs h)
-
   module _ (d : A) where
     -- where there is none, the one at i is not bad; and back
     pub none_bad : (k : ℕ) (xs : List A) → first_bad n bad k xs ≡ fine → (i : ℕ) → i < length xs → bad (i + k) (get_or xs i d) ≡ false
@@ -125,16 +126,6 @@ module _ {A : Type 0} (n : ℕ) (bad : ℕ → A → Bool) where
     all_good k [] h = unfold first_bad in refl
     all_good k (x ∷ xs) h = (bad_cons k x xs).1 (rw zero-add at (h 0 (omega arith)), all_good (suc k) xs (λ i l. let q : suc i + k ≡ i + suc k = omega arith in rw q at (h (suc i) (omega arith))))
 
-    module _ (k : ℕ) (xs : List A) (i : ℕ) where
-      -- from i on: it stands at i, or further on
-      pub here : i < length xs → bad (i + k) (get_or xs i d) ≡ true → first_bad n bad (i + k) (drop i xs) ≡ refused n (i + k)
-      unfolding first_bad
-      here h b = rw (drop-cons xs i d h, b)
-
-      pub later : i < length xs → bad (i + k) (get_or xs i d) ≡ false → first_bad n bad (i + k) (drop i xs) ≡ first_bad n bad (i + 1 + k) (drop (i + 1) xs)
-      unfolding first_bad
-      later h b = rw (drop-cons xs i d h, b, add_right_comm i 1 k, add-one (i + k), add-one i)
-
     -- the same of the first m of a list
     module _ (k m : ℕ) (xs : List A) (l : m ≤ length xs) where
       pub none_bad_in : first_bad n bad k (take m xs) ≡ fine → (i : ℕ) → i < m → bad (i + k) (get_or xs i d) ≡ false
@@ -143,12 +134,16 @@ module _ {A : Type 0} (n : ℕ) (bad : ℕ → A → Bool) where
       pub all_good_in : ((i : ℕ) → i < m → bad (i + k) (get_or xs i d) ≡ false) → first_bad n bad k (take m xs) ≡ fine
       all_good_in f = all_good k (take m xs) (λ i h. let h' : i < m = rw (length-take-le m xs l) at h in rw (get_or-take m xs i d h') (f i h'))
 
-      pub here_in : (i : ℕ) → i < m → bad (i + k) (get_or xs i d) ≡ true → first_bad n bad (i + k) (drop i (take m xs)) ≡ refused n (i + k)
-      here_in i h b = here k (take m xs) i (rw (length-take-le m xs l) h) (rw (get_or-take m xs i d h) b)
+-- A refusal that a `?` hands on
+pub handed_on : (q : Result (Unit {0}) Refusal) (r : Refusal) → IsErr q × IsErrAnd q (λ s. s ≡ r) → told_checked q ≡ refused (refusal_number r) (refusal_place r)
+handed_on (Ok u) r h = absurd h.1
+handed_on (Err s) r h = rw h.1
 
-      pub later_in : (i : ℕ) → i < m → bad (i + k) (get_or xs i d) ≡ false
-          → first_bad n bad (i + k) (drop i (take m xs)) ≡ first_bad n bad (i + 1 + k) (drop (i + 1) (take m xs))
-      later_in i h b = later k (take m xs) i (rw (length-take-le m xs l) h) (rw (get_or-take m xs i d h) b)
+-- and of a call that gives something
+pub answer_handed_on : {A : Type 0} (q : Result A Refusal) (r : Refusal) → IsErr q × IsErrAnd q (λ s. s ≡ r) → told_answer q ≡ refuses (refusal_number r) (refusal_place r)
+answer_handed_on (Ok a) r h = absurd h.1
+answer_handed_on (Err s) r h = rw h.1
 
-      pub over_in : (i : ℕ) → m ≤ i → first_bad n bad (i + k) (drop i (take m xs)) ≡ fine
-      over_in i h = over k (take m xs) i (rw (length-take-le m xs l) h)
+-- CHECKS ONE AFTER ANOTHER, each behind a `?`: what a call is told is the first that refuses. A function of such checks names this set,
+-- and what takes its order apart by `else`; then its goals need no answer.
+pub ruleset in_turn = (handed_on, answer_handed_on, fine_else, refused_else, else_fine)

@@ -10,11 +10,12 @@ use Rattle.rules.specs.Saved.{bytes, read_search}
 use Rattle.rules.specs.Sequences.{sequences}
 use Rattle.rules.specs.Support.{support, weight, parts}
 use Rattle.rules.specs.Template.{Part, size, trimmed}
-use Rattle.rules.specs.Told.{Verdict, fine, refused, Told, gives, refuses, Counts, LegTold}
+use Rattle.rules.specs.Told.{Verdict, fine, refused, Told, gives, refuses, LegTold}
 use Rattle.rules.specs.Walk.{first_place, walk_of}
 use Rattle.rules.specs.declared.Place.{Place}
 use Rattle.rules.specs.declared.Search.{Search}
 use Rattle.rules.specs.declared.Template.{Template}
+use Rattle.rules.specs.declared.Recovered.{Recovered}
 
 -- what is told after the checks: the refusal that they found, or a
 abbrev pub unless : {A : Type 0} → Verdict → A → Told A
@@ -92,7 +93,7 @@ save_rule letters lengths s out = written_unless (first (save_checks letters len
 unfoldable pub restore_rule : List ℕ → List ℕ → List ℕ → Told Search
 restore_rule letters lengths bs = unless (first (restore_checks letters lengths bs)) (read_search bs)
 
-unfoldable pub recover_rule : List ℕ → List ℕ → Template → ℕ → ℕ → List ℕ → Written Counts
+unfoldable pub recover_rule : List ℕ → List ℕ → Template → ℕ → ℕ → List ℕ → Written Recovered
 recover_rule letters lengths t m f out =
     let rows = page t (sequences letters lengths) m f (length out) in
     written_unless (first (recover_checks letters lengths t m f))

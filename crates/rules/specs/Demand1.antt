@@ -8,9 +8,10 @@ use Rattle.rules.specs.FastaRefused.{FastaRefused}
 use Rattle.rules.specs.Refusals.{first, new_checks, restore_checks, search_checks, save_checks, recover_checks, join_checks}
 use Rattle.rules.specs.Refused.{FirstOf, Stays, StaysOutside}
 use Rattle.rules.specs.TextRefused.{TextRefused}
-use Rattle.rules.specs.Told.{gives, refuses, Verdict, refused, Counts, entry, no_entry}
+use Rattle.rules.specs.Told.{gives, refuses, Verdict, refused, entry, no_entry}
 use Rattle.rules.specs.declared.Search.{Search}
 use Rattle.rules.specs.declared.Template.{Template}
+use Rattle.rules.specs.declared.Recovered.{Recovered}
 
 -- DEMAND 1: a call refuses exactly what its checks refuse, with the number and place of the first that applies. A refused
 -- leg has counts of 0, hands back the search that it was given and leaves its tables; a refused save, recovery or join leaves
@@ -50,7 +51,7 @@ pub record Demand1 : Type 0 where
       → ((recover_rule letters lengths t m f out).told ≡ refuses n p) ↔ (first (recover_checks letters lengths t m f) ≡ refused n p)
   pub recover_leaves : (letters lengths : List ℕ) (t : Template) (m f : ℕ) (out : List ℕ) (n p : ℕ)
       → first (recover_checks letters lengths t m f) ≡ refused n p → recover_rule letters lengths t m f out ≡ record { told = refuses n p; out = out }
-  pub recover_stays : (letters lengths : List ℕ) (t : Template) (m f : ℕ) (out : List ℕ) (c : Counts) → (recover_rule letters lengths t m f out).told ≡ gives c
+  pub recover_stays : (letters lengths : List ℕ) (t : Template) (m f : ℕ) (out : List ℕ) (c : Recovered) → (recover_rule letters lengths t m f out).told ≡ gives c
       → Stays (c.rows * suc t.count) out (recover_rule letters lengths t m f out).out
   pub join : (xs ys : List ℕ) (head low high : ℕ) (out : List ℕ) (n p : ℕ)
       → ((join_rule xs ys head low high out).told ≡ refuses n p) ↔ (first (join_checks xs ys head low high out) ≡ refused n p)

@@ -7,7 +7,7 @@ use Rattle.rules.specs.Fasta.{letters_of, file_records, Held}
 use Rattle.rules.specs.FastaRead.{ReadToEnd, ReadWhole, Readable}
 use Rattle.rules.specs.FastaRefused.{FastaProgram}
 use Rattle.rules.specs.FastaWritten.{FastaWritten}
-use Rattle.rules.specs.Legs.{ended}
+use Rattle.rules.specs.declared.Stop.TheVariants.{Ended}
 use Rattle.rules.specs.Limits.{letter_bases, letter_digits}
 use Rattle.rules.specs.Lists.{each, joined, keep, put, has_some, sum}
 use Rattle.rules.specs.Motif.{spell}
@@ -21,12 +21,13 @@ use Rattle.rules.specs.Sequences.{sequences}
 use Rattle.rules.specs.Sound.{SoundSet, SoundTemplate}
 use Rattle.rules.specs.Support.{support, weight, counted, valid, parts}
 use Rattle.rules.specs.Template.{none, components, size, trimmed}
-use Rattle.rules.specs.Told.{gives, refuses, Counts, Handing}
+use Rattle.rules.specs.Told.{gives, refuses, Handing}
 use Rattle.rules.specs.Walk.{walk_over, from, start, goods}
 use Rattle.rules.specs.declared.Place.{Place}
 use Rattle.rules.specs.declared.Profile.TheVariants.{Exact, Mixed}
 use Rattle.rules.specs.declared.Search.{Search}
 use Rattle.rules.specs.declared.Template.{Template}
+use Rattle.rules.specs.declared.Recovered.{Recovered}
 
 -- DEMAND 2: the list holds every motif that reaches the quorum, once, in letter order, with its support and weighted support, and nothing
 -- else; and what is recovered of a motif is every occurrence, once, in order, and nothing else.
@@ -77,7 +78,7 @@ pub record Demand2 : Type 0 where
   -- a leg of a new search that answers ended has listed it whole
   pub one_leg : (letters lengths : List ℕ) (t : Template) (quorum : ℕ) (s : Search) (budget : ℕ) (motifs supports weights : List ℕ)
       → begin_rule letters lengths t quorum ≡ gives s
-      → (leg_rule letters lengths s budget motifs supports weights).told.answer ≡ gives ended
+      → (leg_rule letters lengths s budget motifs supports weights).told.answer ≡ gives Ended
       → let l = leg_rule letters lengths s budget motifs supports weights in let n = l.told.rows in
       Complete t quorum (sequences letters lengths) l.told.steps (take n l.motifs) (take n l.supports) (take n l.weights)
   -- and it does answer ended, if it has budget and room for all of it
@@ -85,7 +86,7 @@ pub record Demand2 : Type 0 where
       → begin_rule letters lengths t quorum ≡ gives s
       → whole_steps t quorum (sequences letters lengths) ≤ budget
       → let n = length (frequent_motifs t quorum (sequences letters lengths)) in n ≤ length motifs → n ≤ length supports → n ≤ length weights
-      → (leg_rule letters lengths s budget motifs supports weights).told.answer ≡ gives ended
+      → (leg_rule letters lengths s budget motifs supports weights).told.answer ≡ gives Ended
   -- recovery's list holds every occurrence that respects the gaps, once, in order, and nothing else
   pub recovered : (t : Template) → SoundTemplate t → (ss : List (List ℕ)) (m : ℕ) (row : List ℕ)
       → Memᴰ row (whole_list t ss m)
@@ -101,7 +102,7 @@ pub record Demand2 : Type 0 where
       → let l = leg_rule letters lengths s budget motifs supports weights in i < l.told.rows
       → (get_or l.weights i 0 < 2 ^ 57) × Recovers letters lengths t (get_or l.motifs i 0) (get_or l.weights i 0)
   -- what a recovery writes is its page of that list, and it tells the page's rows and the list's length
-  pub recovery : (letters lengths : List ℕ) (t : Template) (m f : ℕ) (out : List ℕ) (c : Counts)
+  pub recovery : (letters lengths : List ℕ) (t : Template) (m f : ℕ) (out : List ℕ) (c : Recovered)
       → (recover_rule letters lengths t m f out).told ≡ gives c
       → let rows = page t (sequences letters lengths) m f (length out) in
       (c.rows ≡ length rows) × (c.length ≡ length (whole_list t (sequences letters lengths) m)) × ((recover_rule letters lengths t m f out).out ≡ put (joined rows) out)

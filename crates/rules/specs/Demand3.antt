@@ -2,7 +2,8 @@
 -- proofs/Demands.antt proves it.
 use Rattle.std.specs.Prelude.{◌≡◌, ◌↔◌, List, ◌++◌, ℕ, ◌+◌, ◌*◌, ◌≤◌, ◌<◌, length, take}
 use Rattle.rules.specs.Calls.{begin_rule, leg_rule, save_rule, restore_rule, trimmed_search}
-use Rattle.rules.specs.Legs.{ended, Stop}
+use Rattle.rules.specs.declared.Stop.{Stop}
+use Rattle.rules.specs.declared.Stop.TheVariants.{Ended}
 use Rattle.rules.specs.Limits.{record_bytes, record_extra}
 use Rattle.rules.specs.Lists.{put}
 use Rattle.rules.specs.Refusals.{first, search_checks}
@@ -19,11 +20,11 @@ use Rattle.rules.specs.declared.Template.{Template}
 pub record Demand3 : Type 0 where
   -- the lists of a new search's legs, laid end to end, are demand 2's list once one answers ended, and the steps add up
   pub end_to_end : (letters lengths : List ℕ) (t : Template) (quorum : ℕ) (s : Search) (gs : List Lent) → begin_rule letters lengths t quorum ≡ gives s
-      → (relay letters lengths gs s).answer ≡ gives ended
+      → (relay letters lengths gs s).answer ≡ gives Ended
       → let r = relay letters lengths gs s in Complete t quorum (sequences letters lengths) r.steps r.motifs r.supports r.weights
   -- it ends within that many legs, if each has a budget and room of at least one
   pub ends : (letters lengths : List ℕ) (t : Template) (quorum : ℕ) (s : Search) (gs : List Lent) → begin_rule letters lengths t quorum ≡ gives s → Roomy t gs → Ample gs
-      → whole_steps t quorum (sequences letters lengths) ≤ length gs → (relay letters lengths gs s).answer ≡ gives ended
+      → whole_steps t quorum (sequences letters lengths) ≤ length gs → (relay letters lengths gs s).answer ≡ gives Ended
   -- nothing on the way is refused
   pub answers : (letters lengths : List ℕ) (t : Template) (quorum : ℕ) (s : Search) (gs : List Lent) → begin_rule letters lengths t quorum ≡ gives s → Roomy t gs
       → (a : Stop) × ((relay letters lengths gs s).answer ≡ gives a)

@@ -17,12 +17,13 @@ use Rattle.rules.specs.Sequences.{split, sequences}
 use Rattle.rules.specs.Support.{marks, support, rows_from, occurrence_rows, weight, allowed_in, parts_in, measure, reaches}
 use Rattle.rules.specs.Template.{Part, component, none, components, size, trimmed, distance, deal, cut}
 use Rattle.rules.specs.Text as text
-use Rattle.rules.specs.Told.{Told, gives, refuses, Counts}
+use Rattle.rules.specs.Told.{Told, gives, refuses}
 use Rattle.rules.specs.Walk.{place, first_place, ended_place, walk_in, walk_over, children, later, under, onward, from, up, next, start, motif, listed, spelled, candidate}
 use Rattle.rules.specs.declared.Place.{Place}
 use Rattle.rules.specs.declared.Profile.TheVariants.{Exact}
 use Rattle.rules.specs.declared.Search.{Search}
 use Rattle.rules.specs.declared.Template.{Template}
+use Rattle.rules.specs.declared.Recovered.{Recovered}
 
 -- a fact, as numbers: what is computed, and what the paper says
 pub record Fact : Type 0 where
@@ -84,7 +85,7 @@ unfoldable pub search_told : Told Search → List ℕ
 search_told (gives s) = s.place.letters ∷ s.place.number ∷ []
 search_told (refuses n p) = n ∷ p ∷ []
 
-unfoldable pub counts_told : Told Counts → List ℕ
+unfoldable pub counts_told : Told Recovered → List ℕ
 counts_told (gives c) = c.rows ∷ c.length ∷ []
 counts_told (refuses n p) = n ∷ p ∷ []
 

@@ -3,7 +3,8 @@
 use Rattle.std.specs.Prelude.{List, [], ◌∷◌, ◌++◌, map, ◌≡◌, refl, ℕ, ltb, length, take, replicate, get_or}
 use Rattle.rules.specs.Calls.{begin_rule, begun, leg_rule, stretch, supports_of, weights_of, save_rule, restore_rule, recover_rule}
 use Rattle.rules.specs.Facts.{Fact, is, letters, lengths, pair, search_told, counts_told}
-use Rattle.rules.specs.Legs.{Stop, leg}
+use Rattle.rules.specs.Legs.{leg}
+use Rattle.rules.specs.declared.Stop.{Stop}
 use Rattle.rules.specs.Letters.{A, C, G, T, value, is_letter}
 use Rattle.rules.specs.Lists.{if, run, keep, each, joined, has_some, all_pass, is_member, sum, put}
 use Rattle.rules.specs.Motif.{spell}

@@ -3,15 +3,14 @@ use Rattle.std.specs.Prelude.{Bool, true, false, List, [], ◌∷◌, ◌++◌, 
 use Rattle.rules.specs.Lists.{if}
 use Rattle.rules.specs.Walk.{Walk, next, motif, from, listed}
 use Rattle.rules.specs.declared.Place.{Place}
+use Rattle.rules.specs.declared.Stop.{Stop}
+use Rattle.rules.specs.declared.Stop.TheVariants.{Ended, Spent, Full}
 
--- why a leg stopped: no candidate left, the budget used, or a motif and no room for it
-pub data Stop : Type 0 where
-  ended spent full : Stop
-
+-- why a leg stopped: Ended, no candidate left; Spent, the budget used; or Full, a motif and no room for it
 abbrev pub is_ended : Stop → Bool
-is_ended ended = true
-is_ended spent = false
-is_ended full = false
+is_ended Ended = true
+is_ended Spent = false
+is_ended Full = false
 
 -- what a leg comes to: why it stopped, the candidates examined, the motifs listed, the place of the next candidate
 pub record Stretch : Type 0 where
@@ -48,16 +47,16 @@ AmpleGrants (g ∷ gs) = (1 ≤ g.budget) × (1 ≤ g.room) × AmpleGrants gs
 module _ (W : Walk) where
   -- before each candidate, in this order: none left, the budget used, a motif and no room for it; otherwise a step
   unfoldable pub leg : ℕ → ℕ → Place → Stretch
-  leg zero room p = halt (if (eqb p.letters 0) ended spent) p
+  leg zero room p = halt (if (eqb p.letters 0) Ended Spent) p
   leg (suc budget) room p =
-      let lists : Stretch = elim room [ zero ↦ halt full p | suc r ↦ then (p.number ∷ []) (leg budget r (next W p)) ] in
+      let lists : Stretch = elim room [ zero ↦ halt Full p | suc r ↦ then (p.number ∷ []) (leg budget r (next W p)) ] in
       let passes : Stretch = then [] (leg budget room (next W p)) in
       let tries : Stretch = if (motif W p) lists passes in
-      if (eqb p.letters 0) (halt ended p) tries
+      if (eqb p.letters 0) (halt Ended p) tries
 
   -- legs one after another, until one ends
   unfoldable pub legs : List Grant → Place → Stretch
-  legs [] p = halt (if (eqb p.letters 0) ended spent) p
+  legs [] p = halt (if (eqb p.letters 0) Ended Spent) p
   legs (g ∷ gs) p = let l = leg g.budget g.room p in let more = on l (legs gs l.at) in if (is_ended l.stop) l more
 
 -- WHAT A LEG PASSED, from p on: the candidates between its old place and its new, one for each step; its motifs are those that are listed

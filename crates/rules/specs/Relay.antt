@@ -4,7 +4,8 @@
 use Rattle.std.specs.Prelude.{true, ◌⊎◌, ◌≡◌, ℕ, ◌+◌, ◌*◌, ◌≤◌, eqb, length, take}
 use mathlib.Core.List.{List, [], ◌∷◌, ◌++◌, map, Memᴰ}
 use Rattle.rules.specs.Calls.{on_refusal, LegRule, leg_rule, save_rule, restore_rule, recover_rule}
-use Rattle.rules.specs.Legs.{Stop, ended, spent, full}
+use Rattle.rules.specs.declared.Stop.{Stop}
+use Rattle.rules.specs.declared.Stop.TheVariants.{Ended, Spent, Full}
 use Rattle.rules.specs.Limits.{record_bytes, record_extra}
 use Rattle.rules.specs.Lists.{if}
 use Rattle.rules.specs.Refusals.{first, set_checks}
@@ -12,11 +13,12 @@ use Rattle.rules.specs.Saved.{is_sized, is_laid_out, read_search}
 use Rattle.rules.specs.Sound.{SoundSet, SoundTemplate}
 use Rattle.rules.specs.Support.{support, weight, parts}
 use Rattle.rules.specs.Template.{size}
-use Rattle.rules.specs.Told.{Told, gives, refuses, Counts}
+use Rattle.rules.specs.Told.{Told, gives, refuses}
 use Rattle.rules.specs.Walk as walk
 use Rattle.rules.specs.Walk.{ended_place, walk_over, walk_of, from, start}
 use Rattle.rules.specs.declared.Search.{Search}
 use Rattle.rules.specs.declared.Template.{Template}
+use Rattle.rules.specs.declared.Recovered.{Recovered}
 
 -- THE LIST: the motifs of the search's walk, which are those that reach the quorum, in letter order, with their supports and
 -- weighted supports
@@ -68,7 +70,7 @@ pub record Relayed : Type 0 where
 
 -- no leg left
 abbrev pub stand : Search → Relayed
-stand s = record { answer = gives (if (eqb s.place.letters 0) ended spent); steps = 0; motifs = []; supports = []; weights = [] }
+stand s = record { answer = gives (if (eqb s.place.letters 0) Ended Spent); steps = 0; motifs = []; supports = []; weights = [] }
 
 -- a leg alone: its rows are the first of its tables
 abbrev pub alone : LegRule → Relayed
@@ -108,9 +110,9 @@ restored letters lengths (refuses n p) out = refuses n p
 
 -- after a leg: nothing where it ended or refused, and else what is left
 abbrev pub then_more : Told Stop → Relayed → Relayed → Relayed
-then_more (gives ended) l more = l
-then_more (gives spent) l more = followed l more
-then_more (gives full) l more = followed l more
+then_more (gives Ended) l more = l
+then_more (gives Spent) l more = followed l more
+then_more (gives Full) l more = followed l more
 then_more (refuses n p) l more = l
 
 module _ (letters lengths : List ℕ) where
@@ -125,7 +127,7 @@ module _ (letters lengths : List ℕ) where
 
 -- WHAT A RECOVERY OF THE MOTIF m ANSWERS, whichever first row up to w it is asked for: that the list has w rows
 abbrev pub Recovers : List ℕ → List ℕ → Template → ℕ → ℕ → Type 0
-Recovers letters lengths t m w = (f : ℕ) (out : List ℕ) → f ≤ w → (c : Counts) × ((recover_rule letters lengths t m f out).told ≡ gives c) × (c.length ≡ w)
+Recovers letters lengths t m w = (f : ℕ) (out : List ℕ) → f ≤ w → (c : Recovered) × ((recover_rule letters lengths t m f out).told ≡ gives c) × (c.length ≡ w)
 
 -- HOW BYTES THAT WERE CUT SHORT ARE REFUSED, whatever sequences are lent: as 1 to 4 refuse these, and with 10 where they pass
 abbrev pub RefusedAsCut : List ℕ → Type 0

@@ -1,25 +1,12 @@
 -- What each answer tells, in the paper's numbers: the number and place of each refusal, and the values of each case.
-use Rattle.std.specs.Prelude.{ℕ}
-use Rattle.rules.specs.Legs.{Stop, ended, spent, full}
-use Rattle.rules.specs.declared.Begun.{Begun}
-use Rattle.rules.specs.declared.Begun.TheVariants as begun
-use Rattle.rules.specs.declared.Checked.{Checked}
-use Rattle.rules.specs.declared.Checked.TheVariants as checked
+use Rattle.std.specs.Prelude.{ℕ, Option, Some, None, Result, Ok, Err}
+use Rattle.rules.specs.declared.Stop.{Stop}
+use Rattle.rules.specs.declared.FastaRecord.{FastaRecord}
 use Rattle.rules.specs.declared.FileRefusal.{FileRefusal}
 use Rattle.rules.specs.declared.FileRefusal.TheVariants as file-refusal
-use Rattle.rules.specs.declared.Handed.{Handed}
-use Rattle.rules.specs.declared.Handed.TheVariants as handed
-use Rattle.rules.specs.declared.Joined.{Joined}
-use Rattle.rules.specs.declared.Joined.TheVariants as joined
 use Rattle.rules.specs.declared.Leg.{Leg}
-use Rattle.rules.specs.declared.LegAnswer.{LegAnswer}
-use Rattle.rules.specs.declared.LegAnswer.TheVariants as answer
-use Rattle.rules.specs.declared.Recovered.{Recovered}
-use Rattle.rules.specs.declared.Recovered.TheVariants as recovered
 use Rattle.rules.specs.declared.Refusal.{Refusal}
 use Rattle.rules.specs.declared.Refusal.TheVariants.{SequenceCount, LetterCount, LengthSum, NotALetter, ComponentCount, ComponentLength, MotifLength, GapRange, Quorum, SavedSize, SavedKind, OtherSet, NotACandidate, MotifNumber, FirstRow, JoinList, Room, TextLine, SavedBlank, SavedSum, PlaceRule, Allowance}
-use Rattle.rules.specs.declared.Saved.{Saved}
-use Rattle.rules.specs.declared.Saved.TheVariants as saved
 use Rattle.rules.specs.declared.Search.{Search}
 
 -- the number of a refusal
@@ -94,11 +81,6 @@ pub data Told (A : Type 0) : Type 0 where
   gives : A → Told A
   refuses : ℕ → ℕ → Told A
 
--- what a recovery gives: the rows written, and the length of the whole list
-pub record Counts : Type 0 where
-  pub rows : ℕ
-  pub length : ℕ
-
 -- what the FASTA reader hands out: a record, by where in the file its name starts and ends and by the number of its letters; or
 -- none, at the file's end
 pub data Handing : Type 0 where
@@ -112,36 +94,19 @@ pub record LegTold : Type 0 where
   pub rows : ℕ
   pub search : Search
 
-abbrev pub told_checked : Checked → Verdict
-told_checked checked.Fine = fine
-told_checked (checked.Refused r) = refused (refusal_number r) (refusal_place r)
+-- what is told of a check's answer; of a call's, and of a leg; and of the FASTA reader's
+abbrev pub told_checked : Result (Unit {0}) Refusal → Verdict
+told_checked (Ok u) = fine
+told_checked (Err r) = refused (refusal_number r) (refusal_place r)
 
-abbrev pub told_begun : Begun → Told Search
-told_begun (begun.Search s) = gives s
-told_begun (begun.Refused r) = refuses (refusal_number r) (refusal_place r)
-
-abbrev pub told_answer : LegAnswer → Told Stop
-told_answer answer.Ended = gives ended
-told_answer answer.Spent = gives spent
-told_answer answer.Full = gives full
-told_answer (answer.Refused r) = refuses (refusal_number r) (refusal_place r)
+abbrev pub told_answer : {A : Type 0} → Result A Refusal → Told A
+told_answer (Ok a) = gives a
+told_answer (Err r) = refuses (refusal_number r) (refusal_place r)
 
 abbrev pub told_leg : Leg → LegTold
 told_leg l = record { answer = told_answer l.answer; steps = l.steps; rows = l.rows; search = l.search }
 
-abbrev pub told_saved : Saved → Told ℕ
-told_saved (saved.Bytes n) = gives n
-told_saved (saved.Refused r) = refuses (refusal_number r) (refusal_place r)
-
-abbrev pub told_recovered : Recovered → Told Counts
-told_recovered (recovered.Rows n l) = gives (record { rows = n; length = l })
-told_recovered (recovered.Refused r) = refuses (refusal_number r) (refusal_place r)
-
-abbrev pub told_joined : Joined → Told ℕ
-told_joined (joined.Kept n) = gives n
-told_joined (joined.Refused r) = refuses (refusal_number r) (refusal_place r)
-
-abbrev pub told_handed : Handed → Told Handing
-told_handed (handed.Record name letters) = gives (entry name.start.0 name.end.0 letters)
-told_handed handed.End = gives no_entry
-told_handed (handed.Refused r) = refuses (file_refusal_number r) (file_refusal_place r)
+abbrev pub told_handed : Result (Option FastaRecord) FileRefusal → Told Handing
+told_handed (Ok (Some r)) = gives (entry r.name.start.0 r.name.end.0 r.letters)
+told_handed (Ok None) = gives no_entry
+told_handed (Err r) = refuses (file_refusal_number r) (file_refusal_place r)

@@ -2,7 +2,8 @@
 -- and of the four kinds of search.
 use Rattle.std.specs.Prelude.{◌≡◌, ◌↔◌, ◌⊎◌, true, ℕ, ◌≤◌, ◌<◌, ◌^◌, length}
 use mathlib.Core.List.{List, Memᴰ}
-use Rattle.rules.specs.Legs.{ended, Grant, AmpleGrants, leg, legs, Passed}
+use Rattle.rules.specs.Legs.{Grant, AmpleGrants, leg, legs, Passed}
+use Rattle.rules.specs.declared.Stop.TheVariants.{Ended}
 use Rattle.rules.specs.Order.{Rising}
 use Rattle.rules.specs.Profile.{Profile, exactly, mixed, repeated, substituted}
 use Rattle.rules.specs.Sound.{SoundTemplate}
@@ -21,10 +22,10 @@ pub record WalkDemands (W : Walk) : Type 0 where
   pub rises : Rising (motifs W)
   pub lists_it : listed W (from W (start W)) ≡ motifs W
   pub steps : length (from W (start W)) ≡ tries W W.depth
-  pub one_leg : (b r : ℕ) → tries W W.depth ≤ b → length (motifs W) ≤ r → (leg W b r (start W)).stop ≡ ended
+  pub one_leg : (b r : ℕ) → tries W W.depth ≤ b → length (motifs W) ≤ r → (leg W b r (start W)).stop ≡ Ended
   -- 3: legs laid end to end are that list once one answers ended; they end; and each passes what lies between its places
-  pub end_to_end : (gs : List Grant) → (legs W gs (start W)).stop ≡ ended → ((legs W gs (start W)).motifs ≡ motifs W) × ((legs W gs (start W)).steps ≡ tries W W.depth)
-  pub ends : (gs : List Grant) → AmpleGrants gs → tries W W.depth ≤ length gs → (legs W gs (start W)).stop ≡ ended
+  pub end_to_end : (gs : List Grant) → (legs W gs (start W)).stop ≡ Ended → ((legs W gs (start W)).motifs ≡ motifs W) × ((legs W gs (start W)).steps ≡ tries W W.depth)
+  pub ends : (gs : List Grant) → AmpleGrants gs → tries W W.depth ≤ length gs → (legs W gs (start W)).stop ≡ Ended
   pub between : (b r : ℕ) (p : Place) → p.letters ≤ W.depth → Passed W p (leg W b r p)
   -- a place that the search passes through is a candidate or the ended place, and a leg leads from one to another
   pub through : (p : Place) → Passing W p ↔ ((p ≡ ended_place) ⊎ Memᴰ p (from W (start W)))

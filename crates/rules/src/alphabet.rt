@@ -50,14 +50,11 @@ impl Letter {
     pub fn byte(value: u64) -> u8
         ensures { result ≡ letter value }
     {
-        if value == 0 {
-            b'A'
-        } else if value == 1 {
-            b'C'
-        } else if value == 2 {
-            b'G'
-        } else {
-            b'T'
+        match value {
+            0 => b'A',
+            1 => b'C',
+            2 => b'G',
+            _ => b'T',
         }
     }
 
@@ -78,12 +75,7 @@ impl Letter {
     pub fn base_set(x: u64) -> u8
         ensures { result ≡ get_or base_sets x 0 }
     {
-        let sets = Letter::base_sets();
-        if x < Letter::SYMBOLS {
-            sets[x as usize]
-        } else {
-            0
-        }
+        Letter::base_sets().get(x as usize).copied().unwrap_or(0)
     }
 
     // Whether such a set has the base with a value. A byte that is no letter has the mark for its value, and is in none.
@@ -100,11 +92,9 @@ impl Letter {
     {
         let mut rest = number;
         let mut found: u32 = 0;
-        let mut i: u32 = 0;
-        while i < n {
-            found += when(Letter::BASES <= rest % Letter::DIGITS, 1, 0) as u32;
+        for _ in 0..n {
+            found += u32::from(Letter::BASES <= rest % Letter::DIGITS);
             rest = rest / Letter::DIGITS;
-            i += 1;
         }
         found
     }

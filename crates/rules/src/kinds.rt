@@ -1,16 +1,18 @@
 // The kinds of search: the number of each, the base and the most letters of its motifs, and how a motif's number, whose digits are its
 // letters, is taken apart. Code that is for one kind alone takes its digits by itself.
-ghost use Rattle.std.specs.Prelude.{map, ◌≡◌, ◌/◌, ◌%◌, ◌^◌, ◌≤◌, leb, length, get_or};
+ghost use Rattle.std.specs.Prelude.{map, ◌≡◌, is_ok, ◌/◌, ◌%◌, ◌^◌, ◌<◌, ◌≤◌, leb, length, get_or};
+ghost use Rattle.std.specs.Result.{result_unwrap_or};
 ghost use Rattle.rules.specs.Limits.{profile_last};
 ghost use Rattle.rules.specs.Motif.{spell};
 ghost use Rattle.rules.specs.Profile.{base_sets, profile_by, profile_number, numbered_profile};
+ghost use Rattle.rules.specs.declared.Profile.TheVariants.{Exact};
 
-use crate::{Letter, Profile, Template};
+use crate::{Letter, Profile, Template, UnknownProfile};
 
 // The bits of a digit: of an exact motif's number, where it is a letter's value, and of a mixed one's.
-const EXACT_BITS: u8 = Letter::BITS as u8;
+const EXACT_BITS: u32 = Letter::BITS as u32;
 
-const MIXED_BITS: u8 = 4;
+const MIXED_BITS: u32 = 4;
 
 impl Profile {
     // The number of each, as it is saved.
@@ -18,32 +20,11 @@ impl Profile {
 
     pub const MIXED: u8 = 1;
 
-    pub fn number(self) -> u8
-        ensures { result ≡ profile_number self }
-    {
-        match self {
-            Profile::Exact => Profile::EXACT,
-            Profile::Mixed => Profile::MIXED,
-        }
-    }
-
-    // Whether a number is that of one.
-    pub fn is_number(number: u64) -> bool
-        ensures { result ≡ leb number profile_last }
-    {
-        let last = Profile::MIXED as u64;
-        number <= last
-    }
-
     // The one that has a number; every number but 1 is taken for the exact one.
     pub fn of(number: u64) -> Profile
         ensures { result ≡ numbered_profile number }
     {
-        if number == Profile::MIXED as u64 {
-            Profile::Mixed
-        } else {
-            Profile::Exact
-        }
+        Profile::try_from(number).unwrap_or(Profile::Exact)
     }
 
     // The base of a motif's number.
@@ -101,20 +82,44 @@ impl Profile {
         ensures { word.new ≡ map (λ x. get_or base_sets x 0) (spell (profile_by self).base (length word.old) number) }
     {
         let mut rest = number;
-        let mut i = word.len();
-        while 0 < i {
-            i -= 1;
+        for i in (0..word.len()).rev() {
             word[i] = Letter::base_set(self.last(rest));
             rest = self.shorter(rest);
         }
     }
 }
 
+impl From<Profile> for u8 {
+    ghost from_gives = { λ profile number. number ≡ profile_number profile };
+
+    fn from(profile: Profile) -> u8 {
+        match profile {
+            Profile::Exact => Profile::EXACT,
+            Profile::Mixed => Profile::MIXED,
+        }
+    }
+}
+
+impl TryFrom<u64> for Profile {
+    type Error = UnknownProfile;
+
+    ghost try_from_gives = { λ number r. (is_ok r ≡ leb number profile_last) × (result_unwrap_or r Exact ≡ numbered_profile number) };
+
+    fn try_from(number: u64) -> Result<Profile, UnknownProfile> {
+        if number == Profile::EXACT as u64 {
+            Ok(Profile::Exact)
+        } else if number == Profile::MIXED as u64 {
+            Ok(Profile::Mixed)
+        } else {
+            Err(UnknownProfile)
+        }
+    }
+}
+
 // A number without its last n digits of so many bits.
-fn cut(number: u64, n: u32, bits: u8) -> u64
-    requires { bits ≤ 4 }
+fn cut(number: u64, n: u32, bits: u32) -> u64
+    requires { (0 < bits) × (bits ≤ 4) }
     ensures { result ≡ number / (2 ^ bits) ^ n }
 {
-    let dropped = n as u64 * bits as u64;
-    if dropped < 64 { number >> dropped } else { 0 }
+    number.checked_shr(n.saturating_mul(bits)).unwrap_or(0)
 }

@@ -1,33 +1,10 @@
 // The records of a saved search, each made from what it holds.
 ghost use Rattle.std.specs.Prelude.{◌≡◌, ◌≤◌};
 ghost use Rattle.rules.specs.Limits.{template_components, template_length};
-ghost use Rattle.rules.specs.Saved.{low_first, size_record, component_record, place_record};
+ghost use Rattle.rules.specs.Saved.{size_record, component_record, place_record};
 ghost use Rattle.rules.specs.Template.{allowance_in};
 
 use crate::{Component, Place, Profile, Record, Search};
-
-// The bytes of a number, the lowest first.
-fn low_first(x: u64) -> [u8; 8]
-    ensures { result ≡ low_first 8 x }
-{
-    let x1 = x / 256;
-    let x2 = x1 / 256;
-    let x3 = x2 / 256;
-    let x4 = x3 / 256;
-    let x5 = x4 / 256;
-    let x6 = x5 / 256;
-    let x7 = x6 / 256;
-    [
-        (x % 256) as u8,
-        (x1 % 256) as u8,
-        (x2 % 256) as u8,
-        (x3 % 256) as u8,
-        (x4 % 256) as u8,
-        (x5 % 256) as u8,
-        (x6 % 256) as u8,
-        (x7 % 256) as u8,
-    ]
-}
 
 impl Record {
     // A record's bytes; the kinds of record, which its first byte tells; the records besides the components'.
@@ -47,14 +24,12 @@ impl Record {
         ensures { result.bytes ≡ size_record s }
     {
         let t = s.template;
-        let set = s.set;
         let count = t.count as u8;
-        let q = low_first(s.quorum);
-        let n = low_first(set.sequences as u64);
-        let k = low_first(t.letters() as u64);
-        let m = low_first(set.letters as u64);
-        let profile = t.profile;
-        let kind = profile.number();
+        let q = s.quorum.to_le_bytes();
+        let n = s.set.sequences.to_le_bytes();
+        let k = t.letters().to_le_bytes();
+        let m = s.set.letters.to_le_bytes();
+        let kind = u8::from(t.profile);
         let bytes = [
             Record::SIZE,
             count + Record::EXTRA,
@@ -83,8 +58,8 @@ impl Record {
     {
         let length = c.length as u8;
         let allowance = c.allowance_in(profile) as u8;
-        let l = low_first(c.low as u64);
-        let u = low_first(c.high as u64);
+        let l = c.low.to_le_bytes();
+        let u = c.high.to_le_bytes();
         let bytes = [
             Record::COMPONENT,
             i,
@@ -110,7 +85,7 @@ impl Record {
     pub fn of_place(p: Place) -> Record
         ensures { result.bytes ≡ place_record p }
     {
-        let m = low_first(p.number);
+        let m = p.number.to_le_bytes();
         let bytes = [
             Record::PLACE,
             p.letters,

@@ -8,9 +8,8 @@ mod layout;
 mod refusals;
 mod shape;
 
-ghost use Rattle.std.specs.Prelude.{◌≡◌, min};
+ghost use Rattle.std.specs.Prelude.{◌≡◌};
 ghost use Rattle.rules.specs.Limits.{letter_bases, letter_bits, letter_symbols, letter_digits, letter_mark, profile_exact, profile_mixed, template_components, template_length, template_letters, template_mixed, template_gap, sequence_set_sequences, sequence_set_letters, record_bytes, record_size, record_component, record_place, record_extra, text_bytes, text_gap_digits, text_quorum_digits, fasta_bytes, fasta_length};
-ghost use Rattle.rules.specs.Lists.{sign};
 
 // The three countings, each a type of its own, so that none can be taken for another.
 // A sequence's number in the set, from 1.
@@ -44,6 +43,10 @@ pub enum Profile {
     Mixed,
 }
 
+// The error of a number that is no kind of search's.
+#[derive(Clone, Copy)]
+pub struct UnknownProfile;
+
 // A component of a template: its length, the gap range before it, and in a mixed search how many of its letters may stand for several
 // bases. An exact search does not read that.
 #[derive(Clone, Copy)]
@@ -61,7 +64,9 @@ pub struct Distances {
     pub count: usize,
 }
 
-// A template: the kind of search, how many components there are, and a slot for each that there may be.
+// A template: the kind of search, how many components there are, and a slot for each that there may be. The slots are fields, and no
+// array: the laws range over all values of this type (`Demand2.recovery` and its like), and of an array each would have to suppose that
+// it has six.
 #[derive(Clone, Copy)]
 pub struct Template {
     pub profile: Profile,
@@ -153,57 +158,29 @@ pub enum Refusal {
     Allowance,
 }
 
-// What a check finds.
+// Why a leg stopped: no candidate was left, the budget was used, or there was a motif and no room for it.
 #[derive(Clone, Copy)]
-pub enum Checked {
-    Fine,
-    Refused(Refusal),
-}
-
-// What a new search or a restore answers.
-#[derive(Clone, Copy)]
-pub enum Begun {
-    Search(Search),
-    Refused(Refusal),
-}
-
-// Why a leg stopped.
-#[derive(Clone, Copy)]
-pub enum LegAnswer {
+pub enum Stop {
     Ended,
     Spent,
     Full,
-    Refused(Refusal),
 }
 
-// What a leg answers: why it stopped, its steps, its rows, and the search at its new place.
+// What a leg answers: why it stopped, or what it was refused with; its steps, its rows, and the search at its new place. A refused leg
+// took no step, wrote no row, and hands the search back as it was given.
 #[derive(Clone, Copy)]
 pub struct Leg {
-    pub answer: LegAnswer,
+    pub answer: Result<Stop, Refusal>,
     pub steps: u64,
     pub rows: usize,
     pub search: Search,
 }
 
-// What a save answers: its length in bytes.
-#[derive(Clone, Copy)]
-pub enum Saved {
-    Bytes(usize),
-    Refused(Refusal),
-}
-
 // What a recovery answers: the rows written, and the length of the whole list.
 #[derive(Clone, Copy)]
-pub enum Recovered {
-    Rows { written: usize, length: u64 },
-    Refused(Refusal),
-}
-
-// What a join answers: how many positions it kept.
-#[derive(Clone, Copy)]
-pub enum Joined {
-    Kept(usize),
-    Refused(Refusal),
+pub struct Recovered {
+    pub rows: usize,
+    pub length: u64,
 }
 
 // A record's name, as a part of its file: from one offset up to another.
@@ -222,26 +199,11 @@ pub enum FileRefusal {
     NotALetter(FileOffset),
 }
 
-// What a call of the FASTA reader hands out: the next record's name and how many letters it has, or the file's end.
+// A record of a FASTA file, as the reader hands it out: its name, and how many letters it has.
 #[derive(Clone, Copy)]
-pub enum Handed {
-    Record { name: Name, letters: usize },
-    End,
-    Refused(FileRefusal),
-}
-
-// The smaller of two numbers.
-pub fn least(a: usize, b: usize) -> usize
-    ensures { result ≡ min a b }
-{
-    if a < b { a } else { b }
-}
-
-// 1 of a number above 0, and 0 of 0.
-pub fn sign(x: u64) -> u8
-    ensures { result ≡ sign x }
-{
-    if 0 < x { 1 } else { 0 }
+pub struct FastaRecord {
+    pub name: Name,
+    pub letters: usize,
 }
 
 // Each limit in the code is the definition of the same name.

@@ -1,10 +1,9 @@
-// The number and the place of a refusal, and checks one after another.
+// The number and the place of a refusal.
 ghost use Rattle.std.specs.Prelude.{◌≡◌};
 ghost use Rattle.rules.specs.Lists.{if};
-ghost use Rattle.rules.specs.Refusals.{◌else◌};
 ghost use Rattle.rules.specs.Told.{fine, refused, refusal_number, refusal_place, file_refusal_number, file_refusal_place, told_checked};
 
-use crate::{Checked, FileRefusal, Refusal};
+use crate::{FileRefusal, Refusal};
 
 impl Refusal {
     // Its number in the paper.
@@ -42,29 +41,19 @@ impl Refusal {
         ensures { result ≡ refusal_place self }
     {
         match self {
-            Refusal::SequenceCount => 0,
-            Refusal::LetterCount => 0,
-            Refusal::LengthSum => 0,
             Refusal::NotALetter(o) => o.0 as u64,
-            Refusal::ComponentCount => 0,
-            Refusal::ComponentLength(i) => i as u64,
-            Refusal::MotifLength => 0,
-            Refusal::GapRange(i) => i as u64,
-            Refusal::Quorum => 0,
-            Refusal::SavedSize => 0,
-            Refusal::SavedKind(i) => i.0 as u64,
-            Refusal::OtherSet => 0,
-            Refusal::NotACandidate => 0,
-            Refusal::MotifNumber => 0,
-            Refusal::FirstRow => 0,
-            Refusal::JoinList => 0,
-            Refusal::Room => 0,
+            Refusal::ComponentLength(i) | Refusal::GapRange(i) => i as u64,
             Refusal::TextLine(n) => n as u64,
-            Refusal::SavedBlank(i) => i.0 as u64,
-            Refusal::SavedSum => 0,
-            Refusal::PlaceRule(i) => i.0 as u64,
-            Refusal::Allowance => 0,
+            Refusal::SavedKind(i) | Refusal::SavedBlank(i) | Refusal::PlaceRule(i) => i.0 as u64,
+            _ => 0,
         }
+    }
+
+    // This refusal where a test says so: `Refusal::Quorum.when(quorum < 1)?`.
+    pub fn when(self, bad: bool) -> Result<(), Refusal>
+        ensures { told_checked result ≡ if bad (refused (refusal_number self) (refusal_place self)) fine }
+    {
+        if bad { Err(self) } else { Ok(()) }
     }
 }
 
@@ -85,32 +74,8 @@ impl FileRefusal {
         ensures { result ≡ file_refusal_place self }
     {
         match self {
-            FileRefusal::TextBefore => 0,
-            FileRefusal::NoRoom => 0,
             FileRefusal::NotALetter(o) => o.0 as u64,
-        }
-    }
-}
-
-impl Checked {
-    // A refusal where a test says so.
-    pub fn refuse_if(bad: bool, why: Refusal) -> Checked
-        ensures { told_checked result ≡ if bad (refused (refusal_number why) (refusal_place why)) fine }
-    {
-        if bad {
-            Checked::Refused(why)
-        } else {
-            Checked::Fine
-        }
-    }
-
-    // The first of two that refuses.
-    pub fn then(self, next: Checked) -> Checked
-        ensures { told_checked result ≡ ◌else◌ (told_checked self) (told_checked next) }
-    {
-        match self {
-            Checked::Fine => next,
-            Checked::Refused(why) => Checked::Refused(why),
+            _ => 0,
         }
     }
 }

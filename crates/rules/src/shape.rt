@@ -5,7 +5,9 @@ ghost use Rattle.rules.specs.Sequences.{set_of};
 ghost use Rattle.rules.specs.Template.{slots, component, allowing, allowance_in, none, kept, trimmed, size, with_slots, distances, after};
 ghost use Rattle.rules.specs.Walk.{place, first_place, ended_place};
 
-use crate::{Component, Distances, Offset, Place, Profile, Search, SequenceSet, Template};
+use crate::{
+    Component, Distances, Leg, Offset, Place, Profile, Refusal, Search, SequenceSet, Template,
+};
 
 impl Component {
     pub fn new(length: u16, low: u16, high: u16) -> Component
@@ -23,24 +25,14 @@ impl Component {
     pub fn allowing(self, allowance: u16) -> Component
         ensures { result ≡ allowing allowance self }
     {
-        Component {
-            length: self.length,
-            low: self.low,
-            high: self.high,
-            allowance,
-        }
+        Component { allowance, ..self }
     }
 
     // What stands in a slot past the last component.
     pub fn none() -> Component
         ensures { result ≡ none }
     {
-        Component {
-            length: 0,
-            low: 0,
-            high: 0,
-            allowance: 0,
-        }
+        Component::new(0, 0, 0)
     }
 
     // How far its start may lie from that of the component before it.
@@ -77,8 +69,10 @@ impl Distances {
         let behind = letters as usize;
         let least = behind + low as usize;
         let most = behind + high as usize;
-        let count = if least <= most { most + 1 - least } else { 0 };
-        Distances { near: least, count }
+        Distances {
+            near: least,
+            count: (most + 1).saturating_sub(least),
+        }
     }
 }
 
@@ -123,25 +117,14 @@ impl Template {
     pub fn components(self) -> [Component; Template::COMPONENTS as usize]
         ensures { result ≡ slots self }
     {
-        let c1 = self.c1;
-        let c2 = self.c2;
-        let c3 = self.c3;
-        let c4 = self.c4;
-        let c5 = self.c5;
-        let c6 = self.c6;
-        [c1, c2, c3, c4, c5, c6]
+        [self.c1, self.c2, self.c3, self.c4, self.c5, self.c6]
     }
 
     // How many slots hold a component: the count, and no more than there are slots.
     pub fn held(self) -> u16
         ensures { result ≡ min self.count template_components }
     {
-        let n = self.count;
-        if n <= Template::COMPONENTS {
-            n
-        } else {
-            Template::COMPONENTS
-        }
+        self.count.min(Template::COMPONENTS)
     }
 
     // The same template, with nothing in what it does not use: the slots that it does not count, and in an exact search the allowances.
@@ -166,14 +149,12 @@ impl Template {
     pub fn letters(self) -> u32
         ensures { result ≡ size self }
     {
-        let t = self.trim();
-        let k1 = t.c1.length as u32;
-        let k2 = t.c2.length as u32;
-        let k3 = t.c3.length as u32;
-        let k4 = t.c4.length as u32;
-        let k5 = t.c5.length as u32;
-        let k6 = t.c6.length as u32;
-        k1 + k2 + k3 + k4 + k5 + k6
+        let slots = self.components();
+        let mut k = 0;
+        for c in &slots[..self.held() as usize] {
+            k += c.length as u32;
+        }
+        k
     }
 }
 
@@ -189,15 +170,13 @@ impl SequenceSet {
         SequenceSet { sequences, letters }
     }
 
-    // The letters of the buffer from one offset up to another. Nothing else cuts the buffer, so that neither a position nor a
-    // sequence's number can be taken for an offset in it.
+    // The letters of the buffer from one offset up to another. Nothing else cuts lent letters to read them, so that neither a position
+    // nor a sequence's number can be taken for an offset in the buffer.
     pub fn part(letters: &[u8], from: Offset, to: Offset) -> &[u8]
         requires { (from.0 ≤ to.0) × (to.0 ≤ length letters.now) }
         ensures { result.now ≡ take (to.0 - from.0) (drop from.0 letters.now) }
     {
-        let start = from.0;
-        let end = to.0;
-        &letters[start..end]
+        &letters[from.0..to.0]
     }
 }
 
@@ -212,19 +191,13 @@ impl Place {
     pub fn first() -> Place
         ensures { result ≡ first_place }
     {
-        Place {
-            letters: 1,
-            number: 0,
-        }
+        Place::new(1, 0)
     }
 
     pub fn ended() -> Place
         ensures { result ≡ ended_place }
     {
-        Place {
-            letters: 0,
-            number: 0,
-        }
+        Place::new(0, 0)
     }
 }
 
@@ -237,6 +210,20 @@ impl Search {
             quorum,
             set,
             place,
+        }
+    }
+}
+
+impl Leg {
+    // What a leg answers that is refused: no step, no row, and the search as it was given.
+    pub fn refused(search: Search, why: Refusal) -> Leg
+        ensures { result ≡ record { answer = Err why; steps = 0; rows = 0; search = search } }
+    {
+        Leg {
+            answer: Err(why),
+            steps: 0,
+            rows: 0,
+            search,
         }
     }
 }

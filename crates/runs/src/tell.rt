@@ -1,73 +1,35 @@
 // What is printed of an answer: a refusal's number and place, or the counts and the rows.
-use rules::{Begun, Leg, LegAnswer, Recovered, Refusal, Search};
+use rules::{Recovered, Refusal, Search, Stop};
+use std::fmt::Display;
+use std::io;
 
 // The steps that a leg may take here, so that no run is long.
 const BUDGET: u64 = 1000;
 
-// A number, after a space.
-fn number(rt: &impl Print, n: u64) {
-    let _ = rt.write_all(b" ");
-    let _ = rt.print(n);
-}
-
-fn narrow(rt: &impl Print, n: u32) {
-    number(rt, n as u64);
-}
-
-fn end_line(rt: &impl Print) {
-    let _ = rt.write_all(b"\n");
-}
-
 // A refusal: its number and its place.
-fn refused(rt: &impl Print, why: Refusal) {
-    let _ = rt.write_all(b": refused");
-    number(rt, why.number());
-    number(rt, why.place());
-    end_line(rt);
+fn refused(rt: &impl Print, why: Refusal) -> io::Result<()> {
+    println!(rt; ": refused {} {}", why.number(), why.place())
 }
 
 // Why a leg stopped, where it did not refuse.
-fn stopped(rt: &impl Print, answer: LegAnswer) {
-    match answer {
-        LegAnswer::Ended => {
-            let _ = rt.write_all(b": ended");
-        }
-        LegAnswer::Spent => {
-            let _ = rt.write_all(b": spent");
-        }
-        LegAnswer::Full => {
-            let _ = rt.write_all(b": full");
-        }
-        LegAnswer::Refused(why) => refused(rt, why),
+fn word(stop: Stop) -> &'static str {
+    match stop {
+        Stop::Ended => "ended",
+        Stop::Spent => "spent",
+        Stop::Full => "full",
     }
-}
-
-// A leg: why it stopped, its steps and its rows.
-fn told(rt: &impl Print, leg: Leg) {
-    let answer = leg.answer;
-    stopped(rt, answer);
-    number(rt, leg.steps);
-    number(rt, leg.rows as u64);
-    end_line(rt);
 }
 
 // All of a table, on one line.
-fn wide(rt: &impl Print, table: &[u64]) {
-    for i in 0..table.len() {
-        number(rt, table[i]);
+fn table<T: Display>(rt: &impl Print, table: &[T]) -> io::Result<()> {
+    for n in table {
+        print!(rt; " {n}")?;
     }
-    end_line(rt);
+    println!(rt)
 }
 
-fn table(rt: &impl Print, table: &[u32]) {
-    for i in 0..table.len() {
-        narrow(rt, table[i]);
-    }
-    end_line(rt);
-}
-
-// The first leg of a search, and its three tables.
-fn leg(rt: &impl Print, letters: &[u8], lengths: &[u32], search: Search) {
+// The first leg of a search: why it stopped, its steps and its rows, and its three tables.
+fn leg(rt: &impl Print, letters: &[u8], lengths: &[u32], search: Search) -> io::Result<()> {
     let mut motifs = [0u64; 8];
     let mut supports = [0u32; 8];
     let mut weights = [0u64; 8];
@@ -80,30 +42,39 @@ fn leg(rt: &impl Print, letters: &[u8], lengths: &[u32], search: Search) {
         &mut supports,
         &mut weights,
     );
-    told(rt, leg);
-    wide(rt, &motifs);
-    table(rt, &supports);
-    wide(rt, &weights);
+    match leg.answer {
+        Ok(stop) => println!(rt; ": {} {} {}", word(stop), leg.steps, leg.rows)?,
+        Err(why) => refused(rt, why)?,
+    }
+    table(rt, &motifs)?;
+    table(rt, &supports)?;
+    table(rt, &weights)
 }
 
 // A new search: refused, or its first leg.
-pub fn begun(rt: &impl Print, letters: &[u8], lengths: &[u32], answer: Begun) {
+pub fn begun(
+    rt: &impl Print,
+    letters: &[u8],
+    lengths: &[u32],
+    answer: Result<Search, Refusal>,
+) -> io::Result<()> {
     match answer {
-        Begun::Search(search) => leg(rt, letters, lengths, search),
-        Begun::Refused(why) => refused(rt, why),
+        Ok(search) => leg(rt, letters, lengths, search),
+        Err(why) => refused(rt, why),
     }
 }
 
 // A recovery: refused, or the rows written and the length of the list, and then all of the table.
-pub fn recovered(rt: &impl Print, answer: Recovered, out: &[u32]) {
+pub fn recovered(
+    rt: &impl Print,
+    answer: Result<Recovered, Refusal>,
+    out: &[u32],
+) -> io::Result<()> {
     match answer {
-        Recovered::Rows { written, length } => {
-            let _ = rt.write_all(b": rows");
-            number(rt, written as u64);
-            number(rt, length);
-            end_line(rt);
-            table(rt, out);
+        Ok(Recovered { rows, length }) => {
+            println!(rt; ": rows {rows} {length}")?;
+            table(rt, out)
         }
-        Recovered::Refused(why) => refused(rt, why),
+        Err(why) => refused(rt, why),
     }
 }

@@ -19,11 +19,12 @@ written_else fine w a xs out = refl
 written_else (refused n p) w a xs out = refl
 
 -- a save goes by what is found of its search, and then by 17
-pub save_told : (letters lengths : List ℕ) (s : Search) (out : List ℕ) {v : Verdict} → v ≡ first (search_checks letters lengths s)
+pub save_told : (letters lengths : List ℕ) (s : Search) (out : List ℕ)
     → save_rule letters lengths s out
-    ≡ on_refusal v (λ n p. record { told = refuses n p; out = out }) (write_rule s out)
+    ≡ on_refusal (first (search_checks letters lengths s)) (λ n p. record { told = refuses n p; out = out }) (write_rule s out)
 unfolding save_rule save_checks
-save_told letters lengths s out {v} e =
+save_told letters lengths s out =
+    let v = first (search_checks letters lengths s) in
     let w = check17 (length (bytes s)) out in
-    let q : v else w ≡ first (save_checks letters lengths s out) = then_next (search_checks letters lengths s) refl e refl in
+    let q : v else w ≡ first (save_checks letters lengths s out) = then_next (search_checks letters lengths s) refl refl refl in
     rw (← q) (written_else v w (length (bytes s)) (bytes s) out)

@@ -3,30 +3,24 @@
 
 ghost use Rattle.std.specs.Prelude.{◌≡◌};
 ghost use Rattle.rules.specs.Calls.{begin_rule, leg_rule};
-ghost use Rattle.rules.specs.Told.{told_begun, told_leg};
+ghost use Rattle.rules.specs.Told.{told_answer, told_leg};
 
-use rules::{Begun, Checked, Leg, LegAnswer, Place, Search, SequenceSet, Template};
+use rules::{Leg, Place, Refusal, Search, SequenceSet, Template};
 
 // A new search for the motifs of a template that at least `quorum` of the sequences hold. The sequences are lent as one buffer
 // of letters and a table of their lengths. What breaks a rule is refused by the first number, of 1 to 8, 24 and 9, that applies;
 // otherwise the search stands at its first candidate.
-pub fn begin(letters: &[u8], lengths: &[u32], template: Template, quorum: u64) -> Begun
-    ensures { told_begun result ≡ begin_rule letters.now lengths.now template quorum }
+pub fn begin(
+    letters: &[u8],
+    lengths: &[u32],
+    template: Template,
+    quorum: u64,
+) -> Result<Search, Refusal>
+    ensures { told_answer result ≡ begin_rule letters.now lengths.now template quorum }
 {
-    let n = lengths.len();
-    let m = letters.len();
-    let checked = checks::check_new(letters, lengths, template, quorum);
-    match checked {
-        Checked::Refused(why) => Begun::Refused(why),
-        Checked::Fine => {
-            let sequences = n as u32;
-            let total = m as u32;
-            let trimmed = template.trim();
-            let set = SequenceSet::new(sequences, total);
-            let place = Place::first();
-            Begun::Search(Search::new(trimmed, quorum, set, place))
-        }
-    }
+    checks::check_new(letters, lengths, template, quorum)?;
+    let set = SequenceSet::new(lengths.len() as u32, letters.len() as u32);
+    Ok(Search::new(template.trim(), quorum, set, Place::first()))
 }
 
 // A leg of a search: from its place on, as far as a budget of steps and the room in three tables allow. A row for each motif
@@ -47,14 +41,8 @@ pub fn leg(
     ensures supports_after { supports.new ≡ (leg_rule letters.now lengths.now search budget motifs.old supports.old weights.old).supports }
     ensures weights_after { weights.new ≡ (leg_rule letters.now lengths.now search budget motifs.old supports.old weights.old).weights }
 {
-    let checked = places::check_before_13(letters, lengths, search);
-    match checked {
-        Checked::Refused(why) => Leg {
-            answer: LegAnswer::Refused(why),
-            steps: 0,
-            rows: 0,
-            search,
-        },
-        Checked::Fine => legs::leg(letters, lengths, search, budget, motifs, supports, weights),
+    match places::check_before_13(letters, lengths, search) {
+        Err(why) => Leg::refused(search, why),
+        Ok(()) => legs::leg(letters, lengths, search, budget, motifs, supports, weights),
     }
 }

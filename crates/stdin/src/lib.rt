@@ -2,82 +2,30 @@
 // and of standard input nothing of the bytes. An inner crate, of the programs.
 #![tactic(auto)]
 
-ghost use Rattle.std.specs.Prelude.{◌≡◌, ◌-◌, ◌≤◌, ◌<◌, ℕ, Result, length};
-ghost use Rattle.stdin.specs.Came.{Moved, came_after, more_of, bytes_of, AtEnd};
+ghost use Rattle.std.specs.Prelude.{◌≤◌, ◌<◌, take, length, IfOk};
+ghost use Rattle.std.specs.Io.KnownBytes.{Consumes, IsAtEnd};
 
 use std::io;
-use std::io::{Error, Read};
+use std::io::Read;
 
-// What came to the front of a buffer: so many bytes, and perhaps more to come; all that there are, or that the buffer has room
-// for; or nothing that may be used, since a read failed.
-#[derive(Clone, Copy)]
-pub enum Came {
-    More(usize),
-    All(usize),
-    Failed,
-}
-
-// Whether more may come.
-fn more(came: Came) -> bool
-    ensures { result ≡ more_of came }
+// Reads until the input ends, the buffer is full or a read fails, and answers how many bytes came to the front of the buffer. A
+// failed read is not the input's end: what came before it may look whole and is not.
+#[tactic(auto, using(crate::proofs::ReadByRead::read_more))]
+pub fn read_all<R: Read>(input: &mut R, buffer: &mut [u8]) -> io::Result<usize>
+    ensures room { IfOk result (λ n. n ≤ length buffer.old) }
+    ensures bytes { IfOk result (λ n. Consumes (R.remaining input.old) (R.remaining input.new) (take n buffer.new)) }
+    ensures end { IfOk result (λ n. n < length buffer.old → IsAtEnd (R.remaining input.new)) }
 {
-    match came {
-        Came::More(_) => true,
-        Came::All(_) => false,
-        Came::Failed => false,
+    let mut n = 0;
+    // It adds up how much each read moved; `read_to_end` would want a heap.
+    while n < buffer.len() {
+        let moved = input.read(&mut buffer[n..])?;
+        if moved == 0 {
+            return Ok(n);
+        }
+        n += moved;
     }
-}
-
-// How many bytes came.
-fn bytes(came: Came) -> usize
-    ensures { result ≡ bytes_of came }
-{
-    match came {
-        Came::More(n) => n,
-        Came::All(n) => n,
-        Came::Failed => 0,
-    }
-}
-
-// What came, after a read behind the first n bytes of a buffer answered `got`.
-fn after(n: usize, got: io::Result<usize>, buffer: &[u8]) -> Came
-    requires { (n < length buffer.now) × Moved (length buffer.now - n) got }
-    ensures { result ≡ came_after (length buffer.now) n got }
-{
-    let whole = got.is_ok();
-    let moved = got.unwrap_or(0);
-    let all = n + moved;
-    if !whole {
-        return Came::Failed;
-    }
-    if (moved == 0) | (all == buffer.len()) {
-        Came::All(all)
-    } else {
-        Came::More(all)
-    }
-}
-
-// One read more.
-fn read_more<R: Read>(input: &mut R, n: usize, buffer: &mut [u8]) -> Came
-    requires { n < length buffer.old }
-    ensures { (got : Result ℕ Error) × Moved (length buffer.old - n) got × (result ≡ came_after (length buffer.old) n got) }
-{
-    let got = input.read(&mut buffer[n..]);
-    after(n, got, buffer)
-}
-
-// Reads until the input ends, the buffer is full or a read fails. A failed read is not the input's end: what came before it may
-// look whole and is not.
-pub fn read_all<R: Read>(input: &mut R, buffer: &mut [u8]) -> Came
-    requires { 1 ≤ length buffer.old }
-    ensures { AtEnd (length buffer.old) result }
-{
-    let mut came = Came::More(0);
-    while more(came) {
-        let n = bytes(came);
-        came = read_more(input, n, buffer);
-    }
-    came
+    Ok(n)
 }
 
 // A program says on standard error that its input failed.

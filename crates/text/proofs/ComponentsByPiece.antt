@@ -1,98 +1,108 @@
--- The components of a well-formed line, one for each piece: the one at an index is what the piece at that index says.
+-- A template's line, piece by piece: the components read so far, and what the pieces that follow come to, are the whole.
 use mathlib.Core.Path.{◌≡◌, refl, sym, ap, ◌∙◌}
-use mathlib.Core.Bool.{true, false≢true}
-use mathlib.Core.List.{List, [], ◌∷◌}
-use Prim.Native.Nat.{ℕ, zero, suc, ◌+◌, ◌-◌, ◌≤◌, ◌<◌}
-use native.Mathlib.Nat.{add-zero}
+use mathlib.Core.List.{List, [], ◌∷◌, ◌++◌}
+use mathlib.Core.Logic.{◌⊎◌, inl, inr}
+use Prim.Native.Nat.{ℕ, zero, suc, ◌+◌, ◌≤◌, ◌<◌}
 use native.Mathlib.Omega.{arith}
-use lib.ListN.{length, take, drop, get_or, get_or-eq_default}
-use lib.Seq.{get_or-drop}
-use Rattle.rules.specs.Template.{none}
-use Rattle.rules.specs.Text.{Parsed, parsed, malformed, is_well_formed, or_else, pieces, cons, parse_component, parse_first, parse_rest, parse_pieces, parse_components, template_of}
+use lib.ListN.{length, get_or, set, length-append, length-set, get_or-append, get_or-eq_default}
+use lib.Seq.{get_or-append_seam}
+use Rattle.std.proofs.lemmas.Bool.{cases_order}
+use Rattle.std.proofs.lemmas.List.{get_or-set_same, get_or-set_other}
+use Rattle.rules.specs.Template.{none, with_slots}
+use Rattle.rules.specs.Text.{Parsed, parsed, malformed, cons, parse_component, parse_first, parse_rest, parse_pieces, template_of}
 use Rattle.rules.specs.declared.Component.{Component}
 use Rattle.rules.specs.declared.Profile.TheVariants.{Exact}
-use Rattle.rules.specs.declared.Template.{Template}
-use Rattle.text.specs.Pieces.{find, others, after_pieces}
-use Rattle.text.proofs.Scan.{pieces_cut, pieces_after, scan_cut}
+use Rattle.text.specs.Parsed.{parsed_by}
 
--- what a well-formed list of components comes to
-record Consed (x : Parsed Component) (xs : Parsed (List Component)) : Type 0 where
-  first : get_or (or_else (cons x xs) []) 0 none ≡ or_else x none
-  next : (i : ℕ) → get_or (or_else (cons x xs) []) (suc i) none ≡ get_or (or_else xs []) i none
-  long : length (or_else (cons x xs) []) ≡ suc (length (or_else xs []))
-  well : is_well_formed xs ≡ true
+-- some components, before what a text comes to
+pub prefixed : List Component → Parsed (List Component) → Parsed (List Component)
+prefixed [] p = p
+prefixed (c ∷ cs) p = cons (parsed c) (prefixed cs p)
 
-consed : (x : Parsed Component) (xs : Parsed (List Component)) → is_well_formed (cons x xs) ≡ true → Consed x xs
-consed (parsed x) (parsed xs) e = record { first = refl; next = λ i. refl; long = refl; well = refl }
-consed (parsed x) malformed e = absurd (false≢true e)
-consed malformed xs e = absurd (false≢true e)
+prefixed_more : (cs : List Component) (c : Component) (p : Parsed (List Component)) → prefixed cs (cons (parsed c) p) ≡ prefixed (cs ++ c ∷ []) p
+unfolding prefixed
+prefixed_more [] c p = refl
+prefixed_more (d ∷ cs) c p = ap (cons (parsed d)) (prefixed_more cs c p)
 
-rest_at : (ps : List (List ℕ)) (i : ℕ) → is_well_formed (parse_rest ps) ≡ true → i < length ps
-    → get_or (or_else (parse_rest ps) []) i none ≡ or_else (parse_component (get_or ps i [])) none
-unfolding parse_rest
-rest_at [] i w h = absurd (omega arith)
-rest_at (p ∷ ps) zero w h = (consed (parse_component p) (parse_rest ps) w).first
-rest_at (p ∷ ps) (suc i) w h =
-    let c = consed (parse_component p) (parse_rest ps) w in
-    c.next i ∙ rest_at ps i c.well (omega arith)
+prefixed_bad : (cs : List Component) → prefixed cs malformed ≡ malformed
+unfolding prefixed
+prefixed_bad [] = refl
+prefixed_bad (c ∷ cs) = ap (cons (parsed c)) (prefixed_bad cs)
 
-rest_long : (ps : List (List ℕ)) → is_well_formed (parse_rest ps) ≡ true → length (or_else (parse_rest ps) []) ≡ length ps
-unfolding parse_rest
-rest_long [] w = refl
-rest_long (p ∷ ps) w =
-    let c = consed (parse_component p) (parse_rest ps) w in
-    c.long ∙ ap suc (rest_long ps c.well)
+prefixed_all : (cs : List Component) → prefixed cs (parsed []) ≡ parsed cs
+unfolding prefixed
+prefixed_all [] = refl
+prefixed_all (c ∷ cs) = ap (cons (parsed c)) (prefixed_all cs)
 
-pieces_at : (ps : List (List ℕ)) (i : ℕ) → is_well_formed (parse_pieces ps) ≡ true → 1 ≤ i → i < length ps
-    → get_or (or_else (parse_pieces ps) []) i none ≡ or_else (parse_component (get_or ps i [])) none
-pieces_at [] i w l h = absurd (omega arith)
-pieces_at (p ∷ ps) zero w l h = absurd (omega arith)
-pieces_at (p ∷ ps) (suc i) w l h =
-    let c = consed (parse_first p) (parse_rest ps) w in
-    c.next i ∙ rest_at ps i c.well (omega arith)
+-- of the pieces of a line so many are read, and the first components stand in the slots; some pieces are left
+pub record Read (ps : List (List ℕ)) (count : ℕ) (slots : List Component) (left : List (List ℕ)) : Type 0 where
+  pub components : List Component
+  pub long : length components ≡ count
+  pub slots_long : length slots ≡ 6
+  pub slot : (i : ℕ) → i < 6 → get_or slots i none ≡ get_or components i none
+  pub all : parse_pieces ps ≡ prefixed components (parse_rest left)
 
-pieces_long : (ps : List (List ℕ)) → is_well_formed (parse_pieces ps) ≡ true → length (or_else (parse_pieces ps) []) ≡ length ps
-pieces_long [] w = absurd (false≢true w)
-pieces_long (p ∷ ps) w =
-    let c = consed (parse_first p) (parse_rest ps) w in
-    c.long ∙ ap suc (rest_long ps c.well)
+-- the first piece decides where it is malformed
+pub first_bad : (p : List ℕ) {ps rest : List (List ℕ)} → ps ≡ p ∷ rest → parse_first p ≡ malformed → malformed ≡ parse_pieces ps
+first_bad p e q = rw (e, q)
 
-pieces_first : {ps : List (List ℕ)} (p : List ℕ) (rest : List (List ℕ)) → ps ≡ p ∷ rest → is_well_formed (parse_pieces ps) ≡ true
-    → get_or (or_else (parse_pieces ps) []) 0 none ≡ or_else (parse_first p) none
-pieces_first p rest e w = rw e (consed (parse_first p) (parse_rest rest) (rw e at w)).first
+-- and else it is the first component
+pub read_first : (p : List ℕ) {ps rest : List (List ℕ)} (c : Component) → ps ≡ p ∷ rest → parse_first p ≡ parsed c → Read ps 1 (c ∷ none ∷ none ∷ none ∷ none ∷ none ∷ []) rest
+unfolding prefixed
+read_first p c e q = record { components = c ∷ []; long = refl; slots_long = refl; slot = go; all = rw (e, q) }
+  where
+    go : (i : ℕ) → i < 6 → get_or (c ∷ none ∷ none ∷ none ∷ none ∷ none ∷ []) i none ≡ get_or (c ∷ []) i none
+    go zero h = refl
+    go (suc zero) h = refl
+    go (suc (suc zero)) h = refl
+    go (suc (suc (suc zero))) h = refl
+    go (suc (suc (suc (suc zero)))) h = refl
+    go (suc (suc (suc (suc (suc zero))))) h = refl
+    go (suc (suc (suc (suc (suc (suc i)))))) h = refl
 
--- the piece at an index, as a scan finds it
-piece_at : (b i start : ℕ) {end : ℕ} (l : List ℕ) → i < length (pieces b l) → start ≤ length l → drop start l ≡ after_pieces b i l → end ≡ start + find b (drop start l)
-    → get_or (pieces b l) i [] ≡ take (end - start) (drop start l)
-piece_at b i start {end} l h s a e =
-    ap (λ (k : ℕ). get_or (pieces b l) k []) (sym (add-zero i))
-    ∙ sym (get_or-drop i (pieces b l) 0 [])
-    ∙ rw (pieces_after b i l h, ← a, scan_cut b start end l e s)
+module _ {ps left rest : List (List ℕ)} {count : ℕ} {slots : List Component} (r : Read ps count slots left) (p : List ℕ) (e : left ≡ p ∷ rest) where
+  turn : parse_pieces ps ≡ prefixed r.components (cons (parse_component p) (parse_rest rest))
+  unfolding parse_rest
+  turn = r.all ∙ ap (λ (l : List (List ℕ)). prefixed r.components (parse_rest l)) e
 
-module _ (l : List ℕ) (w : is_well_formed (parse_components l) ≡ true) where
-  -- there are as many components as pieces
-  pub slot_count : length (or_else (parse_components l) []) ≡ length (pieces 91 l)
-  unfolding parse_components
-  slot_count = pieces_long (pieces 91 l) w
+  -- a piece that is malformed decides it
+  pub read_bad : parse_component p ≡ malformed → malformed ≡ parse_pieces ps
+  read_bad q = sym (turn ∙ rw q (prefixed_bad r.components))
 
-  -- the first one
-  pub slot_first : get_or (or_else (parse_components l) []) 0 none ≡ or_else (parse_first (take (find 91 l) l)) none
-  unfolding parse_components
-  slot_first = pieces_first (take (find 91 l) l) (others 91 l) (pieces_cut 91 l) w
+  module _ (c : Component) (q : parse_component p ≡ parsed c) where
+    -- another is one component more
+    more : {now : List Component} → length now ≡ 6 → ((i : ℕ) → i < 6 → get_or now i none ≡ get_or (r.components ++ c ∷ []) i none) → Read ps (count + 1) now rest
+    more {now} k s = record {
+      components = r.components ++ c ∷ [];
+      long = rw length-append (omega (arith, r.long));
+      slots_long = k;
+      slot = s;
+      all = turn ∙ rw q (prefixed_more r.components c (parse_rest rest));
+    }
 
-  -- one after the first
-  pub slot_at : (i start : ℕ) {end : ℕ} → 1 ≤ i → i < length (pieces 91 l) → start ≤ length l → drop start l ≡ after_pieces 91 i l → end ≡ start + find 91 (drop start l)
-      → get_or (or_else (parse_components l) []) i none ≡ or_else (parse_component (take (end - start) (drop start l))) none
-  unfolding parse_components
-  slot_at i start k h s a e = pieces_at (pieces 91 l) i w k h ∙ rw (piece_at 91 i start l h s a e)
+    -- in its slot
+    pub read_more : count < 6 → Read ps (count + 1) (set slots count c) rest
+    read_more k = more (length-set slots count c ∙ r.slots_long) (λ i b. go i b (cases_order i count))
+      where
+        go : (i : ℕ) → i < 6 → (i ≡ count) ⊎ ((i < count) ⊎ (count < i)) → get_or (set slots count c) i none ≡ get_or (r.components ++ c ∷ []) i none
+        go i b (inl h) = rw (h, get_or-set_same slots count c none (omega (arith, r.slots_long)), ← r.long) (sym (get_or-append_seam r.components c [] none))
+        go i b (inr (inl h)) =
+            get_or-set_other slots count i c none (λ w. omega (arith, w)) ∙ r.slot i b ∙ sym (get_or-append r.components (c ∷ []) none i (omega (arith, r.long)))
+        go i b (inr (inr h)) =
+            let l : length (r.components ++ c ∷ []) ≤ i = rw length-append (omega (arith, r.long)) in
+            get_or-set_other slots count i c none (λ w. omega (arith, w)) ∙ r.slot i b ∙ get_or-eq_default r.components none {n = i} (omega (arith, r.long)) ∙ sym (get_or-eq_default (r.components ++ c ∷ []) none {n = i} l)
 
-  -- none past the last
-  pub slot_past : (i : ℕ) → length (pieces 91 l) ≤ i → get_or (or_else (parse_components l) []) i none ≡ none
-  slot_past i h = get_or-eq_default (or_else (parse_components l) []) none {n = i} (rw slot_count h)
+    -- or in none, where there are no more
+    pub read_past : 6 ≤ count → Read ps (count + 1) slots rest
+    read_past k = more r.slots_long (λ i b. r.slot i b ∙ sym (get_or-append r.components (c ∷ []) none i (omega (arith, r.long))))
 
--- a template from its slots
-pub template_is : (cs : List Component) {n : ℕ} {c1 c2 c3 c4 c5 c6 : Component} → n ≡ length cs → c1 ≡ get_or cs 0 none → c2 ≡ get_or cs 1 none → c3 ≡ get_or cs 2 none
-    → c4 ≡ get_or cs 3 none → c5 ≡ get_or cs 4 none → c6 ≡ get_or cs 5 none
-    → ◌≡◌ {A = Template} (record { profile = Exact; count = n; c1 = c1; c2 = c2; c3 = c3; c4 = c4; c5 = c5; c6 = c6 }) (template_of cs)
-unfolding template_of
-template_is cs e e1 e2 e3 e4 e5 e6 i = record { profile = Exact; count = e i; c1 = e1 i; c2 = e2 i; c3 = e3 i; c4 = e4 i; c5 = e5 i; c6 = e6 i }
+-- where no piece is left, the template is the one of the slots
+module _ {ps : List (List ℕ)} {count : ℕ} {slots : List Component} (r : Read ps count slots []) where
+  all_read : parse_pieces ps ≡ parsed r.components
+  unfolding parse_rest
+  all_read = r.all ∙ prefixed_all r.components
+
+  pub template_read : parsed (with_slots Exact count (get_or slots 0 none) (get_or slots 1 none) (get_or slots 2 none) (get_or slots 3 none) (get_or slots 4 none) (get_or slots 5 none))
+      ≡ parsed_by template_of (parse_pieces ps)
+  unfolding template_of
+  template_read = rw (all_read, r.slot 0 (omega arith), r.slot 1 (omega arith), r.slot 2 (omega arith), r.slot 3 (omega arith), r.slot 4 (omega arith), r.slot 5 (omega arith), ← r.long)

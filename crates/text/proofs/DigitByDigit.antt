@@ -1,16 +1,18 @@
--- A scan that tests every byte, and a number read digit by digit.
-use mathlib.Core.Path.{◌≡◌, refl, sym, ◌∙◌}
-use mathlib.Core.Bool.{Bool, true, false, ◌&&◌}
+-- A test of every byte, and a number read digit by digit.
+use mathlib.Core.Path.{◌≡◌, refl, sym, ap, ◌∙◌}
+use mathlib.Core.Bool.{Bool, true, false, ◌&&◌, ◌||◌, not}
 use mathlib.Core.List.{List, [], ◌∷◌}
 use Prim.Native.Nat.{ℕ, suc, ◌+◌, ◌-◌, ◌*◌, ◌^◌, ◌≤◌, ◌<◌}
 use native.Mathlib.Nat.{le_trans, pow-succ', pow-le-pow_right}
 use native.Mathlib.Numerals.{add-one}
 use native.Mathlib.Omega.{arith}
-use lib.Dec.{leb, ltb, eqb}
+use lib.Dec.{eqb, leb}
 use lib.ListN.{length, drop, get_or, length-drop, drop_of_length-le}
 use lib.Seq.{drop-cons}
-use borrow.Author.Tests.{leb-true, leb-false, eq-eqb, ne_eqb, lt-ltb}
+use borrow.Author.Tests.{eq-eqb, ne_eqb, eqb-true, eqb-false}
+use Rattle.std.specs.List.{list_all, starts_with}
 use Rattle.rules.proofs.All.{member_at}
+use Rattle.rules.proofs.Tests.{and_true}
 use Rattle.rules.proofs.TextNumbers.{digits_all, number_says, digits_cons}
 use Rattle.rules.specs.Lists.{all_pass, has_some}
 use Rattle.rules.specs.Motif.{number}
@@ -18,41 +20,17 @@ use Rattle.rules.specs.Text.{is_in_range, is_number_text, digits, is_run}
 
 -- ---- every byte
 
-module _ (f : ℕ → Bool) where
-  -- a byte that passes leaves the test to those after it
-  pub all_more : (i : ℕ) (l : List ℕ) → i < length l → f (get_or l i 0) ≡ true → all_pass f (drop i l) ≡ all_pass f (drop (i + 1) l)
-  unfolding all_pass
-  all_more i l h e = rw (drop-cons l i 0 h, e, add-one)
-
-  -- a byte that fails decides it
-  pub all_fails : (i : ℕ) (l : List ℕ) → i < length l → f (get_or l i 0) ≡ false → all_pass f (drop i l) ≡ false
-  unfolding all_pass
-  all_fails i l h e = rw (drop-cons l i 0 h, e)
-
-  -- no byte is left
-  pub all_end : (i : ℕ) (l : List ℕ) → length l ≤ i → all_pass f (drop i l) ≡ true
-  unfolding all_pass
-  all_end i l h = rw (drop_of_length-le l {i = i} h)
-
-  all_same : (g : ℕ → Bool) → ((x : ℕ) → f x ≡ g x) → (l : List ℕ) → all_pass f l ≡ all_pass g l
-  unfolding all_pass
-  all_same g h [] = refl
-  all_same g h (x ∷ xs) = rw (h x, all_same g h xs)
-
--- from 78 to 78 there is N alone
-only : (n b : ℕ) → is_in_range n n b ≡ eqb b n
-only n b = go (leb n b) refl (leb b n) refl
-  where
-    go : (s : Bool) → leb n b ≡ s → (t : Bool) → leb b n ≡ t → s && t ≡ eqb b n
-    go true p true q = sym (eq-eqb b n (omega (arith, leb-true n b p, leb-true b n q)))
-    go true p false q = sym (ne_eqb b n (λ e. omega (arith, e, leb-false b n q)))
-    go false p t q = sym (ne_eqb b n (λ e. omega (arith, e, leb-false n b p)))
+-- the rule's word for it, and the library's
+all_is : (f : ℕ → Bool) (l : List ℕ) → list_all f l ≡ all_pass f l
+unfolding all_pass
+all_is f [] = refl
+all_is f (x ∷ xs) = ap (λ t. f x && t) (all_is f xs)
 
 -- a run of N is a text that is not empty and has nothing else
-pub run_is : (l : List ℕ) → ltb 0 (length l) && all_pass (is_in_range 78 78) l ≡ is_run l
+pub run_is : (l : List ℕ) {z r : Bool} → z ≡ eqb (length l) 0 → r ≡ list_all (λ b. eqb b 78) l → not z && r ≡ is_run l
 unfolding is_run has_some
-run_is [] = refl
-run_is (x ∷ xs) = rw (lt-ltb 0 (suc (length xs)) (omega arith)) (all_same (is_in_range 78 78) (λ b. eqb b 78) (only 78) (x ∷ xs))
+run_is [] z e = rw z
+run_is (x ∷ xs) z e = rw (z, ne_eqb (suc (length xs)) 0 (λ w. omega (arith, w))) (e ∙ all_is (λ b. eqb b 78) (x ∷ xs))
 
 -- ---- a number
 
@@ -80,11 +58,25 @@ module _ (i v : ℕ) (l : List ℕ) (h : i < length l) where
   pub digit_high : all_pass (is_in_range 48 57) l ≡ true → get_or l i 0 ≤ 57
   digit_high e = ((digits_all l).0 e (get_or l i 0) (member_at l i 0 h)).1
 
-  -- five digits are below a hundred thousand
-  pub digits_small : length l ≤ 5 → v < 10 ^ i → v < 100000
-  digits_small k q = le_trans q (pow-le-pow_right (omega arith) {i = i} {j = 5} (omega arith))
-
 -- ---- the rule of a number
+
+eqb_comm : (x y : ℕ) → eqb x y ≡ eqb y x
+eqb_comm x y = go (eqb y x) refl
+  where
+    go : (t : Bool) → eqb y x ≡ t → eqb x y ≡ t
+    go true e = eq-eqb x y (sym (eqb-true y x e))
+    go false e = ne_eqb x y (λ w. eqb-false y x e (sym w))
+
+-- whether the first digit is 0
+leading_is : (l : List ℕ) → starts_with eqb l (48 ∷ []) ≡ eqb (get_or l 0 0) 48
+leading_is [] = refl
+leading_is (x ∷ xs) = and_true (eqb 48 x) ∙ eqb_comm 48 x
+
+-- the four tests are those of the rule
+pub number_is : (most : ℕ) (l : List ℕ) {r z : Bool} → r ≡ list_all (is_in_range 48 57) l → z ≡ starts_with eqb l (48 ∷ [])
+    → leb 1 (length l) && leb (length l) most && r && (eqb (length l) 1 || not z) ≡ is_number_text most l
+unfolding is_number_text
+number_is most l d z = rw (d, all_is (is_in_range 48 57) l, z, leading_is l)
 
 module _ (most : ℕ) (l : List ℕ) (e : is_number_text most l ≡ true) where
   -- its bytes are digits

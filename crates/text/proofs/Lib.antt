@@ -7,7 +7,6 @@ pub mod Line
 pub mod PrintedPage
 pub mod Scan
 pub mod DigitByDigit
-pub mod ComponentText
 pub mod ComponentsByPiece
 pub mod Lines
 pub mod SequenceLines

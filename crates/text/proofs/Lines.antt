@@ -1,65 +1,59 @@
--- The lines of an input as a scan finds them, and what holds of an input once its checks have passed.
+-- The lines of an input, one after the other, and what holds of an input once its checks have passed.
 use mathlib.Core.Path.{◌≡◌, refl, sym, ap, ◌∙◌}
-use mathlib.Core.Bool.{Bool, true, false, not}
+use mathlib.Core.Bool.{Bool, true, not, false≢true}
 use mathlib.Core.List.{List, [], ◌∷◌}
-use Prim.Native.Nat.{ℕ, suc, ◌+◌, ◌-◌, ◌≤◌, ◌<◌}
-use native.Mathlib.Nat.{add-zero}
+use Prim.Native.Nat.{ℕ, suc, ◌≤◌, ◌<◌}
 use native.Mathlib.Omega.{arith}
-use lib.Dec.{ltb}
-use lib.ListN.{length, take, drop, get_or, drop_of_length-le}
-use lib.Seq.{drop-cons, get_or-drop}
-use borrow.Author.Tests.{lt-ltb, le-ltb, ltb-true, ltb-false, not-false}
+use lib.Dec.{eqb}
+use lib.ListN.{length}
+use borrow.Author.Tests.{lt-ltb, le-ltb, ltb-false, not-false, ne_eqb}
+use Rattle.std.specs.Prelude.{Option, None, Some, IsSome, unwrap_or}
+use Rattle.text.specs.Parsed.{told_parse, parsed_by}
+use Rattle.rules.specs.declared.Component.{Component}
+use Rattle.rules.specs.declared.Template.{Template}
 use Rattle.rules.proofs.TextLines.{text_passes}
 use Rattle.rules.proofs.Verdicts.{else_fine}
 use Rattle.rules.specs.Limits.{text_bytes, text_quorum_digits}
 use Rattle.rules.specs.Lists.{has_some}
 use Rattle.rules.specs.Refusals.{◌else◌, first}
-use Rattle.rules.specs.Text.{is_well_formed, pieces, but_last, last, lines, nth_line, unended, refuse_line, text_checks, parse_components, parse_number}
+use Rattle.rules.specs.Text.{Parsed, parsed, malformed, is_well_formed, or_else, template_of, pieces, but_last, last, lines, nth_line, unended, refuse_line, text_checks, parse_components, parse_number}
 use Rattle.rules.specs.Told.{Verdict, fine, refused}
-use Rattle.text.specs.Pieces.{find, after_pieces}
-use Rattle.text.proofs.Scan.{pieces_cut, lines_after, lines_more, lines_none}
+use Rattle.text.proofs.Scan.{last_onto, but_last_onto}
 
 -- ---- one line
 
--- the lines after n others are those of the text after them
-lines_from : (n start : ℕ) (l : List ℕ) → drop start l ≡ after_pieces 10 n l → get_or (lines l) n [] ≡ get_or (but_last (pieces 10 (drop start l))) 0 []
-unfolding lines
-lines_from n start l a =
-    ap (λ (k : ℕ). get_or (but_last (pieces 10 l)) k []) (sym (add-zero n))
-    ∙ sym (get_or-drop n (but_last (pieces 10 l)) 0 [])
-    ∙ rw (lines_after 10 n l, a)
+module _ (l x y : List ℕ) (e : pieces 10 l ≡ x ∷ pieces 10 y) where
+  -- where byte 10 stands the first line ends, and the others follow
+  pub line_first : lines l ≡ x ∷ lines y
+  unfolding lines
+  line_first = ap but_last e ∙ but_last_onto 10 x y
 
-module _ (n start : ℕ) {end : ℕ} (l : List ℕ) (a : drop start l ≡ after_pieces 10 n l) (e : end ≡ start + find 10 (drop start l)) (s : start ≤ length l) where
-  -- a line ends where byte 10 stands
-  pub line_found : end < length l → take (end - start) (drop start l) ≡ get_or (lines l) n []
-  line_found h = sym (lines_from n start l a ∙ rw (lines_more 10 start end l e s h))
+  -- and what follows the last of them is the same
+  pub end_first : unended l ≡ unended y
+  unfolding unended
+  end_first = ap last e ∙ last_onto 10 x y
 
-  -- a line that is not there is empty
-  pub line_missing : length l ≤ end → take (start - start) (drop start l) ≡ get_or (lines l) n []
-  line_missing h =
-      let z : start - start ≡ 0 = omega arith in
-      rw z (sym (lines_from n start l a ∙ rw (lines_none 10 start end l e s h)))
+module _ (l : List ℕ) (e : pieces 10 l ≡ l ∷ []) where
+  -- where it does not stand there is no line
+  pub line_none : lines l ≡ []
+  unfolding lines but_last
+  line_none = ap but_last e
 
--- ---- the end of the last line
+  -- and all is what follows
+  pub end_none : unended l ≡ l
+  unfolding unended last
+  end_none = ap last e
 
-but_last_long : (x : List ℕ) (xs : List (List ℕ)) → length (but_last (x ∷ xs)) ≡ length xs
-unfolding but_last
-but_last_long x [] = refl
-but_last_long x (y ∷ ys) = ap suc (but_last_long y ys)
+-- an empty text has no line
+pub line_empty : lines [] ≡ []
+unfolding lines but_last pieces
+line_empty = refl
 
--- there is one line less than there are pieces
-pub lines_long : (n : ℕ) (l : List ℕ) → n + 1 ≡ length (pieces 10 l) → n + 1 ≡ suc (length (lines l))
-unfolding lines
-lines_long n l e = e ∙ rw (pieces_cut 10 l) (ap suc (sym (but_last_long _ _)))
-
--- something follows the last line if the last piece starts before the end
-pub unended_some : (start : ℕ) (l : List ℕ) → drop start l ≡ last (pieces 10 l) → ltb start (length l) ≡ has_some (unended l)
-unfolding unended has_some
-unended_some start l e = rw (← e) (go (ltb start (length l)) refl)
-  where
-    go : (t : Bool) → ltb start (length l) ≡ t → ltb start (length l) ≡ has_some (drop start l)
-    go true q = rw (q, drop-cons l start 0 (ltb-true _ _ q))
-    go false q = rw (q, drop_of_length-le l {i = start} (ltb-false _ _ q))
+-- whether there is a byte
+pub some_byte : (l : List ℕ) {z : Bool} → z ≡ eqb (length l) 0 → not z ≡ has_some l
+unfolding has_some
+some_byte [] e = rw e
+some_byte (x ∷ xs) e = rw (e, ne_eqb (suc (length xs)) 0 (λ w. omega (arith, w)))
 
 -- ---- the checks in order
 
@@ -70,13 +64,12 @@ module _ (l : List ℕ) where
   text_long h = rw (lt-ltb text_bytes (length l) h)
 
   -- and else the first line, the second, and a last line without its end
-  pub text_order : length l ≤ text_bytes → {a b c : Verdict}
-      → a ≡ refuse_line (not (is_well_formed (parse_components (nth_line l 1)))) 1
-      → b ≡ refuse_line (not (is_well_formed (parse_number text_quorum_digits (nth_line l 2)))) 2
-      → c ≡ refuse_line (has_some (unended l)) (suc (length (lines l)))
-      → a else (b else c) ≡ first (text_checks l)
+  pub text_order : length l ≤ text_bytes
+      → first (text_checks l)
+      ≡ refuse_line (not (is_well_formed (parse_components (nth_line l 1)))) 1
+      else (refuse_line (not (is_well_formed (parse_number text_quorum_digits (nth_line l 2)))) 2 else refuse_line (has_some (unended l)) (suc (length (lines l))))
   unfolding first text_checks ◌else◌
-  text_order h p q r = rw (p, q, r, le-ltb text_bytes (length l) h, else_fine)
+  text_order h = rw (le-ltb text_bytes (length l) h, else_fine)
 
   module _ (e : first (text_checks l) ≡ fine) where
     -- it is not too long
@@ -86,3 +79,18 @@ module _ (l : List ℕ) where
     -- its first line is a template
     pub text_template : is_well_formed (parse_components (nth_line l 1)) ≡ true
     text_template = not-false _ (text_passes l e).1
+
+-- ---- a template that was told, or a number
+
+pub told_some : (r : Option Template) (p : Parsed (List Component)) → told_parse r ≡ parsed_by template_of p → is_well_formed p ≡ true → IsSome r
+told_some None (parsed cs) e w = absurd (false≢true (ap is_well_formed e))
+told_some None malformed e w = absurd (false≢true w)
+told_some (Some t) p e w = refl
+
+pub told_is : (r : Option Template) (p : Parsed (List Component)) (t : Template) → told_parse r ≡ parsed_by template_of p → r ≡ Some t → t ≡ template_of (or_else p [])
+told_is r (parsed cs) t e q = ap (λ x. or_else x t) (rw q at e)
+told_is r malformed t e q = absurd (false≢true (sym (ap is_well_formed (rw q at e))))
+
+pub told_else : (r : Option ℕ) (p : Parsed ℕ) (d : ℕ) → told_parse r ≡ p → unwrap_or r d ≡ or_else p d
+told_else None p d e = rw (← e)
+told_else (Some n) p d e = rw (← e)

@@ -1,15 +1,16 @@
 -- Texts written one after the other are their lists end to end.
 use mathlib.Core.Path.{◌≡◌, refl, sym, ap, ◌∙◌}
 use mathlib.Core.List.{List, [], ◌∷◌, ◌++◌, append_assoc}
-use Prim.Native.Nat.{ℕ, suc, ◌+◌, ◌≤◌, ◌<◌}
+use Prim.Native.Nat.{ℕ, suc, ◌+◌, ◌-◌, ◌≤◌}
 use native.Mathlib.Nat.{add-zero, zero-add}
-use native.Mathlib.Numerals.{add-one}
 use native.Mathlib.Omega.{arith}
-use lib.ListN.{length, take, set, get_or, length-append}
-use lib.Seq.{sets, sets-eq, length-sets, take-suc}
+use borrow.Rule.Slice.PartMut.{put_mid}
+use lib.ListN.{length, take, drop, set, length-append}
+use lib.Seq.{drop-drop, sets, sets-eq, length-sets}
 use Rattle.rules.specs.Lists.{put}
 use Rattle.rules.specs.Text.{decimal}
-use Rattle.text.specs.Printed.{write, Wrote, number_pair}
+use Rattle.text.specs.Printed.{write, Wrote, Prints, number_pair}
+use Rattle.text.specs.declared.print.Printer.{Printer}
 
 sets_append : (l : List ℕ) (i : ℕ) (xs ys : List ℕ) → sets (sets l i xs) (i + length xs) ys ≡ sets l i (xs ++ ys)
 sets_append l i [] ys = rw add-zero
@@ -37,6 +38,7 @@ wrote_one at b out e = record { out = refl; end = e }
 
 -- one text, and another after it
 infixl 20 ◌then◌
+infixl 20 ◌and◌
 pub ◌then◌ : {at next last : ℕ} {xs ys a b c : List ℕ} → Wrote at xs a b next → Wrote next ys b c last → Wrote at (xs ++ ys) a c last
 ◌then◌ {at} {next} {last} {xs} {ys} {a} {b} {c} v w =
     let n : next ≡ at + length xs = v.end in
@@ -49,12 +51,6 @@ pub ◌then◌ : {at next last : ℕ} {xs ys a b c : List ℕ} → Wrote at xs a
 pub wrote_as : {at next : ℕ} {xs ys a b : List ℕ} → Wrote at xs a b next → xs ≡ ys → Wrote at ys a b next
 wrote_as w e = rw e at w
 
--- a copy of a text, one byte more
-pub wrote_more : (at i : ℕ) (text : List ℕ) {a b : List ℕ} → i < length text → Wrote at (take i text) a b (at + i) → Wrote at (take (i + 1) text) a (set b (at + i) (get_or text i 0)) (at + (i + 1))
-wrote_more at i text {a} {b} h w =
-    let e : take i text ++ (get_or text i 0 ∷ []) ≡ take (i + 1) text = rw add-one (sym (take-suc text i 0 h)) in
-    wrote_as (w then wrote_one (at + i) (get_or text i 0) b (omega arith)) e
-
 -- a buffer keeps its length
 pub wrote_length : {at next : ℕ} {xs a b : List ℕ} → Wrote at xs a b next → length b ≡ length a
 wrote_length {at} {next} {xs} {a} {b} w = ap length w.out ∙ length_write at xs a
@@ -62,6 +58,23 @@ wrote_length {at} {next} {xs} {a} {b} w = ap length w.out ∙ length_write at xs
 -- what there was room for besides a text has room after it
 pub room : (n : ℕ) {at next : ℕ} {xs a b : List ℕ} → Wrote at xs a b next → at + (length xs + n) ≤ length a → next + n ≤ length b
 room n w h = omega (arith, w.end, wrote_length w)
+
+-- ---- the same of a printer
+
+pub prints_none : (a : Printer) → Prints [] a a
+prints_none a = record { wrote = wrote_none a.at a.out.now; same = refl }
+
+pub ◌and◌ : {xs ys : List ℕ} {a b c : Printer} → Prints xs a b → Prints ys b c → Prints (xs ++ ys) a c
+◌and◌ v w = record { wrote = v.wrote then w.wrote; same = w.same ∙ v.same }
+
+pub prints_as : {xs ys : List ℕ} {a b : Printer} → Prints xs a b → xs ≡ ys → Prints ys a b
+prints_as w e = rw e at w
+
+-- how far it came
+pub moved : {xs : List ℕ} {a b : Printer} → Prints xs a b → (b.at ≡ a.at + length xs) × (length b.out.now ≡ length a.out.now)
+moved w = (w.wrote.end, wrote_length w.wrote)
+
+-- ---- at the front of a buffer
 
 -- at the front of a buffer that has room it is all that changes
 pub wrote_put : {r : ℕ} {xs a b : List ℕ} → length xs ≤ length a → Wrote 0 xs a b r → b ≡ put xs a
@@ -78,3 +91,14 @@ module _ (before a between b after : ℕ) where
   pub length_pair : length (number_pair before a between b after) ≡ 1 + (length (decimal a) + (1 + (length (decimal b) + 1)))
   unfolding number_pair
   length_pair = simp length-append (omega arith)
+
+-- a text copied over a part of a buffer is written there
+pub wrote_part : (at : ℕ) (text out : List ℕ) {part : List ℕ} → at + length text ≤ length out → part ≡ text → Wrote at text out (put_mid at (at + length text - at) out part) (at + length text)
+unfolding write
+wrote_part at text out h e =
+    let k : at + length text - at ≡ length text = omega arith in
+    record {
+      out =
+          rw (e, k) (ap (λ (l : List ℕ). take at out ++ (text ++ l)) (drop-drop (length text) at out) ∙ sym (append_assoc (take at out) text (drop (at + length text) out)) ∙ sym (sets-eq text out at h));
+      end = refl;
+    }

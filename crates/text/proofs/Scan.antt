@@ -1,37 +1,28 @@
 -- Where a scan finds the byte, the first piece ends and the others begin.
+use Rattle.std.specs.Prelude.{Option, None, Some, MatchOption, position}
+use Rattle.std.specs.List.{list_any, position_or_len}
+use Rattle.std.proofs.lemmas.List.Recursion.{is_position_or_len}
 use mathlib.Core.Path.{◌≡◌, refl, sym, ap, ◌∙◌}
-use mathlib.Core.Bool.{Bool, true, false, ◌||◌, or-false, or_assoc, false≢true}
+use mathlib.Core.Bool.{Bool, true, false, cond, ◌||◌, false≢true}
 use mathlib.Core.List.{List, [], ◌∷◌}
-use Prim.Native.Nat.{ℕ, zero, suc, ◌+◌, ◌-◌, ◌≤◌, ◌<◌, min}
-use native.Mathlib.Nat.{sub-zero, zero-add}
+use Prim.Native.Nat.{ℕ, zero, suc, ◌+◌, ◌-◌, ◌≤◌, ◌<◌}
+use native.Mathlib.Nat.{zero-add}
 use native.Mathlib.Numerals.{add-one}
 use native.Mathlib.Omega.{arith}
 use lib.Dec.{eqb, ltb, leb-suc-suc}
-use lib.ListN.{length, take, drop, get_or, length-take, length-drop, drop_of_length-le}
+use lib.ListN.{length, take, drop, get_or, length-drop}
 use lib.Seq.{drop-cons, drop-drop, length-take-le, take_all}
-use borrow.Author.Tests.{eq-eqb, ne_eqb, eqb-true, eqb-false, lt-ltb, le-ltb, ltb-true, ltb-false}
-use Rattle.rules.proofs.Tables.{drop_min}
-use Rattle.rules.specs.Lists.{if, is_member}
+use borrow.Author.Tests.{ne_eqb, lt-ltb, le-ltb, ltb-true, ltb-false}
+use Rattle.rules.specs.Lists.{if}
 use Rattle.rules.specs.Text.{pieces, onto, last, but_last}
-use Rattle.text.specs.Pieces.{find, others, after_pieces, is_two}
+use Rattle.text.specs.Pieces.{find, others, is_two}
 
 -- ---- the scan
 
-module _ (b i : ℕ) (l : List ℕ) where
-  -- the byte stands here
-  pub find_here : i < length l → get_or l i 0 ≡ b → find b (drop i l) ≡ 0
-  unfolding find
-  find_here h e = rw (drop-cons l i 0 h, eq-eqb (get_or l i 0) b e)
-
-  -- another byte stands here
-  pub find_on : i < length l → (get_or l i 0 ≡ b → ⊥) → find b (drop i l) ≡ suc (find b (drop (i + 1) l))
-  unfolding find
-  find_on h e = rw (add-one, drop-cons l i 0 h, ne_eqb (get_or l i 0) b e)
-
-  -- the text ends here
-  pub find_end : length l ≤ i → find b (drop i l) ≡ 0
-  unfolding find
-  find_end h = rw (drop_of_length-le l {i = i} h)
+-- where another byte stands the scan goes on
+pub find_on : (b i : ℕ) (l : List ℕ) → i < length l → (get_or l i 0 ≡ b → ⊥) → find b (drop i l) ≡ suc (find b (drop (i + 1) l))
+unfolding find
+find_on b i l h e = rw (add-one, drop-cons l i 0 h, ne_eqb (get_or l i 0) b e)
 
 find_le : (b : ℕ) (l : List ℕ) → find b l ≤ length l
 unfolding find
@@ -42,39 +33,25 @@ find_le b (x ∷ xs) = go (eqb x b) (find_le b xs)
     go true h = omega arith
     go false h = omega arith
 
--- ---- whether the byte is among some
-
--- a byte is another exactly if the other is the one
-eqb_comm : (x y : ℕ) → eqb x y ≡ eqb y x
-eqb_comm x y = go (eqb y x) refl
-  where
-    go : (t : Bool) → eqb y x ≡ t → eqb x y ≡ t
-    go true e = eq-eqb x y (sym (eqb-true y x e))
-    go false e = ne_eqb x y (λ w. eqb-false y x e (sym w))
-
--- the test of those passed and of the rest, one byte further on
-pub among_on : (b : ℕ) (s : Bool) (i : ℕ) (l : List ℕ) → i < length l → s || is_member b (drop i l) ≡ s || eqb (get_or l i 0) b || is_member b (drop (i + 1) l)
-unfolding is_member
-among_on b s i l h = rw (drop-cons l i 0 h, add-one, eqb_comm b (get_or l i 0)) (ap (λ t. s || t) (go (eqb (get_or l i 0) b)) ∙ sym (or_assoc s (eqb (get_or l i 0) b) (is_member b (drop (suc i) l))))
-  where
-    go : (t : Bool) → if t true (is_member b (drop (suc i) l)) ≡ t || is_member b (drop (suc i) l)
-    go true = refl
-    go false = refl
-
--- past the end there is no rest
-pub among_end : (b : ℕ) (s : Bool) (i : ℕ) (l : List ℕ) → length l ≤ i → s || is_member b (drop i l) ≡ s
-unfolding is_member
-among_end b s i l h = rw (drop_of_length-le l {i = i} h, or-false)
-
 -- where it is not among them the scan goes to their end
-pub not_among : (b : ℕ) (l : List ℕ) → is_member b l ≡ false → find b l ≡ length l
-unfolding find is_member
+pub not_among : (b : ℕ) (l : List ℕ) → list_any (λ x. eqb x b) l ≡ false → find b l ≡ length l
+unfolding find
 not_among b [] e = refl
-not_among b (x ∷ xs) e = rw (eqb_comm x b) (go (eqb b x) e (not_among b xs))
+not_among b (x ∷ xs) e = go (eqb x b) e (not_among b xs)
   where
-    go : (t : Bool) → if t true (is_member b xs) ≡ false → (is_member b xs ≡ false → find b xs ≡ length xs) → if t 0 (suc (find b xs)) ≡ suc (length xs)
+    go : (t : Bool) → t || list_any (λ y. eqb y b) xs ≡ false → (list_any (λ y. eqb y b) xs ≡ false → find b xs ≡ length xs) → if t 0 (suc (find b xs)) ≡ suc (length xs)
     go true e ih = absurd (false≢true (sym e))
     go false e ih = ap suc (ih e)
+
+-- and else it ends before
+pub found_among : (b : ℕ) (l : List ℕ) → list_any (λ x. eqb x b) l ≡ true → find b l < length l
+unfolding find
+found_among b [] e = absurd (false≢true e)
+found_among b (x ∷ xs) e = go (eqb x b) e (found_among b xs)
+  where
+    go : (t : Bool) → t || list_any (λ y. eqb y b) xs ≡ true → (list_any (λ y. eqb y b) xs ≡ true → find b xs < length xs) → if t 0 (suc (find b xs)) < suc (length xs)
+    go true e ih = omega arith
+    go false e ih = omega (arith, ih e)
 
 -- not among the first n, it stands first where it does after them
 past : (b n : ℕ) (l : List ℕ) → n ≤ length l → find b (take n l) ≡ n → find b l ≡ n + find b (drop n l)
@@ -88,14 +65,17 @@ past b (suc n) (x ∷ xs) h e = go (eqb x b) e (past b n xs)
     go true q ih = absurd (omega arith)
     go false q ih = omega (arith, ih (omega arith) (omega arith))
 
--- the same of a part from i up to j
-pub find_past : (b i j : ℕ) (l : List ℕ) → i ≤ j → j ≤ length l → find b (take (j - i) (drop i l)) ≡ length (take (j - i) (drop i l))
-    → i + find b (drop i l) ≡ j + find b (drop j l)
-find_past b i j l h k e =
-    let d : length (drop i l) ≡ length l - i = length-drop i l in
-    let n : length (take (j - i) (drop i l)) ≡ j - i = length-take-le (j - i) (drop i l) (omega arith) in
-    let s : i + (j - i) ≡ j = omega arith in
-    omega (arith, rw (drop-drop, s) at (past b (j - i) (drop i l) (omega arith) (e ∙ n)))
+-- eight bytes without it are passed
+pub eight_more : (b : ℕ) (l rest eight others : List ℕ) → length rest ≤ length l → rest ≡ drop (length l - length rest) l → find b l ≡ length l - length rest + find b rest
+    → eight ≡ take 8 rest → others ≡ drop 8 rest → length others + 8 ≡ length rest → list_any (λ x. eqb x b) eight ≡ false
+    → (length others ≤ length l) × (others ≡ drop (length l - length others) l) × (find b l ≡ length l - length others + find b others)
+eight_more b l rest eight others h d f e o n a =
+    let m : 8 ≤ length rest = omega (arith, n) in
+    let q : find b (take 8 rest) ≡ 8 = rw e at (not_among b eight a) ∙ length-take-le 8 rest m in
+    let p : find b rest ≡ 8 + find b (drop 8 rest) = past b 8 rest m q in
+    let g : find b others ≡ find b (drop 8 rest) = ap (find b) o in
+    let k : length l - length rest + 8 ≡ length l - length others = omega (arith, n, h) in
+    (omega (arith, n, h), o ∙ ap (drop 8) d ∙ drop-drop 8 (length l - length rest) l ∙ ap (λ i. drop i l) k, omega (arith, f, p, g, n, h))
 
 -- ---- the pieces
 
@@ -121,11 +101,11 @@ unfolding others
 others_none b l h = rw (le-ltb (find b l) (length l) h)
 
 -- a list before some pieces
-last_onto : (b : ℕ) (x l : List ℕ) → last (x ∷ pieces b l) ≡ last (pieces b l)
+pub last_onto : (b : ℕ) (x l : List ℕ) → last (x ∷ pieces b l) ≡ last (pieces b l)
 unfolding last
 last_onto b x l = rw (pieces_cut b l)
 
-but_last_onto : (b : ℕ) (x l : List ℕ) → but_last (x ∷ pieces b l) ≡ x ∷ but_last (pieces b l)
+pub but_last_onto : (b : ℕ) (x l : List ℕ) → but_last (x ∷ pieces b l) ≡ x ∷ but_last (pieces b l)
 unfolding but_last
 but_last_onto b x l = rw (pieces_cut b l)
 
@@ -157,130 +137,77 @@ module _ (b start end : ℕ) (l : List ℕ) (e : end ≡ start + find b (drop st
   pub scan_none : length l ≤ end → others b (drop start l) ≡ []
   scan_none h = others_none b (drop start l) (omega (arith, left))
 
-  scan_more : end < length l → pieces b (drop start l) ≡ take (end - start) (drop start l) ∷ pieces b (drop (end + 1) l)
-  scan_more h = rw (scan_cut, scan_others h)
+-- ---- what `position` answers
 
-  -- and the piece is the rest of the text
-  pub scan_last : length l ≤ end → pieces b (drop start l) ≡ drop start l ∷ []
-  scan_last h = rw (scan_cut, scan_none h, take_all (end - start) (drop start l) (omega (arith, left)))
-
-  -- so there is one piece more than after it
-  pub count_more : end < length l → length (pieces b (drop start l)) ≡ suc (length (pieces b (drop (end + 1) l)))
-  count_more h = rw (scan_more h)
-
-  -- the last piece is the last after it
-  pub last_more : end < length l → last (pieces b (drop start l)) ≡ last (pieces b (drop (end + 1) l))
-  last_more h = rw (scan_more h) (last_onto b _ (drop (end + 1) l))
-
-  -- the lines are this one and those after it
-  pub lines_more : end < length l → but_last (pieces b (drop start l)) ≡ take (end - start) (drop start l) ∷ but_last (pieces b (drop (end + 1) l))
-  lines_more h = rw (scan_more h) (but_last_onto b _ (drop (end + 1) l))
-
-  -- the last piece is no line
-  pub lines_none : length l ≤ end → but_last (pieces b (drop start l)) ≡ []
-  unfolding but_last
-  lines_none h = rw (scan_last h)
-
--- ---- the text after some pieces
-
-after_nil : (b n : ℕ) → after_pieces b n [] ≡ []
-unfolding after_pieces
-after_nil b zero = refl
-after_nil b (suc n) = after_nil b n
-
--- the pieces after n others, if there are so many
-pub pieces_after : (b n : ℕ) (l : List ℕ) → n < length (pieces b l) → drop n (pieces b l) ≡ pieces b (after_pieces b n l)
-unfolding after_pieces
-pieces_after b zero l h = refl
-pieces_after b (suc n) l h = go (ltb (find b l) (length l)) refl (pieces_after b n (drop (suc (find b l)) l))
+-- the scan stops at the first byte that is the one
+pub find_place : (b : ℕ) (l : List ℕ) → find b l ≡ position_or_len (λ x. eqb x b) l
+unfolding find
+find_place b l = is_position_or_len (find b) (λ x. eqb x b) refl (λ x xs. go (eqb x b) xs) l
   where
-    go : (t : Bool) → ltb (find b l) (length l) ≡ t
-        → (n < length (pieces b (drop (suc (find b l)) l)) → drop n (pieces b (drop (suc (find b l)) l)) ≡ pieces b (after_pieces b n (drop (suc (find b l)) l)))
-        → drop (suc n) (pieces b l) ≡ pieces b (after_pieces b n (drop (suc (find b l)) l))
-    go true e ih =
-        let k : pieces b l ≡ take (find b l) l ∷ pieces b (drop (suc (find b l)) l) = pieces_cut b l ∙ rw (others_more b l (ltb-true _ _ e)) in
-        rw k (ih (omega (arith, ap length k)))
-    go false e ih =
-        let k : pieces b l ≡ take (find b l) l ∷ [] = pieces_cut b l ∙ rw (others_none b l (ltb-false _ _ e)) in
-        absurd (omega (arith, ap length k))
+    go : (t : Bool) (xs : List ℕ) → if t 0 (suc (find b xs)) ≡ cond t 0 (1 + find b xs)
+    go true xs = refl
+    go false xs = omega arith
 
--- the lines after n others
-pub lines_after : (b n : ℕ) (l : List ℕ) → drop n (but_last (pieces b l)) ≡ but_last (pieces b (after_pieces b n l))
-unfolding after_pieces but_last pieces
-lines_after b zero l = refl
-lines_after b (suc n) l = go (ltb (find b l) (length l)) refl (lines_after b n (drop (suc (find b l)) l))
+position_is : (b : ℕ) (l : List ℕ) → position (λ x. eqb x b) l ≡ cond (ltb (find b l) (length l)) (Some (find b l)) None
+position_is b l = ap (λ k. cond (ltb k (length l)) (Some k) None) (sym (find_place b l))
+
+pub find_answer : (b : ℕ) (l : List ℕ) {r : Option ℕ} → r ≡ position (λ x. eqb x b) l → MatchOption r (find b l ≡ length l) (λ i. (i ≡ find b l) × (i < length l))
+find_answer b l {r} e = let q = e ∙ position_is b l in rw q (go (ltb (find b l) (length l)) refl)
   where
-    go : (t : Bool) → ltb (find b l) (length l) ≡ t
-        → drop n (but_last (pieces b (drop (suc (find b l)) l))) ≡ but_last (pieces b (after_pieces b n (drop (suc (find b l)) l)))
-        → drop (suc n) (but_last (pieces b l)) ≡ but_last (pieces b (after_pieces b n (drop (suc (find b l)) l)))
-    go true e ih = rw (pieces_cut b l, others_more b l (ltb-true _ _ e), but_last_onto b (take (find b l) l) (drop (suc (find b l)) l)) ih
-    go false e ih =
-        let r : drop (suc (find b l)) l ≡ [] = drop_of_length-le l {i = suc (find b l)} (omega (arith, ltb-false (find b l) (length l) e)) in
-        rw (pieces_cut b l, others_none b l (ltb-false _ _ e), r, after_nil b n)
+    go : (t : Bool) → ltb (find b l) (length l) ≡ t → MatchOption (cond t (Some (find b l)) None) (find b l ≡ length l) (λ i. (i ≡ find b l) × (i < length l))
+    go true h = (refl, ltb-true _ _ h)
+    go false h = omega (arith, ltb-false (find b l) (length l) h, find_le b l)
 
-after_suc : (b n : ℕ) (l : List ℕ) → after_pieces b (suc n) l ≡ after_pieces b n (drop (suc (find b l)) l)
-unfolding after_pieces
-after_suc b n l = refl
+position_some : (b i : ℕ) (l : List ℕ) → i ≡ find b l → i < length l → Some i ≡ position (λ x. eqb x b) l
+position_some b i l e h = sym (position_is b l ∙ rw (← e, lt-ltb i (length l) h))
 
--- one piece more is passed
-pub after_more : (b n k at : ℕ) (l : List ℕ) {end next : ℕ} → k < n → end ≡ at + find b (drop at l) → next ≡ min (end + 1) (length l)
-    → after_pieces b (n - k) (drop at l) ≡ after_pieces b (n - (k + 1)) (drop next l)
-after_more b n k at l {end} {next} h e r =
-    let j : n - k ≡ suc (n - (k + 1)) = omega arith in
-    let f : at + suc (find b (drop at l)) ≡ end + 1 = omega arith in
-    rw (j, after_suc, drop-drop, f, r, drop_min (end + 1) l)
+position_none : (b : ℕ) (l : List ℕ) → find b l ≡ length l → None ≡ position (λ x. eqb x b) l
+position_none b l e = sym (position_is b l ∙ rw (le-ltb (find b l) (length l) (omega (arith, e))))
 
--- ---- whether there are two pieces
+-- where it stands in a text from a place on
+module _ (b at : ℕ) (l : List ℕ) (h : at ≤ length l) where
+  rest_is : take (length l - at) (drop at l) ≡ drop at l
+  rest_is = take_all (length l - at) (drop at l) (omega (arith, length-drop at l))
 
-two_end : (b start end : ℕ) (x l : List ℕ) → end ≡ start + find b (drop start l) → start ≤ length l → eqb end (length l) ≡ is_two (x ∷ pieces b (drop start l))
-two_end b start end x l e s = go (ltb end (length l)) refl
-  where
-    go : (t : Bool) → ltb end (length l) ≡ t → eqb end (length l) ≡ is_two (x ∷ pieces b (drop start l))
-    go true q =
-        let h = ltb-true end (length l) q in
-        rw (scan_more b start end l e s h, pieces_cut b (drop (end + 1) l), ne_eqb end (length l) (λ w. omega arith))
-    go false q =
-        let h = ltb-false end (length l) q in
-        rw (scan_last b start end l e s h, eq-eqb end (length l) (omega (arith, scan_to b start end l e s)))
+  pub found_from : (i : ℕ) → Some i ≡ position (λ x. eqb x b) (take (length l - at) (drop at l)) → (at + i ≡ at + find b (drop at l)) × (at + i < length l)
+  found_from i e = let f = find_answer b (drop at l) (rw rest_is at e) in (omega (arith, f.0), omega (arith, f.1, length-drop at l, h))
 
-second_whole : (b : ℕ) (x l : List ℕ) → is_two (x ∷ pieces b l) ≡ true → pieces b l ≡ l ∷ []
-second_whole b x l t = go (ltb (find b l) (length l)) refl
-  where
-    go : (q : Bool) → ltb (find b l) (length l) ≡ q → pieces b l ≡ l ∷ []
-    go false q =
-        let h = ltb-false (find b l) (length l) q in
-        rw (pieces_cut b l, others_none b l h, take_all (find b l) l h)
-    go true q =
-        let h = ltb-true (find b l) (length l) q in
-        let z = rw (pieces_cut b l, others_more b l h, pieces_cut b (drop (suc (find b l)) l)) at t in
-        absurd (false≢true z)
+  pub none_from : None ≡ position (λ x. eqb x b) (take (length l - at) (drop at l)) → length l ≡ at + find b (drop at l)
+  none_from e = omega (arith, find_answer b (drop at l) (rw rest_is at e), length-drop at l, h)
 
-module _ (b : ℕ) (l : List ℕ) {first : ℕ} (e : first ≡ 0 + find b l) where
-  -- there are two if the byte is not found again
-  pub two_more : first < length l → {second : ℕ} → second ≡ first + 1 + find b (drop (first + 1) l) → eqb second (length l) ≡ is_two (pieces b l)
-  two_more h {second} q =
-      rw (scan_more b 0 first l e (omega arith) h) (two_end b (first + 1) second (take (first - 0) l) l q (omega arith))
+-- past some bytes that are others it is the one in the rest
+module _ (b : ℕ) (l rest : List ℕ) (h : length rest ≤ length l) (e : find b l ≡ length l - length rest + find b rest) where
+  pub position_past_none : None ≡ position (λ x. eqb x b) rest → None ≡ position (λ x. eqb x b) l
+  position_past_none q = position_none b l (omega (arith, e, h, find_answer b rest q))
 
-  -- there is one if it is not found
-  pub two_none : length l ≤ first → false ≡ is_two (pieces b l)
-  two_none h = rw (scan_last b 0 first l e (omega arith) h)
+  pub position_past_some : (i : ℕ) → Some i ≡ position (λ x. eqb x b) rest → Some (length l - length rest + i) ≡ position (λ x. eqb x b) l
+  position_past_some i q = let f = find_answer b rest q in position_some b (length l - length rest + i) l (omega (arith, e, f.0)) (omega (arith, f.1, h))
 
-  -- what the two pieces are
-  pub two_is : is_two (pieces b l) ≡ true → (first < length l) × (pieces b l ≡ take first l ∷ drop (first + 1) l ∷ [])
-  two_is t = go (ltb first (length l)) refl
-    where
-      go : (q : Bool) → ltb first (length l) ≡ q → (first < length l) × (pieces b l ≡ take first l ∷ drop (first + 1) l ∷ [])
-      go false q = absurd (false≢true (two_none (ltb-false first (length l) q) ∙ t))
-      go true q =
-          let h = ltb-true first (length l) q in
-          let k : pieces b l ≡ take (first - 0) l ∷ pieces b (drop (first + 1) l) = scan_more b 0 first l e (omega arith) h in
-          (h, k ∙ rw (sub-zero, second_whole b (take (first - 0) l) (drop (first + 1) l) (rw k at t)))
+-- ---- a text that falls at a byte into what stands before it and what follows it
 
--- the last of one piece
-pub last_one : {ps : List (List ℕ)} {x : List ℕ} → ps ≡ x ∷ [] → x ≡ last ps
-unfolding last
-last_one e = sym (ap last e)
+-- where the byte stands nowhere, the text is its only piece
+pub piece_whole : (b : ℕ) (l : List ℕ) → find b l ≡ length l → pieces b l ≡ l ∷ []
+piece_whole b l e = rw (pieces_cut b l, others_none b l (omega (arith, e)), e) (ap (λ (p : List ℕ). p ∷ []) (take_all (length l) l (omega arith)))
 
--- a part is no longer than the whole
-pub part_short : (start end : ℕ) (l : List ℕ) → length (take (end - start) (drop start l)) ≤ length l
-part_short start end l = simp (length-take, length-drop) (omega arith)
+-- where it stands, the first piece ends there
+pub piece_first : (b end : ℕ) (l : List ℕ) → end ≡ find b l → end < length l → pieces b l ≡ take end l ∷ pieces b (drop (end + 1) l)
+piece_first b end l e h = rw (pieces_cut b l, others_more b l (omega (arith, e)), add-one, e)
+
+-- as `split_once` has them
+pub halves_none : (b : ℕ) (l : List ℕ) → None ≡ position (λ x. eqb x b) l → pieces b l ≡ l ∷ []
+halves_none b l e = piece_whole b l (find_answer b l e)
+
+pub halves_some : (b end : ℕ) (l : List ℕ) → Some end ≡ position (λ x. eqb x b) l → pieces b l ≡ take end l ∷ pieces b (take (length l - (end + 1)) (drop (end + 1) l))
+halves_some b end l e =
+    let f = find_answer b l e in
+    rw (take_all (length l - (end + 1)) (drop (end + 1) l) (omega (arith, length-drop (end + 1) l))) (piece_first b end l f.0 f.1)
+
+-- two pieces, where the byte does not stand again
+pub two_pieces : (b : ℕ) (l x y : List ℕ) → pieces b l ≡ x ∷ pieces b y → list_any (λ z. eqb z b) y ≡ false → pieces b l ≡ x ∷ y ∷ []
+two_pieces b l x y e n = e ∙ ap (λ (ps : List (List ℕ)). x ∷ ps) (piece_whole b y (not_among b y n))
+
+-- and where it does there are more
+pub not_two : (b : ℕ) (l x y : List ℕ) → pieces b l ≡ x ∷ pieces b y → list_any (λ z. eqb z b) y ≡ true → is_two (pieces b l) ≡ false
+not_two b l x y e n =
+    let f = found_among b y n in
+    rw (e, piece_first b (find b y) y refl f, pieces_cut b (drop (find b y + 1) y))

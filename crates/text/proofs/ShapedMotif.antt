@@ -16,9 +16,10 @@ use Rattle.rules.specs.declared.Template.{Template}
 use Rattle.rules.proofs.Components.{components_more, components_none}
 use Rattle.rules.proofs.Spelling.{spell_drop}
 use Rattle.rules.proofs.Tables.{map_take, map_drop}
-use Rattle.text.specs.Printed.{Wrote, number_pair, motif_letters, ranged_word, size_from, shape_from}
+use Rattle.text.specs.declared.print.Printer.{Printer}
+use Rattle.text.specs.Printed.{Prints, HasRoom, number_pair, motif_letters, ranged_word, size_from, shape_from}
 use Rattle.text.proofs.Decimal.{decimal_short}
-use Rattle.text.proofs.Printed.{length_pair, room}
+use Rattle.text.proofs.Printed.{length_pair, moved}
 use Rattle.text.proofs.MotifLetters.{length_letters}
 
 ranged_is : (c : Component) (w rest : List ℕ)
@@ -116,11 +117,13 @@ module _ (t : Template) (S : SoundTemplate t) where
     next_done done d = append_assoc done (ranged_word c left m) (shape_from t (i + 1) m) ∙ rw (l, ← shape_from_more i m h e) d
 
     -- it has room
-    pub next_room : (done : List ℕ) → done ++ shape_from t i m ≡ shape_from t 1 m → {at next : ℕ} {a b : List ℕ} → Wrote at done a b next
-        → at + length (shape_from t 1 m) ≤ length a → next + length (ranged_word c left m) ≤ length b
+    pub next_room : (done : List ℕ) → done ++ shape_from t i m ≡ shape_from t 1 m → {a b : Printer} → Prints done a b → HasRoom (shape_from t 1 m) a → HasRoom (ranged_word c left m) b
     next_room done d w r =
         omega (
           arith,
-          room (length (ranged_word c left m) + length (shape_from t (i + 1) m)) w
-              (rw (← length-append (ranged_word c left m) (shape_from t (i + 1) m), ← length-append, ← append_assoc, next_done done d) r),
+          r,
+          moved w,
+          length-append (done ++ ranged_word c left m) (shape_from t (i + 1) m),
+          length-append done (ranged_word c left m),
+          ap length (next_done done d),
         )

@@ -1,21 +1,12 @@
 -- What a parse answers, as the rules say it.
-use Rattle.std.specs.Prelude.{ℕ, ◌<◌}
+use Rattle.std.specs.Prelude.{Option, None, Some}
 use Rattle.rules.specs.Text.{Parsed, parsed, malformed}
-use Rattle.rules.specs.declared.Component.{Component}
-use Rattle.text.specs.declared.parse.Number.{Number}
-use Rattle.text.specs.declared.parse.Number.TheVariants as number-text
-use Rattle.text.specs.declared.parse.Piece.{Piece}
-use Rattle.text.specs.declared.parse.Piece.TheVariants as piece-text
 
-abbrev pub told_number : Number → Parsed ℕ
-told_number (number-text.Value n) = parsed n
-told_number number-text.Malformed = malformed
+abbrev pub told_parse : {A : Type 0} → Option A → Parsed A
+told_parse (Some a) = parsed a
+told_parse None = malformed
 
-abbrev pub told_piece : Piece → Parsed Component
-told_piece (piece-text.Component c) = parsed c
-told_piece piece-text.Malformed = malformed
-
--- a number, if it is one, below a bound
-abbrev pub Below : ℕ → Number → Type 0
-Below m (number-text.Value n) = n < m
-Below m number-text.Malformed = Unit {0}
+-- what a function makes of a text that is well formed
+abbrev pub parsed_by : {A B : Type 0} → (A → B) → Parsed A → Parsed B
+parsed_by f (parsed a) = parsed (f a)
+parsed_by f malformed = malformed

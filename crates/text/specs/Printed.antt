@@ -9,6 +9,7 @@ use Rattle.rules.specs.Template.{components}
 use Rattle.rules.specs.Text.{decimal, shape_rest, print_motif}
 use Rattle.rules.specs.declared.Component.{Component}
 use Rattle.rules.specs.declared.Template.{Template}
+use Rattle.text.specs.declared.print.Printer.{Printer}
 
 -- room for the longest line that is printed
 abbrev pub line_room : ℕ
@@ -22,6 +23,17 @@ write at text out = sets out at text
 pub record Wrote (at : ℕ) (text before after : List ℕ) (next : ℕ) : Type 0 where
   pub out : after ≡ write at text before
   pub end : next ≡ at + length text
+
+-- a printer has room for a text, and has written it behind what it wrote before
+abbrev pub HasRoom : List ℕ → Printer → Type 0
+HasRoom text before = before.at + length text ≤ length before.out.now
+
+abbrev pub HasLine : Printer → Type 0
+HasLine before = before.at + line_room ≤ length before.out.now
+
+pub record Prints (text : List ℕ) (before after : Printer) : Type 0 where
+  pub wrote : Wrote before.at text before.out.now after.out.now after.at
+  pub same : after.out.ghost_name ≡ before.out.ghost_name
 
 -- a line stands at the front of a buffer, `next` bytes long, and what lies past it is as it was
 pub record WroteLine (text before after : List ℕ) (next : ℕ) : Type 0 where

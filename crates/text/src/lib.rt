@@ -1,6 +1,6 @@
 // The printing program's text: what its input says, and the bytes that it prints. An inner crate: the program hands over its
 // input as one slice, and writes out what stands at the front of a buffer. The FASTA reader, too, finds where its lines end
-// (`find`) and copies their bytes (`copy_part`) by what is here.
+// by what is here (`find`).
 #![tactic(auto)]
 
 mod parse;

@@ -1,103 +1,54 @@
 // A text cut into pieces at a byte: the lines of the printing program's input and of a FASTA file at byte 10, a template's
 // components at [.
-ghost use Rattle.std.specs.Prelude.{◌≡◌, ◌+◌, ◌≤◌, min, length, drop};
-ghost use Rattle.rules.specs.Lists.{is_member};
-ghost use Rattle.rules.specs.Text.{pieces, last};
-ghost use Rattle.text.specs.Pieces.{find, after_pieces, is_two};
+ghost use Rattle.std.specs.Prelude.{◌≡◌, [], ◌∷◌, ◌+◌, ⊤, false, length, position, eqb, MatchOption};
+ghost use Rattle.rules.specs.Text.{pieces};
+ghost use Rattle.text.specs.Pieces.{is_two, pieces_left, bytes_left};
 
-// Whether a byte is among some. All are looked at, also past it: with no way out of the loop, many can be taken at a time.
-fn among(b: u8, bytes: &[u8]) -> bool
-    ensures { result ≡ is_member b bytes.now }
+// Where a byte stands first. Eight bytes at a time are passed as long as all of them are another.
+pub fn find(b: u8, text: &[u8]) -> Option<usize>
+    ensures { result ≡ position (λ x. eqb x b) text.now }
 {
-    let mut some = false;
-    let mut i = 0;
-    while i < bytes.len() {
-        some = some | (bytes[i] == b);
-        i += 1;
-    }
-    some
-}
-
-// Goes on from a place by eight bytes at a time, as long as all of them are another.
-fn pass_eights(b: u8, from: usize, text: &[u8]) -> usize
-    requires { from ≤ length text.now }
-    ensures { (result ≤ length text.now) × (from + find b (drop from text.now) ≡ result + find b (drop result text.now)) }
-{
-    let mut i = from;
-    while 8 <= text.len() - i {
-        if among(b, &text[i..i + 8]) {
-            return i;
+    let mut rest = text;
+    while let Some((eight, others)) = rest.split_first_chunk::<8>() {
+        if eight.contains(&b) {
+            break;
         }
-        i += 8;
+        rest = others;
     }
-    i
+    let at = rest.iter().position(|x| *x == b)?;
+    Some(text.len() - rest.len() + at)
 }
 
-// Where a byte stands first from a place on; the text's end where it does not.
-pub fn find(b: u8, from: usize, text: &[u8]) -> usize
-    requires { from ≤ length text.now }
-    ensures { result ≡ from + find b (drop from text.now) }
+// What stands before a byte and what follows it, where it stands first.
+pub(crate) fn split_once(b: u8, text: &[u8]) -> Option<(&[u8], &[u8])>
+    ensures pieces { MatchOption result (pieces b text.now ≡ text.now ∷ [])
+        (λ halves. pieces b text.now ≡ halves.0.now ∷ pieces b halves.1.now) }
+    ensures long { MatchOption result ⊤ (λ halves. length halves.0.now + (length halves.1.now + 1) ≡ length text.now) }
 {
-    let mut i = pass_eights(b, from, text);
-    while i < text.len() {
-        if text[i] == b {
-            return i;
-        }
-        i += 1;
+    let end = find(b, text)?;
+    Some((&text[..end], &text[end + 1..]))
+}
+
+// The first piece, and the text of the others, if there are any.
+pub(crate) fn first_piece(b: u8, text: &[u8]) -> (&[u8], Option<&[u8]>)
+    ensures pieces { pieces b text.now ≡ result.0.now ∷ pieces_left b result.1 }
+    ensures long { length result.0.now + bytes_left result.1 ≡ length text.now }
+{
+    match split_once(b, text) {
+        Some((first, others)) => (first, Some(others)),
+        None => (text, None),
     }
-    i
 }
 
-// The place after one, and the end after the end.
-fn past(at: usize, end: usize) -> usize
-    requires { at ≤ end }
-    ensures { result ≡ min (at + 1) end }
+// The two pieces of a text that has two.
+pub(crate) fn in_two(b: u8, text: &[u8]) -> Option<(&[u8], &[u8])>
+    ensures pieces { MatchOption result (is_two (pieces b text.now) ≡ false)
+        (λ halves. pieces b text.now ≡ halves.0.now ∷ halves.1.now ∷ []) }
+    ensures long { MatchOption result ⊤ (λ halves. length halves.0.now + (length halves.1.now + 1) ≡ length text.now) }
 {
-    if at < end { at + 1 } else { end }
-}
-
-// Where the text goes on after `n` pieces; its end where there are fewer.
-pub(crate) fn skip(b: u8, n: usize, text: &[u8]) -> usize
-    ensures { (result ≤ length text.now) × (drop result text.now ≡ after_pieces b n text.now) }
-{
-    let mut at = 0;
-    let mut k = 0;
-    while k < n {
-        at = past(find(b, at, text), text.len());
-        k += 1;
+    let (first, second) = split_once(b, text)?;
+    if second.contains(&b) {
+        return None;
     }
-    at
-}
-
-// How many pieces come before the last one, and where that starts.
-#[derive(Clone, Copy)]
-pub(crate) struct Rest {
-    pub before: usize,
-    pub start: usize,
-}
-
-pub(crate) fn tail(b: u8, text: &[u8]) -> Rest
-    ensures { (result.before + 1 ≡ length (pieces b text.now)) × (result.before ≤ result.start) × (result.start ≤ length text.now) × (drop result.start text.now ≡ last (pieces b text.now)) }
-{
-    let mut before = 0;
-    let mut start = 0;
-    let mut end = find(b, 0, text);
-    while end < text.len() {
-        before += 1;
-        start = end + 1;
-        end = find(b, start, text);
-    }
-    Rest { before, start }
-}
-
-// Whether there are two pieces.
-pub(crate) fn in_two(b: u8, text: &[u8]) -> bool
-    ensures { result ≡ is_two (pieces b text.now) }
-{
-    let first = find(b, 0, text);
-    if first < text.len() {
-        find(b, first + 1, text) == text.len()
-    } else {
-        false
-    }
+    Some((first, second))
 }

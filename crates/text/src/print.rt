@@ -1,152 +1,131 @@
-// Printing: each function writes its text to a buffer from a place on and answers the place after it.
-ghost use Rattle.std.specs.Prelude.{◌≡◌, [], ◌∷◌, ◌+◌, ◌*◌, ◌<◌, ◌≤◌, length, get_or, take};
-ghost use Rattle.rules.specs.Limits.{template_components, template_letters};
+// Printing: each method of a printer writes its text behind what it wrote before.
+ghost use Rattle.std.specs.Prelude.{◌≡◌, [], ◌∷◌, ◌++◌, ◌+◌, ◌*◌, ◌≤◌, length, take};
+ghost use Rattle.rules.specs.Limits.{template_letters};
 ghost use Rattle.rules.specs.Text.{decimal, print_motif, print_end, print_refused};
-ghost use Rattle.rules.specs.Template.{slots, none};
 ghost use Rattle.rules.specs.Sound.{SoundTemplate};
-ghost use Rattle.text.specs.Printed.{line_room, Wrote, WroteLine, number_pair, motif_letters, ranged_word, size_from, shape_from, row, printed_page, Page};
+ghost use Rattle.text.specs.Printed.{line_room, WroteLine, Prints, HasRoom, HasLine, number_pair, motif_letters, ranged_word, size_from, shape_from, row, printed_page, Page};
 
+use super::read::copy_part;
 use rules::{Component, Letter, Template};
 
 // Room for the longest line that is printed.
 pub const LINE: usize = 256;
 
-// A byte.
-fn print_byte(b: u8, at: usize, out: &mut [u8]) -> usize
-    requires { at < length out.old }
-    ensures { Wrote at (b ∷ []) out.old out.new result }
-{
-    out[at] = b;
-    at + 1
-}
-
-// A number in its digits: those of its tenth part, and the last one.
-fn print_number(n: u64, at: usize, out: &mut [u8]) -> usize
-    requires { at + length (decimal n) ≤ length out.old }
-    ensures { Wrote at (decimal n) out.old out.new result }
-{
-    // The digits are the bytes from 48 on.
-    let last = (48 + n % 10) as u8;
-    if n < 10 {
-        return print_byte(last, at, out);
-    }
-    let next = print_number(n / 10, at, out);
-    print_byte(last, next, out)
-}
-
-// The first `n` of the last `left` letters of a motif.
-fn print_letters(motif: u64, left: u64, n: u64, at: usize, out: &mut [u8]) -> usize
-    requires { (n ≤ left) × (left ≤ template_letters) × (at + n ≤ length out.old) }
-    ensures { Wrote at (motif_letters n left motif) out.old out.new result }
-{
-    let mut next = at;
-    let mut i = 0;
-    while i < n {
-        let after = left - 1 - i;
-        next = print_byte(
-            Letter::byte((motif >> (Letter::BITS * after)) % Letter::BASES),
-            next,
-            out,
-        );
-        i += 1;
-    }
-    next
-}
-
-// Two numbers, with a byte before, between and after them.
-fn print_pair(
-    before: u8,
-    a: u64,
-    between: u8,
-    b: u64,
-    after: u8,
+// A buffer, and the place up to which it is written.
+#[derive(Drop)]
+struct Printer<'a> {
+    out: &'a mut [u8],
     at: usize,
-    out: &mut [u8],
-) -> usize
-    requires { at + length (number_pair before a between b after) ≤ length out.old }
-    ensures { Wrote at (number_pair before a between b after) out.old out.new result }
-{
-    let first = print_byte(before, at, out);
-    let second = print_number(a, first, out);
-    let third = print_byte(between, second, out);
-    let fourth = print_number(b, third, out);
-    print_byte(after, fourth, out)
 }
 
-// A component after the first: its gap range and its letters, the first of the last `left` of the motif.
-fn print_component(c: Component, motif: u64, left: u64, at: usize, out: &mut [u8]) -> usize
-    requires { (c.length ≤ left) × (left ≤ template_letters) × (at + length (ranged_word c left motif) ≤ length out.old) }
-    ensures { Wrote at (ranged_word c left motif) out.old out.new result }
-{
-    let length = c.length as u64;
-    let low = c.low as u64;
-    let high = c.high as u64;
-    let next = print_pair(b'[', low, b',', high, b']', at, out);
-    print_letters(motif, left, length, next, out)
-}
-
-// The component at an index, from 0.
-fn component(template: Template, i: usize) -> Component
-    requires { i < template_components }
-    ensures { result ≡ get_or (slots template) i none }
-{
-    let slots = template.components();
-    slots[i]
-}
-
-// The components after the first, which have the last `left` letters of the motif.
-fn print_rest(template: Template, motif: u64, left: u64, at: usize, out: &mut [u8]) -> usize
-    requires { SoundTemplate template × (left ≡ size_from template 1) × (at + length (shape_from template 1 motif) ≤ length out.old) }
-    ensures { Wrote at (shape_from template 1 motif) out.old out.new result }
-{
-    let count = template.count as usize;
-    let mut left = left;
-    let mut next = at;
-    let mut i: usize = 1;
-    while i < count {
-        let c = component(template, i);
-        next = print_component(c, motif, left, next, out);
-        left -= c.length as u64;
-        i += 1;
+impl<'a> Printer<'a> {
+    // Some bytes, as they are.
+    fn bytes(&mut self, text: &[u8])
+        requires { HasRoom text.now self.old }
+        ensures { Prints text.now self.old self.new }
+    {
+        self.at = copy_part(text, self.at, self.out);
     }
-    next
+
+    // A byte.
+    fn byte(&mut self, b: u8)
+        requires { HasRoom (b ∷ []) self.old }
+        ensures { Prints (b ∷ []) self.old self.new }
+    {
+        self.out[self.at] = b;
+        self.at += 1;
+    }
+
+    // A number in its digits: those of its tenth part, and the last one.
+    fn number(&mut self, n: u64)
+        requires { HasRoom (decimal n) self.old }
+        ensures { Prints (decimal n) self.old self.new }
+    {
+        let last = b'0' + (n % 10) as u8;
+        if n < 10 {
+            self.byte(last);
+            return;
+        }
+        self.number(n / 10);
+        self.byte(last);
+    }
+
+    // Two numbers, with a byte before, between and after them.
+    fn pair(&mut self, before: u8, a: u64, between: u8, b: u64, after: u8)
+        requires { HasRoom (number_pair before a between b after) self.old }
+        ensures { Prints (number_pair before a between b after) self.old self.new }
+    {
+        self.byte(before);
+        self.number(a);
+        self.byte(between);
+        self.number(b);
+        self.byte(after);
+    }
+
+    // The first `n` of the last `left` letters of a motif.
+    fn letters(&mut self, motif: u64, left: u64, n: u64)
+        requires { (n ≤ left) × (left ≤ template_letters) × HasRoom (motif_letters n left motif) self.old }
+        ensures { Prints (motif_letters n left motif) self.old self.new }
+    {
+        for i in 0..n {
+            let after = left - 1 - i;
+            self.byte(Letter::byte((motif >> (Letter::BITS * after)) % Letter::BASES));
+        }
+    }
+
+    // A component after the first: its gap range and its letters, the first of the last `left` of the motif.
+    fn component(&mut self, c: Component, motif: u64, left: u64)
+        requires { (c.length ≤ left) × (left ≤ template_letters) × HasRoom (ranged_word c left motif) self.old }
+        ensures { Prints (ranged_word c left motif) self.old self.new }
+    {
+        self.pair(b'[', u64::from(c.low), b',', u64::from(c.high), b']');
+        self.letters(motif, left, u64::from(c.length));
+    }
+
+    // The components after the first, which have the last `left` letters of the motif.
+    fn rest(&mut self, template: Template, motif: u64, left: u64)
+        requires { SoundTemplate template × (left ≡ size_from template 1) × HasRoom (shape_from template 1 motif) self.old }
+        ensures { Prints (shape_from template 1 motif) self.old self.new }
+    {
+        let slots = template.components();
+        let mut left = left;
+        for i in 1..usize::from(template.count) {
+            let c = slots[i];
+            self.component(c, motif, left);
+            left -= u64::from(c.length);
+        }
+    }
+
+    // A motif in the template's shape.
+    fn motif(&mut self, template: Template, motif: u64)
+        requires { SoundTemplate template × HasLine self.old }
+        ensures { Prints (print_motif template motif) self.old self.new }
+    {
+        let all = u64::from(template.letters());
+        let first = u64::from(template.c1.length);
+        self.letters(motif, all, first);
+        self.rest(template, motif, all - first);
+    }
+
+    // A row: the motif in the template's shape, its support and its weighted support.
+    fn row(&mut self, template: Template, motif: u64, support: u32, weight: u64)
+        requires { SoundTemplate template × HasLine self.old }
+        ensures row { Prints (row template motif support weight) self.old self.new }
+        ensures short { self.new.at ≤ self.old.at + line_room }
+    {
+        self.motif(template, motif);
+        self.pair(b' ', u64::from(support), b' ', weight, b'\n');
+    }
 }
 
-// A motif in the template's shape.
-fn print_motif(template: Template, motif: u64, out: &mut [u8]) -> usize
-    requires { SoundTemplate template × (line_room ≤ length out.old) }
-    ensures { Wrote 0 (print_motif template motif) out.old out.new result }
-{
-    let k = template.letters() as u64;
-    let c1 = template.c1;
-    let length = c1.length as u64;
-    let next = print_letters(motif, k, length, 0, out);
-    print_rest(template, motif, k - length, next, out)
-}
-
-// A row: the motif in the template's shape, its support and its weighted support.
+// A row alone.
 pub fn print_row(template: Template, motif: u64, support: u32, weight: u64, out: &mut [u8]) -> usize
     requires { SoundTemplate template × (line_room ≤ length out.old) }
     ensures { WroteLine (row template motif support weight) out.old out.new result }
 {
-    let next = print_motif(template, motif, out);
-    let marks = support as u64;
-    print_pair(b' ', marks, b' ', weight, b'\n', next, out)
-}
-
-// A row, from a place on.
-fn print_row_at(
-    template: Template,
-    motif: u64,
-    support: u32,
-    weight: u64,
-    at: usize,
-    out: &mut [u8],
-) -> usize
-    requires { SoundTemplate template × (at + line_room ≤ length out.old) }
-    ensures { Wrote at (row template motif support weight) out.old out.new result × (result ≤ at + line_room) }
-{
-    at + print_row(template, motif, support, weight, &mut out[at..])
+    let mut line = Printer { out, at: 0 };
+    line.row(template, motif, support, weight);
+    line.at
 }
 
 // A page: the lines of the first `rows` rows of three tables, which hold motifs, their supports and their weighted supports.
@@ -163,26 +142,22 @@ pub fn print_page(
     requires rows_in_bounds_2 { rows * line_room ≤ length out.old }
     ensures { Page rows (printed_page template (take rows motifs.now) (take rows supports.now) (take rows weights.now)) out.old out.new result }
 {
-    let mut next: usize = 0;
-    let mut i: usize = 0;
-    while i < rows {
-        next = print_row_at(template, motifs[i], supports[i], weights[i], next, out);
-        i += 1;
+    let mut page = Printer { out, at: 0 };
+    for i in 0..rows {
+        page.row(template, motifs[i], supports[i], weights[i]);
     }
-    next
+    page.at
 }
 
-// Some bytes, as they are.
-pub(crate) fn write_bytes(text: &[u8], at: usize, out: &mut [u8]) -> usize
-    requires { at + length text.now ≤ length out.old }
-    ensures { Wrote at text.now out.old out.new result }
+// A line of a short word and two numbers: of at most 20 digits each, so that a word of 77 bytes leaves them room.
+fn print_line(word: &[u8], a: u64, b: u64, out: &mut [u8]) -> usize
+    requires { (length word.now ≤ 77) × (line_room ≤ length out.old) }
+    ensures { WroteLine (word.now ++ number_pair 32 a 32 b 10) out.old out.new result }
 {
-    let mut i: usize = 0;
-    while i < text.len() {
-        out[at + i] = text[i];
-        i += 1;
-    }
-    at + i
+    let mut line = Printer { out, at: 0 };
+    line.bytes(word);
+    line.pair(b' ', a, b' ', b, b'\n');
+    line.at
 }
 
 // The last line: "end", the steps, the rows.
@@ -190,8 +165,7 @@ pub fn print_end(steps: u64, rows: u64, out: &mut [u8]) -> usize
     requires { line_room ≤ length out.old }
     ensures { WroteLine (print_end steps rows) out.old out.new result }
 {
-    let next = write_bytes(b"end", 0, out);
-    print_pair(b' ', steps, b' ', rows, b'\n', next, out)
+    print_line(b"end", steps, rows, out)
 }
 
 // The only line of a refusal: "refused", its number, its place.
@@ -199,6 +173,5 @@ pub fn print_refused(number: u64, place: u64, out: &mut [u8]) -> usize
     requires { line_room ≤ length out.old }
     ensures { WroteLine (print_refused number place) out.old out.new result }
 {
-    let next = write_bytes(b"refused", 0, out);
-    print_pair(b' ', number, b' ', place, b'\n', next, out)
+    print_line(b"refused", number, place, out)
 }

@@ -1,5 +1,5 @@
 // Reading: what the whole input says, and what is wrong with it.
-ghost use Rattle.std.specs.Prelude.{not, [], ◌≡◌, suc, ◌+◌, ◌-◌, ◌≤◌, length, get_or, take, drop};
+ghost use Rattle.std.specs.Prelude.{not, [], ◌≡◌, suc, ◌+◌, ◌-◌, ◌≤◌, length, get_or, drop};
 ghost use Rattle.rules.specs.Limits.{text_bytes, text_quorum_digits};
 ghost use Rattle.rules.specs.Lists.{put, has_some};
 ghost use Rattle.rules.specs.Refusals.{◌else◌, first};
@@ -7,75 +7,87 @@ ghost use Rattle.rules.specs.Text.{is_well_formed, lines, nth_line, unended, ref
 ghost use Rattle.rules.specs.Told.{fine, told_checked};
 ghost use Rattle.text.specs.Printed.{Wrote};
 
-use super::parse::{Number, is_number, is_template, parse_number, parse_template};
-use super::pieces::{find, skip, tail};
-use super::print::write_bytes;
-use rules::{Checked, Refusal, Template, Text};
+use super::parse::{parse_number, parse_template};
+use super::pieces::split_once;
+use rules::{Refusal, Template, Text};
 
-// Where a line stands.
-#[derive(Clone, Copy)]
-struct Span {
-    start: usize,
-    end: usize,
+// The first line of a text, and what follows it; both are empty where no line has its end.
+fn first_line(text: &[u8]) -> (&[u8], &[u8])
+    ensures line { result.0.now ≡ get_or (lines text.now) 0 [] }
+    ensures rest { lines result.1.now ≡ drop 1 (lines text.now) }
+    ensures short { length result.0.now + length result.1.now ≤ length text.now }
+{
+    match split_once(b'\n', text) {
+        Some(halves) => halves,
+        None => (&[], &[]),
+    }
 }
 
-// The line after `n` others; an empty place where there is none.
-fn find_line(n: usize, input: &[u8]) -> Span
-    ensures { (result.start ≤ result.end) × (result.end ≤ length input.now) × (take (result.end - result.start) (drop result.start input.now) ≡ get_or (lines input.now) n []) }
+// What an input says: its first two lines, and the text of the others. A line that is not there is empty.
+#[derive(Clone, Copy)]
+struct Parts<'a> {
+    template: &'a [u8],
+    quorum: &'a [u8],
+    sequences: &'a [u8],
+}
+
+fn cut(input: &[u8]) -> Parts<'_>
+    ensures template { result.template.now ≡ nth_line input.now 1 }
+    ensures quorum { result.quorum.now ≡ nth_line input.now 2 }
+    ensures sequences { lines result.sequences.now ≡ drop 2 (lines input.now) }
+    ensures short { (length result.template.now ≤ length input.now) × (length result.sequences.now ≤ length input.now) }
 {
-    let start = skip(b'\n', n, input);
-    let end = find(b'\n', start, input);
-    if end < input.len() {
-        Span { start, end }
-    } else {
-        Span { start, end: start }
+    let (template, rest) = first_line(input);
+    let (quorum, sequences) = first_line(rest);
+    Parts {
+        template,
+        quorum,
+        sequences,
     }
 }
 
 // The first line is a template's.
-fn check_template(input: &[u8]) -> Checked
+fn check_template(input: &[u8]) -> Result<(), Refusal>
     requires { length input.now ≤ text_bytes }
     ensures { told_checked result ≡ refuse_line (not (is_well_formed (parse_components (nth_line input.now 1)))) 1 }
 {
-    let span = find_line(0, input);
-    let start = span.start;
-    let end = span.end;
-    let good = is_template(&input[start..end]);
-    Checked::refuse_if(!good, Refusal::TextLine(1))
+    let malformed = parse_template(cut(input).template).is_none();
+    Refusal::TextLine(1).when(malformed)
 }
 
 // The second line is a number.
-fn check_quorum(input: &[u8]) -> Checked
+fn check_quorum(input: &[u8]) -> Result<(), Refusal>
     ensures { told_checked result ≡ refuse_line (not (is_well_formed (parse_number text_quorum_digits (nth_line input.now 2)))) 2 }
 {
-    let span = find_line(1, input);
-    let start = span.start;
-    let end = span.end;
-    let good = is_number(Text::QUORUM_DIGITS, &input[start..end]);
-    Checked::refuse_if(!good, Refusal::TextLine(2))
+    let malformed = parse_number(Text::QUORUM_DIGITS, cut(input).quorum).is_none();
+    Refusal::TextLine(2).when(malformed)
 }
 
 // The last line has its end.
-fn check_end(input: &[u8]) -> Checked
+fn check_end(input: &[u8]) -> Result<(), Refusal>
     ensures { told_checked result ≡ refuse_line (has_some (unended input.now)) (suc (length (lines input.now))) }
 {
-    let rest = tail(b'\n', input);
-    let start = rest.start;
-    let line = rest.before + 1;
-    Checked::refuse_if(start < input.len(), Refusal::TextLine(line))
+    let mut line = 1;
+    let mut rest = input;
+    while let Some((_, others)) = split_once(b'\n', rest) {
+        line += 1;
+        rest = others;
+    }
+    Refusal::TextLine(line).when(!rest.is_empty())
 }
 
 // What is wrong with the text of the input, the lowest line first: too long, the first line, the second, a last line without
 // its end.
-pub fn check_text(input: &[u8]) -> Checked
+#[tactic(auto, using(rules::proofs::Verdicts::in_turn, crate::proofs::Lines::text_order))]
+pub fn check_text(input: &[u8]) -> Result<(), Refusal>
     ensures { told_checked result ≡ first (text_checks input.now) }
 {
     if Text::BYTES < input.len() {
-        return Checked::Refused(Refusal::TextLine(0));
+        return Err(Refusal::TextLine(0));
     }
-    let end = check_end(input);
-    let quorum = check_quorum(input).then(end);
-    check_template(input).then(quorum)
+    check_template(input)?;
+    check_quorum(input)?;
+    check_end(input)
 }
 
 // The template that a sound input says.
@@ -83,24 +95,14 @@ pub fn read_template(input: &[u8]) -> Template
     requires { first (text_checks input.now) ≡ fine }
     ensures { result ≡ parse_template input.now }
 {
-    let span = find_line(0, input);
-    let start = span.start;
-    let end = span.end;
-    parse_template(&input[start..end])
+    parse_template(cut(input).template).unwrap()
 }
 
 // The quorum that an input says.
 pub fn read_quorum(input: &[u8]) -> u64
     ensures { result ≡ parse_quorum input.now }
 {
-    let span = find_line(1, input);
-    let start = span.start;
-    let end = span.end;
-    let number = parse_number(Text::QUORUM_DIGITS, &input[start..end]);
-    match number {
-        Number::Value(n) => n,
-        Number::Malformed => 0,
-    }
+    parse_number(Text::QUORUM_DIGITS, cut(input).quorum).unwrap_or(0)
 }
 
 // How many sequences were read, and how many letters.
@@ -110,12 +112,14 @@ pub struct Sequences {
     pub letters: usize,
 }
 
-// Writes a part of the input to a table.
-pub fn copy_part(start: usize, end: usize, input: &[u8], at: usize, to: &mut [u8]) -> usize
-    requires { (start ≤ end) × (end ≤ length input.now) × (at + (end - start) ≤ length to.old) }
-    ensures { Wrote at (take (end - start) (drop start input.now)) to.old to.new result }
+// Writes a text to a table from a place on, and answers the place after it.
+pub fn copy_part(text: &[u8], at: usize, to: &mut [u8]) -> usize
+    requires { at + length text.now ≤ length to.old }
+    ensures { Wrote at text.now to.old to.new result }
 {
-    write_bytes(&input[start..end], at, to)
+    let end = at + text.len();
+    to[at..end].copy_from_slice(text);
+    end
 }
 
 // Writes the letters of the sequence lines, joined, to the front of one table, and the lengths of the lines to the front of
@@ -128,20 +132,16 @@ pub fn read_sequences(input: &[u8], letters: &mut [u8], lengths: &mut [u32]) -> 
     ensures letters_after { letters.new ≡ put (parse_letters input.now) letters.old }
     ensures lengths_after { lengths.new ≡ put (parse_lengths input.now) lengths.old }
 {
-    let mut n: usize = 0;
-    let mut k: usize = 0;
-    let mut start = skip(b'\n', 2, input);
-    let mut end = find(b'\n', start, input);
-    while end < input.len() {
-        let length = (end - start) as u32;
-        n = copy_part(start, end, input, n, letters);
-        lengths[k] = length;
-        k += 1;
-        start = end + 1;
-        end = find(b'\n', start, input);
+    let mut read = Sequences {
+        sequences: 0,
+        letters: 0,
+    };
+    let mut rest = cut(input).sequences;
+    while let Some((line, others)) = split_once(b'\n', rest) {
+        read.letters = copy_part(line, read.letters, letters);
+        lengths[read.sequences] = line.len() as u32;
+        read.sequences += 1;
+        rest = others;
     }
-    Sequences {
-        sequences: k,
-        letters: n,
-    }
+    read
 }

@@ -1,12 +1,13 @@
 -- The parts that components are over the last letters of a word: each next one to the front takes the letters just before
 -- those of the later ones, and a pass of it turns their counts into its own.
-use mathlib.Core.Path.{◌≡◌, refl, sym, ◌∙◌}
+use mathlib.Core.Path.{◌≡◌, refl, sym, ap, ◌∙◌}
 use mathlib.Core.List.{List, [], ◌∷◌, map}
 use Prim.Native.Nat.{ℕ, zero, suc, ◌+◌, ◌-◌, ◌^◌, ◌≤◌, ◌<◌}
-use native.Mathlib.Nat.{le_trans, add-zero, pow-zero, pow-succ', pow-le-pow_right}
+use native.Mathlib.Nat.{le_trans, pow-zero, pow-succ', pow-le-pow_right}
 use native.Mathlib.Omega.{arith}
 use lib.ListN.{length, take, drop, get_or, length-take, length-drop, drop_of_length-le}
 use lib.Seq.{drop-cons, drop-drop, get_or-take}
+use Rattle.std.proofs.lemmas.List.{drop-take}
 use Rattle.rules.specs.Limits.{template_components, template_gap}
 use Rattle.rules.specs.Lists.{run, sum}
 use Rattle.rules.specs.Sound.{SoundComponent, SoundTemplate}
@@ -32,6 +33,15 @@ unfolding letters_taken sum
 letters_within cs zero = omega arith
 letters_within [] (suc c) = omega arith
 letters_within (x ∷ cs) (suc c) = omega (arith, letters_within cs c)
+
+-- the components that are left of a template, as a part of its slots, and how many letters they take
+pub left_components : (t : Template) (c : ℕ) → c ≤ t.count → take (t.count - c) (drop c (slots t)) ≡ drop c (components t)
+unfolding components
+left_components t c h = let e : t.count ≡ c + (t.count - c) = omega arith in sym (drop-take c (t.count - c) (slots t)) ∙ ap (λ n. drop c (take n (slots t))) (sym e)
+
+pub left_fit : (t : Template) (c : ℕ) → letters_taken (drop c (components t)) ≤ size t
+unfolding size letters_taken
+left_fit t c = letters_within (components t) c
 
 -- ---- the components of a template, as they stand in its slots
 
@@ -66,15 +76,6 @@ module _ {t : Template} {cs : List Component} {w : List ℕ} (held : Held t cs w
   letters_fit : (c : ℕ) → letters_taken (onward cs t.count c) ≤ length w
   unfolding size components letters_taken
   letters_fit c = let e : letters_taken (take t.count cs) ≡ size t = rw held.slotted in omega (arith, held.fits, letters_within (take t.count cs) c)
-
-  -- past the last component none begin
-  pub begins_none : length w + letters_taken (onward cs t.count t.count) ≡ length w
-  unfolding letters_taken sum
-  begins_none = rw (onward_end t.count (omega arith), add-zero (length w))
-
-  -- those of a component end at b, where those of the next begin
-  pub begins_more : (c b : ℕ) → c < t.count → b + letters_taken (onward cs t.count (suc c)) ≡ length w → ((get_or cs c none).length ≤ b) × ((b - (get_or cs c none).length) + letters_taken (onward cs t.count c) ≡ length w)
-  begins_more c b h e = let l = letters_step c h in let n = letters_fit c in (omega arith, omega arith)
 
   -- the letters of the component c, which begin at b
   module _ (c b : ℕ) (within : c < t.count) (begins : b + letters_taken (onward cs t.count c) ≡ length w) where

@@ -1,5 +1,5 @@
 -- A table that a loop fills from the front, with f at each position, and sums over neighbouring positions.
-use mathlib.Core.Path.{◌≡◌, refl, ap, ◌∙◌}
+use mathlib.Core.Path.{◌≡◌, ap, ◌∙◌}
 use mathlib.Core.List.{List, map}
 use Prim.Native.Nat.{ℕ, zero, suc, ◌+◌, ◌*◌, ◌≤◌}
 use native.Mathlib.Nat.{add-zero, suc-add, suc-mul}
@@ -32,11 +32,6 @@ sum_last f a (suc n) =
     let ih = sum_last f (suc a) n in
     let e : f (suc a + n) ≡ f (a + suc n) = ap f (omega arith) in
     omega arith
-
--- no numbers add up to 0
-pub window_none : (f : ℕ → ℕ) (a : ℕ) → 0 ≡ sum (map f (run a 0))
-unfolding run sum
-window_none f a = refl
 
 -- a sum from the offset a on, with one number more
 pub window_more : (f : ℕ → ℕ) (a n : ℕ) → sum (map f (run (suc a) n)) + f (suc (a + n)) ≡ sum (map f (run (suc a) (n + 1)))

@@ -1,17 +1,14 @@
 -- Whether letters stand at an offset, letter by letter: the letters from the j-th on stand where those before them do.
-use mathlib.Core.Path.{◌≡◌, refl, sym, ◌∙◌}
-use mathlib.Core.Bool.{Bool, true, false}
+use mathlib.Core.Path.{◌≡◌, refl, sym}
+use mathlib.Core.Bool.{Bool, true, false, ◌&&◌}
 use mathlib.Core.List.{List, [], ◌∷◌}
-use Prim.Native.Nat.{ℕ, zero, suc, ◌+◌, ◌-◌, ◌≤◌, ◌<◌}
-use native.Mathlib.Nat.{add-zero}
-use native.Mathlib.Numerals.{add-one}
+use Prim.Native.Nat.{ℕ, zero, suc, ◌-◌, ◌≤◌, ◌<◌}
 use native.Mathlib.Omega.{arith}
-use lib.ListN.{length, drop, get_or, length-drop, drop_of_length-le}
-use lib.Seq.{drop-cons}
+use lib.ListN.{length, drop, length-drop}
+use Rattle.std.specs.List.{list_all, zip}
 use Rattle.rules.specs.Letters.{value}
 use Rattle.rules.specs.Lists.{if}
 use Rattle.rules.specs.Occurrence.{spare, stands_by, front_by}
-use Rattle.rules.specs.Profile.{has_base}
 use Rattle.rules.proofs.BaseSets.{value_most}
 use Rattle.ways.specs.Counts.{fits_byte, stands_in_bytes, cell}
 
@@ -38,37 +35,21 @@ stands_short w s o h = stands_by_short fits_byte 0 w s o h
 pub value_small : (b : ℕ) {v : ℕ} → v ≡ value b → v < 8
 value_small b e = rw e (omega (arith, value_most b))
 
--- the letters of w from the j-th on stand as they do if w stands at the offset o
-unfoldable pub rest : List ℕ → List ℕ → ℕ → ℕ → Bool
+-- letters stand at the front if each fits the byte beside it
+front_each : (w s : List ℕ) → length w ≤ length s → list_all (λ p. fits_byte p.0 p.1) (zip w s) ≡ front_by fits_byte 0 w s
 unfolding front_by
-rest w s o j = front_by fits_byte 0 (drop j w) (drop (o + j) s)
+front_each [] s h = refl
+front_each (x ∷ w) [] h = absurd (omega arith)
+front_each (x ∷ w) (y ∷ s) h = rw (front_each w s (omega arith)) (go (fits_byte x y))
+  where
+    go : (b : Bool) → b && front_by fits_byte 0 w s ≡ if b (front_by fits_byte 0 w s) false
+    go true = refl
+    go false = refl
 
--- all letters stand if those from the first on do
-pub rest_all : (w s : List ℕ) (o : ℕ) → stands_in_bytes w s (suc o) ≡ rest w s o 0
-unfolding stands_by rest
-rest_all w s o = rw (add-zero o)
-
-module _ (w s : List ℕ) (o j : ℕ) (hs : o + length w ≤ length s) where
-  rest_open : j < length w → rest w s o j ≡ if (fits_byte (get_or w j 0) (get_or s (o + j) 0)) (rest w s o (j + 1)) false
-  unfolding rest front_by
-  rest_open hw =
-      let e : o + (j + 1) ≡ suc (o + j) = omega arith in
-      let hs' : o + j < length s = omega arith in
-      rw (e, add-one j, drop-cons w j 0 hw, drop-cons s (o + j) 0 hs')
-
-  module _ (hw : j < length w) {v : ℕ} {fits : Bool} (ev : v ≡ value (get_or s (o + j) 0)) (ef : fits ≡ has_base (get_or w j 0) v) where
-    -- a letter that fits leaves it to those after it
-    pub rest_next : fits ≡ true → rest w s o j ≡ rest w s o (j + 1)
-    rest_next e = rest_open hw ∙ rw (← ev, ← ef, e)
-
-    -- one that does not settles it
-    pub rest_stop : fits ≡ false → rest w s o j ≡ false
-    rest_stop e = rest_open hw ∙ rw (← ev, ← ef, e)
-
-  -- past the last all have stood
-  pub rest_done : length w ≤ j → rest w s o j ≡ true
-  unfolding rest front_by
-  rest_done h = rw (drop_of_length-le w {i = j} h)
+-- and at an offset
+pub stands_each : (w s : List ℕ) (o : ℕ) (left : List ℕ) → left ≡ drop o s → length w ≤ length left → list_all (λ p. fits_byte p.0 p.1) (zip w left) ≡ stands_in_bytes w s (suc o)
+unfolding stands_by
+stands_each w s o left e h = rw e (front_each w (drop o s) (rw (← e) h))
 
 -- a cell has v where the letters stand
 pub cell_true : (w s : List ℕ) (p v : ℕ) → true ≡ stands_in_bytes w s p → v ≡ cell w s p v

@@ -2,6 +2,7 @@
 pub mod LetterByLetter
 pub mod FilledTables
 pub mod Counting
+pub mod SumOfWays
 pub mod Aligned
 pub mod SetsInBytes
 pub mod Motifs

@@ -3,31 +3,25 @@
 #![tactic(auto)]
 
 ghost use Rattle.std.specs.Prelude.{◌≡◌, map, ℕ, suc, ◌+◌, ◌^◌, ◌≤◌, ◌<◌, length, drop};
-ghost use Rattle.rules.specs.Limits.{template_length, template_gap};
+ghost use Rattle.rules.specs.Limits.{template_components, template_length, template_gap};
 ghost use Rattle.rules.specs.Lists.{run, sum};
 ghost use Rattle.rules.specs.Sound.{SoundTemplate};
 ghost use Rattle.rules.specs.Template.{size, components};
 ghost use Rattle.ways.specs.Counts.{stands_in_bytes, counts, most_ways, at_position, cell, ending, leading, letters_taken, aligned};
 
-use rules::{Distances, Letter, Template};
+use rules::{Component, Distances, Letter, Template};
 
 // Whether the letters of `word`, each given by the bases that it stands for, stand in `s` at the offset `o`.
 fn stands(word: &[u8], s: &[u8], o: usize) -> bool
     requires { o ≤ length s.now }
     ensures { result ≡ stands_in_bytes word.now s.now (suc o) }
 {
-    if s.len() - o < word.len() {
-        return false;
-    }
-    let mut j = 0;
-    while j < word.len() {
-        let letter = Letter::value(s[o + j]);
-        if !Letter::has_base(word[j], letter) {
-            return false;
-        }
-        j += 1;
-    }
-    true
+    let rest = &s[o..];
+    word.len() <= rest.len()
+        && word
+            .iter()
+            .zip(rest)
+            .all(|(set, byte)| Letter::has_base(*set, Letter::value(*byte)))
 }
 
 // `v` where the letters stand, and else 0. Where `v` is 0, as where nothing can follow, the letters are not looked at.
@@ -45,7 +39,7 @@ fn cell(word: &[u8], s: &[u8], o: usize, v: u64) -> u64
 fn at(a: &[u64], i: usize) -> u64
     ensures { result ≡ at_position a.now (suc i) }
 {
-    if i < a.len() { a[i] } else { 0 }
+    a.get(i).copied().unwrap_or(0)
 }
 
 // The sum of the `count` numbers from `from` on.
@@ -53,13 +47,7 @@ fn window(a: &[u64], from: usize, count: usize) -> u64
     requires { (from ≤ template_length + template_gap) × (count ≤ template_gap + 1) × ((p : ℕ) → at_position a.now p ≤ most_ways) }
     ensures { result ≡ sum (map (at_position a.now) (run (suc from) count)) }
 {
-    let mut total: u64 = 0;
-    let mut k = 0;
-    while k < count {
-        total += at(a, from + k);
-        k += 1;
-    }
-    total
+    (from..from + count).map(|i| at(a, i)).sum()
 }
 
 // The ways of the last component.
@@ -67,10 +55,8 @@ fn last(word: &[u8], s: &[u8], ways: &mut [u64])
     requires { length ways.old ≡ length s.now }
     ensures { ways.new ≡ map (ending word.now s.now) (run 1 (length s.now)) }
 {
-    let mut o = 0;
-    while o < ways.len() {
-        ways[o] = cell(word, s, o, 1);
-        o += 1;
+    for (o, here) in ways.iter_mut().enumerate() {
+        *here = cell(word, s, o, 1);
     }
 }
 
@@ -83,13 +69,22 @@ fn pass(word: &[u8], apart: Distances, s: &[u8], ways: &mut [u64])
     let near = apart.near;
     let count = apart.count;
     let mut total = window(ways, near, count);
-    let mut o = 0;
-    while o < ways.len() {
-        let v = cell(word, s, o, total);
+    for o in 0..ways.len() {
+        let here = cell(word, s, o, total);
         total = total + at(ways, o + near + count) - at(ways, o + near);
-        ways[o] = v;
-        o += 1;
+        ways[o] = here;
     }
+}
+
+// How many letters some components take.
+fn letters(components: &[Component]) -> usize
+    requires { length components.now ≤ template_components }
+    ensures { result ≡ letters_taken components.now }
+{
+    components
+        .iter()
+        .map(|component| component.length as usize)
+        .sum()
 }
 
 // Where the letters of a component begin. The motif's letters are the last of `word`, each by the bases that it stands for.
@@ -99,15 +94,9 @@ fn begins(template: Template, word: &[u8], component: usize) -> usize
     ensures { result + letters_taken (drop component (components template)) ≡ length word.now }
 {
     let components = template.components();
-    let mut begin = word.len();
-    let mut c = template.count as usize;
-    while component < c {
-        c -= 1;
-        let here = components[c];
-        let length = here.length as usize;
-        begin -= length;
-    }
-    begin
+    let count = template.count as usize;
+    let left = &components[component..count];
+    word.len() - letters(left)
 }
 
 // The ways of the components from `component` on, from those of the ones after it; of the last, whatever `ways` holds. The
@@ -139,12 +128,5 @@ pub fn sum(ways: &[u64]) -> u64
     requires { sum ways.now < 2 ^ 64 }
     ensures { result ≡ sum ways.now }
 {
-    let mut total: u64 = 0;
-    let mut i = 0;
-    while i < ways.len() {
-        let here = ways[i];
-        total += here;
-        i += 1;
-    }
-    total
+    ways.iter().sum()
 }

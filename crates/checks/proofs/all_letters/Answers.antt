@@ -1,20 +1,14 @@
-use mathlib.Core.Path.{◌∙◌, refl, sym}
-use native.Mathlib.Omega.{arith}
+use mathlib.Core.Path.{◌∙◌, sym}
 use Rattle.rules.specs.Letters.{is_letter}
 use Rattle.checks.proofs.Laws.{all_on, all_end}
 use Rattle.checks.proofs.all_letters.Goals as goal
 
-pub loop-i-init : goal.loop-i-init
-loop-i-init c = (omega arith, refl)
-
-pub loop-i-preserved : goal.loop-i-preserved
-loop-i-preserved c =
-    let l = c.loop-i in
-    let xs = c.args.bytes.now in
-    (omega arith, l.invariant.1 ∙ all_on is_letter l.all l.i xs (omega arith) ∙ rw c.is_letter-all.ensures)
+pub loop-b-preserved : goal.loop-b-preserved
+loop-b-preserved c =
+    let l = c.loop-b in
+    l.invariant ∙ all_on is_letter l.all l.b-index c.args.bytes.now c.loop-b-test.true ∙ rw c.is_letter-all.ensures
 
 pub returns : goal.returns
 returns c =
-    let l = c.loop-i in
-    let xs = c.args.bytes.now in
-    sym (l.invariant.1 ∙ all_end is_letter l.all l.i xs (omega arith))
+    let l = c.loop-b in
+    sym (l.invariant ∙ all_end is_letter l.all l.b-index c.args.bytes.now c.loop-b-test.false)

@@ -1,14 +1,10 @@
 -- `all_letters`: all are letters exactly if all those passed are, and all of the rest.
 use mathlib.Core.Bool.{◌&&◌}
 use mathlib.Core.Path.{◌≡◌}
-use Prim.Native.Nat.{◌-◌, ◌≤◌}
-use lib.ListN.{length, drop}
+use lib.ListN.{drop}
 use Rattle.rules.specs.Letters.{is_letter}
 use Rattle.rules.specs.Lists.{all_pass}
 use Rattle.checks.proofs.all_letters.Given as goal
 
-abbrev pub invariant-loop-i : goal.invariant-loop-i
-invariant-loop-i l = (l.i ≤ length l.bytes) × (all_pass is_letter l.bytes ≡ l.all && all_pass is_letter (drop l.i l.bytes))
-
-abbrev pub decreases-loop-i : goal.decreases-loop-i
-decreases-loop-i l = length l.bytes - l.i
+abbrev pub invariant-loop-b : goal.invariant-loop-b
+invariant-loop-b l = all_pass is_letter l.bytes ≡ l.all && all_pass is_letter (drop l.b-index l.bytes)

@@ -1,23 +1,20 @@
-use mathlib.Core.Path.{◌∙◌, sym}
+-- `check_gaps`: the first component that the test finds bad is the first bad one.
+use Rattle.std.proofs.Common.{rules, tests}
+use Rattle.std.proofs.lemmas.Iterator.{YieldsList-from_slice}
+use Rattle.std.proofs.lemmas.Iterator.Search.{position_from_yields_List}
+use Rattle.std.proofs.lemmas.Iterator.Consumers.{YieldsList-from_enumerate, YieldsList-at}
 use Rattle.rules.specs.Refusals.{bad_gap, check8}
-use Rattle.checks.proofs.Laws.{none_passed, found, none_found, one_more}
+use Rattle.checks.proofs.Laws.{first_numbered, numbered}
 use Rattle.checks.proofs.check_gaps.Goals as goal
 
-pub loop-i-init : goal.loop-i-init
-loop-i-init c = none_passed 8 bad_gap c.args.t c.components-cs.ensures c.held-n.ensures
-
-pub returns-then-bad_gap : goal.returns-then-bad_gap
+pub returns-in-Some : goal.returns-in-Some
 unfolding check8
-returns-then-bad_gap c =
-    let l = c.loop-i in
-    found 8 bad_gap _ c.components-cs.ensures c.held-n.ensures _ l.i l.invariant c.loop-i-test.true (sym c.bad_gap.ensures ∙ c.if-bad_gap.true)
+returns-in-Some c =
+    let found = position_from_yields_List (numbered 8 bad_gap) _ _ c.position.result c.position.ensures.ran (YieldsList-from_enumerate (YieldsList-at c.enumerate.ensures.source (YieldsList-from_slice _ c.iter.ensures.rest)) c.enumerate.ensures.count) (λ x b q k. search (rules, tests)) in
+    rw c.in-Some.is at (first_numbered 8 bad_gap c.args.t c.components-slots.ensures c.held.ensures c.position.result found)
 
-pub loop-i-preserved : goal.loop-i-preserved
-loop-i-preserved c =
-    let l = c.loop-i in
-    one_more 8 bad_gap _ l.invariant c.loop-i-test.true (sym c.bad_gap.ensures ∙ c.if-bad_gap.false)
-
-pub returns : goal.returns
+pub returns-in-None : goal.returns-in-None
 unfolding check8
-returns c =
-    none_found 8 bad_gap _ c.components-cs.ensures c.held-n.ensures c.loop-i.i c.loop-i.invariant c.loop-i-test.false
+returns-in-None c =
+    let found = position_from_yields_List (numbered 8 bad_gap) _ _ c.position.result c.position.ensures.ran (YieldsList-from_enumerate (YieldsList-at c.enumerate.ensures.source (YieldsList-from_slice _ c.iter.ensures.rest)) c.enumerate.ensures.count) (λ x b q k. search (rules, tests)) in
+    rw c.in-None.is at (first_numbered 8 bad_gap c.args.t c.components-slots.ensures c.held.ensures c.position.result found)

@@ -1,23 +1,19 @@
-use mathlib.Core.Path.{◌∙◌, sym}
+-- `check_lengths`: the first component that the test finds bad is the first bad one.
+use Rattle.std.proofs.Common.{rules, tests}
+use Rattle.std.proofs.lemmas.Iterator.{YieldsList-from_slice}
+use Rattle.std.proofs.lemmas.Iterator.Search.{position_from_yields_List}
 use Rattle.rules.specs.Refusals.{bad_length, check6}
-use Rattle.checks.proofs.Laws.{none_passed, found, none_found, one_more}
+use Rattle.checks.proofs.Laws.{first_placed}
 use Rattle.checks.proofs.check_lengths.Goals as goal
 
-pub loop-i-init : goal.loop-i-init
-loop-i-init c = none_passed 6 bad_length c.args.t c.components-cs.ensures c.held-n.ensures
-
-pub returns-then-bad_length : goal.returns-then-bad_length
+pub returns-in-Some : goal.returns-in-Some
 unfolding check6
-returns-then-bad_length c =
-    let l = c.loop-i in
-    found 6 bad_length _ c.components-cs.ensures c.held-n.ensures _ l.i l.invariant c.loop-i-test.true (sym c.bad_length.ensures ∙ c.if-bad_length.true)
+returns-in-Some c =
+    let found = position_from_yields_List (bad_length 0) _ _ c.position.result c.position.ensures.ran (YieldsList-from_slice _ c.iter.ensures.rest) (λ x b q k. search (rules, tests)) in
+    rw c.in-Some.is at (first_placed 6 (bad_length 0) c.args.t c.components-slots.ensures c.held.ensures c.position.result found)
 
-pub loop-i-preserved : goal.loop-i-preserved
-loop-i-preserved c =
-    let l = c.loop-i in
-    one_more 6 bad_length _ l.invariant c.loop-i-test.true (sym c.bad_length.ensures ∙ c.if-bad_length.false)
-
-pub returns : goal.returns
+pub returns-in-None : goal.returns-in-None
 unfolding check6
-returns c =
-    none_found 6 bad_length _ c.components-cs.ensures c.held-n.ensures c.loop-i.i c.loop-i.invariant c.loop-i-test.false
+returns-in-None c =
+    let found = position_from_yields_List (bad_length 0) _ _ c.position.result c.position.ensures.ran (YieldsList-from_slice _ c.iter.ensures.rest) (λ x b q k. search (rules, tests)) in
+    rw c.in-None.is at (first_placed 6 (bad_length 0) c.args.t c.components-slots.ensures c.held.ensures c.position.result found)

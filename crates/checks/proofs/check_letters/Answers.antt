@@ -4,4 +4,4 @@ use Rattle.checks.proofs.check_letters.Goals as goal
 
 pub returns : goal.returns
 unfolding check2
-returns c = c.refuse_if.ensures
+returns c = c.when.ensures

@@ -5,4 +5,4 @@ use Rattle.checks.proofs.check_place.Goals as goal
 
 pub returns : goal.returns
 unfolding check23
-returns c = rw (c.place_rule.ensures, add-one) at c.refuse_if.ensures
+returns c = rw (c.place_rule.ensures, add-one) at c.when.ensures

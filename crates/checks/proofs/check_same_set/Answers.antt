@@ -4,4 +4,4 @@ use Rattle.checks.proofs.check_same_set.Goals as goal
 
 pub returns : goal.returns
 unfolding check12
-returns c = c.refuse_if.ensures
+returns c = c.when.ensures

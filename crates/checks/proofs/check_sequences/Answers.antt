@@ -4,4 +4,4 @@ use Rattle.checks.proofs.check_sequences.Goals as goal
 
 pub returns : goal.returns
 unfolding check1
-returns c = c.refuse_if.ensures
+returns c = c.when.ensures

@@ -4,4 +4,4 @@ use Rattle.checks.proofs.check_size.Goals as goal
 
 pub returns : goal.returns
 unfolding check7
-returns c = rw (c.letters-k.ensures, c.most-most.ensures) at c.refuse_if.ensures
+returns c = rw (c.letters-k.ensures, c.most-most.ensures) at c.when.ensures

@@ -10,18 +10,18 @@ use Rattle.checks.proofs.check_sum.Goals as goal
 pub returns-then-left-n : goal.returns-then-left-n
 unfolding check3
 returns-then-left-n c =
-    let l = c.loop-i in
+    let l = c.loop-n in
     let a = c.args in
-    simp (ne_eqb (sum a.lengths.now) (length a.letters.now) (λ e. omega (arith, sum_more a.lengths.now l.i c.loop-i-test.true)))
+    simp (ne_eqb (sum a.lengths.now) (length a.letters.now) (λ e. omega (arith, sum_more a.lengths.now l.n-index c.loop-n-test.true)))
 
-pub loop-i-preserved : goal.loop-i-preserved
-loop-i-preserved c =
-    let l = c.loop-i in
-    omega (arith, sum_more c.args.lengths.now l.i c.loop-i-test.true)
+pub loop-n-preserved : goal.loop-n-preserved
+loop-n-preserved c =
+    let l = c.loop-n in
+    omega (arith, sum_more c.args.lengths.now l.n-index c.loop-n-test.true)
 
 pub returns : goal.returns
 unfolding check3
 returns c =
-    let l = c.loop-i in
+    let l = c.loop-n in
     let a = c.args in
-    rw (same_left l.left (sum a.lengths.now) (length a.letters.now) (omega (arith, sum_over a.lengths.now l.i c.loop-i-test.false))) c.refuse_if.ensures
+    rw (same_left l.left (sum a.lengths.now) (length a.letters.now) (omega (arith, sum_over a.lengths.now l.n-index c.loop-n-test.false))) c.when.ensures

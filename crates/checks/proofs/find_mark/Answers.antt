@@ -1,31 +1,22 @@
 use mathlib.Core.Bool.{not}
-use mathlib.Core.Path.{◌∙◌, ap, sym}
-use native.Mathlib.Nat.{add_comm}
+use mathlib.Core.Path.{◌≡◌}
+use Prim.Native.Nat.{◌+◌}
 use native.Mathlib.Omega.{arith}
-use lib.ListN.{length}
-use borrow.Author.Tests.{lt-ltb, le-ltb}
-use Rattle.rules.specs.Refusals.{bad_byte}
-use Rattle.rules.proofs.Verdicts.{here, later, over}
+use Rattle.std.proofs.Common.{rules, tests}
+use Rattle.std.proofs.lemmas.Iterator.{YieldsList-from_slice}
+use Rattle.std.proofs.lemmas.Iterator.Search.{position_from_yields_List}
+use Rattle.rules.specs.Letters.{is_letter}
+use Rattle.checks.proofs.Laws.{marked}
 use Rattle.checks.proofs.find_mark.Goals as goal
 
-pub loop-i-init : goal.loop-i-init
-loop-i-init c = c.pass_letters-i.ensures
+pub returns-in_err-mark-clause-told : goal.returns-in_err-mark-clause-told
+returns-in_err-mark-clause-told c o =
+    let found = position_from_yields_List (λ b. not (is_letter b)) _ _ c.position.result c.position.ensures.ran (YieldsList-from_slice _ c.iter.ensures.rest) (λ x b q k. search (rules, tests)) in
+    rw c.from_residual.ensures (rw c.in_err-mark.was at (marked c.args.bytes.now c.pass_letters-passed.result c.position.result c.pass_letters-passed.ensures found o))
 
-pub returns-then-not-is_letter : goal.returns-then-not-is_letter
-returns-then-not-is_letter c o =
-    let l = c.loop-i in
-    let xs = c.args.bytes.now in
-    rw (lt-ltb l.i (length xs) (omega arith), add_comm o l.i)
-    (l.invariant.1 o ∙ here 4 bad_byte 0 o xs l.i (omega arith) (ap not (sym c.is_letter.ensures ∙ c.if-not-is_letter.true)))
-
-pub loop-i-preserved : goal.loop-i-preserved
-loop-i-preserved c =
-    let l = c.loop-i in
-    let xs = c.args.bytes.now in
-    (omega arith, λ o. l.invariant.1 o ∙ later 4 bad_byte 0 o xs l.i (omega arith) (ap not (sym c.is_letter.ensures ∙ c.if-not-is_letter.false)))
-
-pub returns : goal.returns
-returns c o =
-    let l = c.loop-i in
-    let xs = c.args.bytes.now in
-    rw (le-ltb l.i (length xs) (omega arith)) (l.invariant.1 o ∙ over 4 bad_byte o xs l.i (omega arith))
+pub returns-clause-told : goal.returns-clause-told
+returns-clause-told c o =
+    let found = position_from_yields_List (λ b. not (is_letter b)) _ _ c.position.result c.position.ensures.ran (YieldsList-from_slice _ c.iter.ensures.rest) (λ x b q k. search (rules, tests)) in
+    let e = rw c.in_ok-mark.was at (marked c.args.bytes.now c.pass_letters-passed.result c.position.result c.pass_letters-passed.ensures found o) in
+    let k : c.in_ok-mark.mark + (c.pass_letters-passed.result + o) ≡ c.pass_letters-passed.result + c.in_ok-mark.mark + o = omega arith in
+    rw k at e

@@ -1,23 +1,18 @@
-use mathlib.Core.Path.{◌∙◌, sym}
-use Prim.Native.Nat.{◌+◌}
+use mathlib.Core.Path.{◌∙◌, sym, ap}
 use native.Mathlib.Nat.{zero-add}
 use native.Mathlib.Omega.{arith}
-use Rattle.checks.proofs.Laws.{letters_past}
+use Rattle.checks.proofs.Laws.{block_passed}
 use Rattle.checks.proofs.pass_letters.Goals as goal
 
-pub loop-i-init : goal.loop-i-init
-loop-i-init c = (omega arith, λ o. rw zero-add)
+pub loop-block-init : goal.loop-block-init
+loop-block-init c =
+    let e = c.into_iter-block-iterator.ensures.into_iter_gives in
+    let k = c.chunks_exact-block-items.ensures in
+    ((omega arith, λ o. rw zero-add), ap (λ i. i.rest.now) e ∙ k.rest, ap (λ i. i.size) e ∙ k.size)
 
-pub returns-then-not-all_letters : goal.returns-then-not-all_letters
-returns-then-not-all_letters c = c.loop-i.invariant
-
-pub loop-i-preserved : goal.loop-i-preserved
-loop-i-preserved c =
-    let l = c.loop-i in
-    let xs = c.args.bytes.now in (
-      omega arith,
-      λ o. l.invariant.1 o ∙ letters_past o l.i (l.i + 64) xs (omega arith) (omega arith) (sym c.all_letters.ensures ∙ c.if-not-all_letters.false),
-    )
-
-pub returns : goal.returns
-returns c = c.loop-i.invariant
+pub loop-block-preserved : goal.loop-block-preserved
+loop-block-preserved c =
+    let l = c.loop-block in
+    let s = c.in-Some.ensures.steps in
+    let p = block_passed c.args.bytes.now c.in-Some.block.now c.next.new.self.rest.now l.passed l.invariant.0 (sym l.invariant.1 ∙ s.1.0) (s.1.1 ∙ l.invariant.2) (sym c.all_letters.ensures ∙ c.if-not-all_letters.false) in
+    (p.0, p.1, s.0 ∙ l.invariant.2)

@@ -4,4 +4,4 @@ use Rattle.joins.proofs.check_head.Goals as goal
 
 pub returns : goal.returns
 unfolding check6_head
-returns c = c.refuse_if.ensures
+returns c = c.when.ensures

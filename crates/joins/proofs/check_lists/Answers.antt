@@ -4,4 +4,4 @@ use Rattle.joins.proofs.check_lists.Goals as goal
 
 pub returns : goal.returns
 unfolding check16
-returns c = rw (c.rises.ensures, c.rises-2.ensures) at c.refuse_if.ensures
+returns c = rw (c.rises.ensures, c.rises-2.ensures) at c.when.ensures

@@ -4,4 +4,4 @@ use Rattle.joins.proofs.check_range.Goals as goal
 
 pub returns : goal.returns
 unfolding check8_range
-returns c = c.refuse_if.ensures
+returns c = c.when.ensures

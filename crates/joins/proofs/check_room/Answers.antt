@@ -4,4 +4,4 @@ use Rattle.joins.proofs.check_room.Goals as goal
 
 pub returns : goal.returns
 unfolding check17
-returns c = c.refuse_if.ensures
+returns c = c.when.ensures

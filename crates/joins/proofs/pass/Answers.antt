@@ -1,69 +1,40 @@
-use mathlib.Core.Bool.{true}
-use mathlib.Core.List.{List}
-use mathlib.Core.Path.{◌≡◌, refl, sym, ◌∙◌}
-use Prim.Native.Nat.{ℕ, ◌≤◌, ◌<◌}
+use mathlib.Core.Path.{refl, sym, ◌∙◌}
 use native.Mathlib.Omega.{arith}
-use lib.ListN.{length, get_or}
 use borrow.Author.Rules.{rules}
-use Rattle.rules.specs.Join.{is_rising, partnered}
-use Rattle.rules.specs.Limits.{sequence_set_letters}
-use Rattle.rules.proofs.Apart.{Apart, apart}
-use Rattle.rules.proofs.Sound.{join_sound}
-use Rattle.joins.proofs.Rising.{rising_at}
 use Rattle.joins.proofs.Partner.{passed_none, passed_on, first_decides}
 use Rattle.joins.proofs.Table.{kept_none, kept_few, kept_more, kept_all}
+use Rattle.joins.proofs.pass.Goals.{then-within, else-within}
 use Rattle.joins.proofs.pass.Goals as goal
 
-pub loop-i-init : goal.loop-i-init
-loop-i-init c = (search rules, search rules, search rules, kept_none _ _ 0 _, passed_none _ _ _ _)
-
--- a position of a list that rises is none past the last letter
-in_letters : (xs : List ℕ) (i : ℕ) → is_rising 0 xs ≡ true → i < length xs → get_or xs i 0 ≤ sequence_set_letters
-in_letters xs i r h = (rising_at 0 xs r i h).1
-
-pub overflow_cast-from : goal.overflow_cast-from
-overflow_cast-from c =
-    let s = join_sound _ _ _ _ _ _ c.requires in
-    omega (arith, in_letters _ c.loop-i.i s.first_rising (search rules))
-
--- such positions are small, and so are the distances: no sum wraps
-pub overflow_add-from : goal.overflow_add-from
-overflow_add-from c =
-    let s = join_sound _ _ _ _ _ _ c.requires in
-    let t : Apart c.over-apart.result = rw c.over-apart.ensures (apart _ _ _ s.some s.short s.ordered s.near) in
-    omega (arith, in_letters _ c.loop-i.i s.first_rising (search rules), t.near)
-
-pub overflow_add-end : goal.overflow_add-end
-overflow_add-end c =
-    let s = join_sound _ _ _ _ _ _ c.requires in
-    let t : Apart c.over-apart.result = rw c.over-apart.ensures (apart _ _ _ s.some s.short s.ordered s.near) in
-    omega (arith, in_letters _ c.loop-i.i s.first_rising (search rules), t.near, t.few)
+pub loop-p-init : goal.loop-p-init
+loop-p-init c = (search rules, search rules, kept_none _ _ 0 _, passed_none _ _ _ _)
 
 pub skip-j-requires : goal.skip-j-requires
-skip-j-requires c = let l = c.loop-i in (l.invariant.1, l.invariant.4.before l.i (search rules) (search rules))
+skip-j-requires c = let l = c.loop-p in (l.invariant.0, l.invariant.3.before l.p-index (search rules) (search rules))
 
-pub keep-n-requires : goal.keep-n-requires
-keep-n-requires c =
-    let l = c.loop-i in
-    let s = join_sound _ _ _ _ _ _ c.requires in
-    omega (arith, kept_few _ _ _ _ l.invariant.3 l.invariant.0)
+-- as many as were looked at are kept, and there is room for all
+pub bounds-out-n : goal.bounds-out-n
+bounds-out-n c = let l = c.loop-p in omega (arith, kept_few _ _ _ _ l.invariant.2 (search rules), l.invariant.1, c.requires.room, c.loop-p-test.true)
 
-pub loop-i-preserved : goal.loop-i-preserved
-loop-i-preserved c =
-    let l = c.loop-i in
-    let s = join_sound _ _ _ _ _ _ c.requires in
+pub offset_bounds-out-n : goal.offset_bounds-out-n
+offset_bounds-out-n c = let l = c.loop-p in omega (arith, kept_few _ _ _ _ l.invariant.2 (search rules), c.loop-p-test.true)
+
+pub overflow_add-n : goal.overflow_add-n
+overflow_add-n c = let l = c.loop-p in omega (arith, kept_few _ _ _ _ l.invariant.2 (search rules), c.loop-p-test.true)
+
+pub loop-p-preserved : goal.loop-p-preserved
+loop-p-preserved c =
+    let l = c.loop-p in
     let t = c.skip-j.ensures in
-    let found = c.within.ensures ∙ sym (first_decides _ _ _ _ _ _ c.over-apart.ensures s.second_rising t) in
-    let k = c.keep-n.ensures in (
-      search rules,
-      t.inside,
-      search rules,
-      kept_more _ _ _ _ l.invariant.3 (search rules) s.room refl found k.0 k.1,
-      passed_on _ _ _ _ _ s.first_rising t,
-    )
+    let found = c.within.ensures ∙ sym (first_decides _ c.args.apart _ _ c.requires.second_rising t) in
+    let more = kept_more _ _ _ _ l.invariant.2 (search rules) c.requires.room refl found in
+    let over = passed_on _ _ _ _ _ c.requires.first_rising t in
+    elim c.if-within.branch [
+      | then-within w ↦ (t.inside, search rules, more (rw w.if-within.true w.n-is) (rw w.if-within.true w.out-is), over)
+      | else-within w ↦ (t.inside, search rules, more (rw w.if-within.false w.n-is) (rw w.if-within.false w.out-is), over)
+    ]
 
 pub returns : goal.returns
-unfolding partnered
 returns c =
-    let k = kept_all _ _ _ _ c.loop-i.invariant.3 (search rules) in
+    let k = kept_all _ _ _ _ c.loop-p.invariant.2 (search rules) in
     record { value = k.0; out_after = k.1 }

@@ -5,13 +5,13 @@ use Rattle.joins.proofs.rises.Goals as goal
 
 pub returns-then-not-follows : goal.returns-then-not-follows
 returns-then-not-follows c =
-    let l = c.loop-i in
-    sym (l.invariant.1 ∙ rises_not _ _ l.i (search rules) (sym c.follows.ensures ∙ c.if-not-follows.true))
+    let l = c.loop-p in
+    sym (l.invariant ∙ rises_not _ _ l.p-index (search rules) (sym c.follows.ensures ∙ c.if-not-follows.true))
 
-pub loop-i-preserved : goal.loop-i-preserved
-loop-i-preserved c =
-    let l = c.loop-i in
-    (search rules, l.invariant.1 ∙ rises_on _ _ l.i (search rules) (sym c.follows.ensures ∙ c.if-not-follows.false))
+pub loop-p-preserved : goal.loop-p-preserved
+loop-p-preserved c =
+    let l = c.loop-p in
+    l.invariant ∙ rises_on _ _ l.p-index (search rules) (sym c.follows.ensures ∙ c.if-not-follows.false)
 
 pub returns : goal.returns
-returns c = sym (c.loop-i.invariant.1 ∙ rises_end _ _ c.loop-i.i (search rules))
+returns c = sym (c.loop-p.invariant ∙ rises_end _ _ c.loop-p.p-index (search rules))

@@ -1,20 +1,18 @@
+-- The place in the rest of the list where the first position stands that is not before `from`.
+use Prim.Native.Nat.{◌-◌}
+use lib.Dec.{leb}
 use native.Mathlib.Omega.{arith}
-use borrow.Author.Count.{below_more}
-use borrow.Author.Rules.{rules}
+use lib.ListN.{length, drop, length-drop}
+use Rattle.std.proofs.Common.{rules, tests}
+use Rattle.std.proofs.lemmas.Iterator.{YieldsList-from_slice}
+use Rattle.std.proofs.lemmas.Iterator.Search.{position_from_yields_List}
+use Rattle.std.proofs.lemmas.List.{take_all}
+use Rattle.joins.proofs.Skipped.{found_or_end, skipped}
 use Rattle.joins.proofs.skip.Goals as goal
-
-pub loop-j-init : goal.loop-j-init
-loop-j-init c = c.requires
-
-pub returns-then-least-p : goal.returns-then-least-p
-returns-then-least-p c =
-    let l = c.loop-j in
-    record { inside = l.invariant.0; before = l.invariant.1; next = λ h. c.if-least-p.true }
-
-pub loop-j-preserved : goal.loop-j-preserved
-loop-j-preserved c = (search rules, below_more _ _ c.loop-j.invariant.1 c.if-least-p.false)
 
 pub returns : goal.returns
 returns c =
-    let l = c.loop-j in
-    record { inside = l.invariant.0; before = l.invariant.1; next = λ h. omega arith }
+    let from = c.args.from.0 in
+    let found = position_from_yields_List (leb from) _ _ c.position.result c.position.ensures.ran (YieldsList-from_slice _ c.iter.ensures.rest) (λ x b q k. search (rules, tests)) in
+    let whole = take_all (length c.args.list.now - c.args.at) (drop c.args.at c.args.list.now) (omega (arith, length-drop c.args.at c.args.list.now)) in
+    rw (c.unwrap_or.ensures, found, found_or_end, whole) (skipped c.args.list.now c.args.at from c.requires.0 c.requires.1)

@@ -1,39 +1,48 @@
 -- 13 decides, the checks before it having found nothing: a leg is refused where it refuses, and else runs, as its rule has it, on from the
 -- path that 13 has made.
-use mathlib.Core.Path.{sym}
+use mathlib.Core.Path.{sym, ap, ◌∙◌}
 use native.Mathlib.Omega.{arith}
 use Rattle.places.proofs.ChecksInTurn.{left_to_13, set_is, template_is, rule_is}
+use Rattle.rules.proofs.EachKind.{base_most}
 use Rattle.legs.proofs.Ruled.{declined, accepted}
-use borrow.Author.Rules.{rules}
+use Rattle.rules.specs.Told.{told_leg}
 use Rattle.legs.proofs.leg.Goals as goal
 
-pub check_passes-checked-requires : goal.check_passes-checked-requires
-check_passes-checked-requires c =
+pub make-made-requires : goal.make-made-requires
+make-made-requires c =
     let a = c.args in
     let e = sym c.requires in
+    let set = set_is a.letters.now a.lengths.now a.search e in
+    let template = template_is _ _ _ e in
     record {
-      sound_set = set_is a.letters.now a.lengths.now a.search e;
-      sound_template = template_is _ _ _ e;
-      place_value = rule_is _ _ _ e;
-      tables = search rules;
+      sound_template = template;
+      sound_set = set;
+      template_in_bounds = (template.deep, omega (arith, set.few), omega (arith, set.few), omega (arith, base_most a.search.template), omega arith);
     }
 
-pub run-requires : goal.run-requires
-run-requires c =
-    record {
-      s_value = sym (left_to_13 c.args.letters.now c.args.lengths.now c.args.search (sym c.requires) c.in-Fine.ensures.result_value);
-      tables = c.in-Fine.ensures.tables_2;
-      in_bounds = omega arith;
-      made = c.in-Fine.ensures.made;
-    }
+pub check_passes-requires : goal.check_passes-requires
+check_passes-requires c =
+    let m = c.make-made.ensures in
+    record { place_value = rw (m.plan.0) (rule_is _ _ _ (sym c.requires)); slot = rw (m.plan.0, m.plan.1, m.plan.2) m.slot }
 
-pub returns-in-Refused : goal.returns-in-Refused
-returns-in-Refused c =
-    let r = declined c.args.letters.now c.args.lengths.now c.args.search c.args.budget _ _ _ (left_to_13 c.args.letters.now c.args.lengths.now c.args.search (sym c.requires) c.in-Refused.ensures.result_value) in
-    record { result_value = r.0; motifs_after = r.1.0; supports_after = r.1.1.0; weights_after = r.1.1.1 }
+pub run-requires-clause-s_value : goal.run-requires-clause-s_value
+run-requires-clause-s_value c =
+    let a = c.args in
+    let e = c.make-made.ensures.plan in
+    rw (e.0, e.1, e.2) (sym (left_to_13 a.letters.now a.lengths.now a.search (sym c.requires) (rw (e.0, e.1, e.2) at c.in-Ok.ensures.result_value)))
 
-pub returns-in-Fine : goal.returns-in-Fine
-returns-in-Fine c =
-    let e = c.run.ensures in
-    let r = accepted c.args.letters.now c.args.lengths.now c.args.search c.args.budget _ _ _ (left_to_13 c.args.letters.now c.args.lengths.now c.args.search (sym c.requires) c.in-Fine.ensures.result_value) (e.result_value, (e.motifs_after, (e.supports_after, e.weights_after))) in
+pub returns-in-Err : goal.returns-in-Err
+returns-in-Err c =
+    let a = c.args in
+    let e = c.make-made.ensures.plan in
+    let r = declined a.letters.now a.lengths.now a.search a.budget _ _ _ (left_to_13 a.letters.now a.lengths.now a.search (sym c.requires) (rw (e.0, e.1, e.2) at c.in-Err.ensures.result_value)) in
+    record { result_value = ap told_leg c.refused.ensures ∙ r.0; motifs_after = r.1.0; supports_after = r.1.1.0; weights_after = r.1.1.1 }
+
+pub returns-in-Ok : goal.returns-in-Ok
+returns-in-Ok c =
+    let a = c.args in
+    let e = c.make-made.ensures.plan in
+    let n = c.run.ensures in
+    let r = accepted a.letters.now a.lengths.now a.search a.budget _ _ _ (left_to_13 a.letters.now a.lengths.now a.search (sym c.requires) (rw (e.0, e.1, e.2) at c.in-Ok.ensures.result_value))
+    (rw (e.0, e.1, e.2) at n.result_value, (rw (e.0, e.1, e.2) at n.motifs_after, (rw (e.0, e.1, e.2) at n.supports_after, rw (e.0, e.1, e.2) at n.weights_after))) in
     record { result_value = r.0; motifs_after = r.1.0; supports_after = r.1.1.0; weights_after = r.1.1.1 }

@@ -3,4 +3,4 @@ use Rattle.places.proofs.ChecksInTurn.{told_13}
 use Rattle.places.proofs.check_13.Goals as goal
 
 pub returns : goal.returns
-returns c = told_13 _ _ _ c.passes_alone-alone.ensures c.refuse_if.ensures
+returns c = told_13 _ _ _ c.passes_alone-alone.ensures c.when.ensures

@@ -1,7 +1,7 @@
 use borrow.Author.Rules.{rules}
 use mathlib.Core.Path.{◌≡◌}
 use mathlib.Core.List.{map}
-use Prim.Native.Nat.{suc, ◌+◌, ◌-◌, ◌<◌}
+use Prim.Native.Nat.{suc, ◌-◌, ◌<◌}
 use native.Mathlib.Omega.{arith}
 use lib.ListN.{length, length-map}
 use Rattle.descent.specs.Paths.{Flagged}
@@ -13,46 +13,39 @@ use Rattle.rules.specs.Template.{size}
 use Rattle.ways.proofs.Motifs.{counts_motif}
 use Rattle.recovery.proofs.mark.Goals as goal
 
-pub loop-c-init : goal.loop-c-init
-loop-c-init c =
-    (omega arith, omega arith, omega arith, flagged_none c.requires.sound_template c.args.motif (map value c.args.sequence.now) c.args.flags.now, λ h. absurd (omega arith))
-
-pub mark_component-requires : goal.mark_component-requires
-mark_component-requires c =
-    let l = c.loop-c in
-    let k : l.c - 1 + 1 ≡ l.c = omega arith in
+pub loop-component-init : goal.loop-component-init
+loop-component-init c =
     record {
-      sound_template = c.requires.sound_template;
-      component_lt_count = omega (arith, c.requires.sound_template.deep, c.spell.auto.word);
-      ways_value = λ h. rw k (l.invariant.4 (omega arith));
+      room = search rules;
+      flagged = flagged_none c.requires.sound_template c.args.motif (map value c.args.sequence.now) c.args.flags.now;
+      counted = λ h. absurd (omega arith);
     }
 
-pub loop-c-preserved : goal.loop-c-preserved
-loop-c-preserved c =
+pub loop-component-preserved : goal.loop-component-preserved
+loop-component-preserved c =
     let a = c.args in
-    let l = c.loop-c in
+    let l = c.loop-component in
     let r = c.mark_component.ensures in
     let cs = parts a.template (size a.template) a.motif in
     let s = map value a.sequence.now in
-    let k : suc (l.c - 1) ≡ l.c = omega arith in
-    let within : l.c - 1 < template_components = omega (arith, c.requires.sound_template.few) in
-    let made = rw (counts_motif c.requires.sound_template a.motif template_letters c.requires.sound_template.deep (l.c - 1) a.sequence.now c.spell.ensures r.ways_after) at r.flags_after in (
-      omega arith,
-      search rules,
-      search rules,
-      flagged_more cs s (length a.sequence.now) (l.c - 1) (length-map a.sequence.now value) c.requires.sequence_len_bound.0 within l.flags l.invariant.2 made (rw k l.invariant.3),
-      λ h. r.ways_after,
-    )
+    let k : suc (l.component - 1) ≡ l.component = omega arith in
+    let within : l.component - 1 < template_components = omega (arith, c.requires.sound_template.few) in
+    let made = rw (counts_motif c.requires.sound_template a.motif template_letters c.requires.sound_template.deep (l.component - 1) a.sequence.now c.spell.ensures r.ways_after) at r.flags_after in
+    record {
+      room = search rules;
+      flagged = flagged_more cs s (length a.sequence.now) (l.component - 1) (length-map a.sequence.now value) c.requires.sequence_len_bound within l.flags l.invariant.room made (rw k l.invariant.flagged);
+      counted = λ h. r.ways_after;
+    }
 
 pub returns : goal.returns
 returns c =
     let a = c.args in
-    let l = c.loop-c in
+    let l = c.loop-component in
     let cs = parts a.template (size a.template) a.motif in
     let s = map value a.sequence.now in
-    let z : l.c ≡ 0 = omega arith in
-    let f : Flagged cs s l.flags 0 = rw (← z) l.invariant.3 in
-    let w = counts_motif c.requires.sound_template a.motif template_letters c.requires.sound_template.deep 0 a.sequence.now c.spell.ensures (rw z at (l.invariant.4 (omega (arith, c.requires.sound_template.some)))) in
+    let z : l.component ≡ 0 = omega arith in
+    let f : Flagged cs s l.flags 0 = rw (← z) l.invariant.flagged in
+    let w = counts_motif c.requires.sound_template a.motif template_letters c.requires.sound_template.deep 0 a.sequence.now c.spell.ensures (rw z at (l.invariant.counted (omega (arith, c.requires.sound_template.some)))) in
     record {
       flagged = f;
       ways_after = w;

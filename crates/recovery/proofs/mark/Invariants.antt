@@ -1,7 +1,7 @@
--- `mark` meets its contract: from `c` on the flags are right, and the ways are those of the component `c` and the ones after it.
+-- `mark` meets its contract: from `component` on the flags are right, and the ways are those of that component and the ones after it.
 use mathlib.Core.Path.{◌≡◌}
 use mathlib.Core.List.{map}
-use Prim.Native.Nat.{◌*◌, ◌≤◌, ◌<◌}
+use Prim.Native.Nat.{◌*◌, ◌<◌}
 use lib.ListN.{length, take, drop}
 use Rattle.descent.specs.Paths.{Flagged}
 use Rattle.rules.specs.Letters.{value}
@@ -11,12 +11,9 @@ use Rattle.rules.specs.Template.{components, size}
 use Rattle.ways.specs.Counts.{counts, aligned}
 use Rattle.recovery.proofs.mark.Given as goal
 
-abbrev pub invariant-loop-c : goal.invariant-loop-c
-invariant-loop-c l = (l.c ≤ l.template.count)
-    × (length l.ways ≡ sequence_set_letters)
-    × (length l.flags ≡ template_components * sequence_set_letters)
-    × Flagged (parts l.template (size l.template) l.motif) (map value l.sequence) l.flags l.c
-    × (l.c < l.template.count → take (length l.sequence) l.ways ≡ counts (aligned (drop l.c (components l.template)) l.word) l.sequence)
-
-abbrev pub decreases-loop-c : goal.decreases-loop-c
-decreases-loop-c l = l.c
+abbrev pub invariant-loop-component : goal.invariant-loop-component
+invariant-loop-component l = record {
+  room : length l.flags ≡ template_components * sequence_set_letters;
+  flagged : Flagged (parts l.template (size l.template) l.motif) (map value l.sequence) l.flags l.component;
+  counted : l.component < l.template.count → take (length l.sequence) l.ways ≡ counts (aligned (drop l.component (components l.template)) l.word) l.sequence;
+}

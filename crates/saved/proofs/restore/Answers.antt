@@ -1,18 +1,13 @@
--- `restore`: what the bytes are refused with before 13 is told, and where a search was read of them 13 decides.
-use mathlib.Core.Path.{sym, ◌∙◌}
-use Rattle.records.proofs.Before.{ready, left_to_13, refused_before}
+-- `restore`: bytes that pass before 13 are ready for it, and 13 decides.
+use Rattle.records.proofs.Before.{ready, left_to_13}
+use Rattle.rules.proofs.Verdicts.{answer_handed_on}
 use Rattle.saved.proofs.restore.Goals as goal
 
-pub check_13-found-requires : goal.check_13-found-requires
-check_13-found-requires c =
-    let a = c.args in
-    let r = ready a.letters.now a.lengths.now a.bytes.now _ c.in-Search.ensures in
+pub check_13-requires : goal.check_13-requires
+check_13-requires c =
+    let r = ready _ _ _ _ c.in_ok-search.ensures in
     record { sound_set = r.set; sound_template = r.template; place_value = r.place }
 
-pub returns-in-Search : goal.returns-in-Search
-returns-in-Search c =
-    let a = c.args in
-    c.begun.ensures ∙ rw c.check_13-found.ensures (sym (left_to_13 a.letters.now a.lengths.now a.bytes.now _ c.in-Search.ensures))
-
-pub returns-in-Refused : goal.returns-in-Refused
-returns-in-Refused c = refused_before _ _ _ c.in-Refused.ensures
+pub returns-in_err-check_13 : goal.returns-in_err-check_13
+returns-in_err-check_13 c =
+    rw (answer_handed_on _ _ c.from_residual-in_err-check_13.ensures, left_to_13 _ _ _ _ c.in_ok-search.ensures, ← c.in_err-check_13.ensures)

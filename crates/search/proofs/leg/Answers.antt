@@ -2,14 +2,13 @@
 use mathlib.Core.Path.{sym, ap, ◌∙◌}
 use Rattle.legs.proofs.Ruled.{declined}
 use Rattle.places.proofs.ChecksInTurn.{refused_before}
-use Rattle.rules.specs.Told.{told_checked}
+use Rattle.rules.specs.Told.{told_leg}
 use Rattle.search.proofs.leg.Goals as goal
 
 pub leg-requires : goal.leg-requires
-leg-requires c = sym c.check_before_13-checked.ensures ∙ ap told_checked c.in-Fine.is
+leg-requires c = sym c.in-Ok.ensures
 
-pub returns-in-Refused : goal.returns-in-Refused
-returns-in-Refused c =
-    let e = refused_before c.args.letters.now c.args.lengths.now c.args.search (sym (ap told_checked c.in-Refused.is) ∙ c.check_before_13-checked.ensures) in
-    let d = declined c.args.letters.now c.args.lengths.now c.args.search c.args.budget c.args.motifs.now c.args.supports.now c.args.weights.now e in
-    record { result_value = d.0; motifs_after = d.1.0; supports_after = d.1.1.0; weights_after = d.1.1.1 }
+pub returns-in-Err : goal.returns-in-Err
+returns-in-Err c =
+    let d = declined c.args.letters.now c.args.lengths.now c.args.search c.args.budget c.args.motifs.now c.args.supports.now c.args.weights.now (refused_before _ _ _ c.in-Err.ensures) in
+    record { result_value = ap told_leg c.refused.ensures ∙ d.0; motifs_after = d.1.0; supports_after = d.1.1.0; weights_after = d.1.1.1 }

@@ -1,26 +1,27 @@
+-- `stands` meets its contract: letters stand where each fits the byte beside it, and not where fewer bytes are left.
 use borrow.Author.Rules.{rules}
-use mathlib.Core.Path.{sym, ◌∙◌}
-use Rattle.ways.proofs.LetterByLetter.{value_small, stands_short, rest_all, rest_next, rest_stop, rest_done}
+use mathlib.Core.Path.{◌∙◌}
+use Prim.Native.Nat.{◌-◌}
+use native.Mathlib.Omega.{arith}
+use lib.ListN.{length, take, drop, length-take, length-drop}
+use lib.Seq.{take_all}
+use borrow.Author.Tests.{lt-leb}
+use Rattle.std.proofs.lemmas.Iterator.{YieldsList-from_slice, YieldsList-from_zip}
+use Rattle.std.proofs.lemmas.Iterator.Search.{all_from_yields_List}
+use Rattle.ways.specs.Counts.{fits_byte}
+use Rattle.ways.proofs.LetterByLetter.{value_small, stands_short, stands_each}
 use Rattle.ways.proofs.stands.Goals as goal
 
-pub returns-then-s-o : goal.returns-then-s-o
-returns-then-s-o c = stands_short _ _ _ c.if-s-o.true
+pub all-requires-clause-callable : goal.all-requires-clause-callable
+all-requires-clause-callable c = search (rules, value_small)
 
-pub loop-j-init : goal.loop-j-init
-loop-j-init c = (search rules, search rules, rest_all _ _ _)
+pub returns-then-word-rest : goal.returns-then-word-rest
+returns-then-word-rest c =
+    let w = c.args.word.now in
+    let left = take (length c.args.s.now - c.args.o) (drop c.args.o c.args.s.now) in
+    all_from_yields_List (λ p. fits_byte p.0 p.1) c.all.new.self _ _ c.all.ensures.ran (YieldsList-from_zip (YieldsList-from_slice w cc) (YieldsList-from_slice left cc)) (λ x b q k. search rules)
+    ∙ stands_each w c.args.s.now c.args.o left (take_all _ _ (simp length-drop (omega arith))) c.if-word-rest.true
 
-pub has_base-requires : goal.has_base-requires
-has_base-requires c = value_small _ c.value-letter.ensures
-
-pub returns-then-not-has_base : goal.returns-then-not-has_base
-returns-then-not-has_base c =
-    let l = c.loop-j in
-    sym (l.invariant.2 ∙ rest_stop _ _ _ _ (search rules) (search rules) c.value-letter.ensures c.has_base.ensures c.if-not-has_base.true)
-
-pub loop-j-preserved : goal.loop-j-preserved
-loop-j-preserved c =
-    let l = c.loop-j in
-    (search rules, search rules, l.invariant.2 ∙ rest_next _ _ _ _ (search rules) (search rules) c.value-letter.ensures c.has_base.ensures c.if-not-has_base.false)
-
-pub returns : goal.returns
-returns c = sym (c.loop-j.invariant.2 ∙ rest_done _ _ _ _ (search rules) (search rules))
+pub returns-else-word-rest : goal.returns-else-word-rest
+returns-else-word-rest c =
+    lt-leb _ _ c.if-word-rest.false ∙ stands_short c.args.word.now c.args.s.now c.args.o (let few = c.if-word-rest.false in omega (arith, length-take (length c.args.s.now - c.args.o) (drop c.args.o c.args.s.now), length-drop c.args.o c.args.s.now))

@@ -9,19 +9,19 @@ use Rattle.checks.proofs.Dealt.{all_more}
 use Rattle.checks.proofs.spelled.mixed_allows.Invariants.{fourteen}
 use Rattle.checks.proofs.spelled.mixed_allows.Goals as goal
 
-pub loop-i-init : goal.loop-i-init
+pub loop-init : goal.loop-init
 unfolding all_pass spell
-loop-i-init c = (omega arith, omega arith, refl)
+loop-init c = (omega arith, omega arith, refl)
 
-pub loop-i-preserved : goal.loop-i-preserved
-loop-i-preserved c =
-    let l = c.loop-i in
+pub loop-preserved : goal.loop-preserved
+loop-preserved c =
+    let l = c.loop in
     let number = c.args.number in
-    (omega arith, rest_more letter_digits number l.i l.invariant.1, all_more letter_digits number l.i l.invariant.1 fourteen l.invariant.2)
+    (omega arith, rest_more letter_digits number l.counter l.invariant.1, all_more letter_digits number l.counter l.invariant.1 fourteen l.invariant.2)
 
 pub returns : goal.returns
 unfolding within
 returns c =
-    let l = c.loop-i in
-    let e : l.i ≡ c.args.n = omega arith in
+    let l = c.loop in
+    let e : l.counter ≡ c.args.n = omega arith in
     rw (l.invariant.2, c.several.ensures, e)

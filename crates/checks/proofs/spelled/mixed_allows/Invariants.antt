@@ -1,7 +1,7 @@
 -- `mixed_allows`: the last letters are looked at one by one, from the end. So far, `all` of them are among the fourteen.
 use mathlib.Core.Bool.{Bool}
 use mathlib.Core.Path.{◌≡◌}
-use Prim.Native.Nat.{ℕ, ◌-◌, ◌/◌, ◌^◌, ◌≤◌}
+use Prim.Native.Nat.{ℕ, ◌/◌, ◌^◌, ◌≤◌}
 use lib.Dec.{ltb}
 use Rattle.rules.specs.Limits.{letter_symbols, letter_digits}
 use Rattle.rules.specs.Lists.{all_pass}
@@ -12,8 +12,5 @@ use Rattle.checks.proofs.spelled.mixed_allows.Given as goal
 abbrev pub fourteen : ℕ → Bool
 fourteen x = ltb x letter_symbols
 
-abbrev pub invariant-loop-i : goal.invariant-loop-i
-invariant-loop-i l = (l.i ≤ l.n) × (l.rest ≡ l.number / letter_digits ^ l.i) × (l.all ≡ all_pass fourteen (spell letter_digits l.i l.number))
-
-abbrev pub decreases-loop-i : goal.decreases-loop-i
-decreases-loop-i l = l.n - l.i
+abbrev pub invariant-loop : goal.invariant-loop
+invariant-loop l = (l.counter ≤ l.n) × (l.rest ≡ l.number / letter_digits ^ l.counter) × (l.all ≡ all_pass fourteen (spell letter_digits l.counter l.number))

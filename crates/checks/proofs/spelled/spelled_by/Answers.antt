@@ -1,17 +1,13 @@
-use mathlib.Core.Path.{◌∙◌, sym}
-use native.Mathlib.Omega.{arith}
+-- `spelled_by`: a number lies below a power of the base exactly if nothing is left of it by a division.
+use Prim.Native.Nat.{◌^◌}
+use native.Mathlib.Nat.{one-le-pow}
 use Rattle.rules.specs.Profile.{profile_by}
 use Rattle.rules.proofs.EachKind.{kind_proper}
-use Rattle.checks.proofs.Laws.{fewer, none_left}
+use Rattle.checks.proofs.Laws.{nothing_left}
 use Rattle.checks.proofs.spelled.spelled_by.Goals as goal
-
-pub loop-j-preserved : goal.loop-j-preserved
-loop-j-preserved c =
-    let l = c.loop-j in
-    let profile = c.args.profile in
-    l.invariant ∙ fewer (profile_by profile).base (kind_proper profile).pos l.x l.j c.loop-j-test.true c.shorter-x.ensures
 
 pub returns : goal.returns
 returns c =
-    let l = c.loop-j in
-    sym (l.invariant ∙ none_left (profile_by c.args.profile).base l.x l.j (omega arith))
+    let a = c.args in
+    let base = (profile_by a.profile).base in
+    rw c.prefix.ensures (nothing_left (base ^ a.letters) a.number (one-le-pow a.letters base (kind_proper a.profile).pos))

@@ -1,9 +1,7 @@
--- `begin` goes by what was found of the profile.
-
+-- `begin`: a search that begins has a sound template.
+use Rattle.exports.proofs.CheckedOnce.{begun_template}
 use Rattle.exports.proofs.chain.begin.Goals as goal
 
-pub returns-in-Fine : goal.returns-in-Fine
-returns-in-Fine c = rw c.in-Fine.is c.begin.ensures
-
-pub returns-in-Refused : goal.returns-in-Refused
-returns-in-Refused c = rw c.in-Refused.is
+pub write_search-requires : goal.write_search-requires
+write_search-requires c =
+    let a = c.args in begun_template a.letters.now a.lengths.now a.t a.quorum _ c.in_ok-begun.ensures

@@ -15,4 +15,4 @@ pub returns : goal.returns
 returns c =
     let a = c.args in
     ran a.letters.now a.lengths.now a.saved.now a.search c.requires a.budget a.motifs.now a.supports.now a.weights.now c.leg-leg.result
-    (c.leg-leg.ensures.result_value, (c.leg-leg.ensures.motifs_after, (c.leg-leg.ensures.supports_after, c.leg-leg.ensures.weights_after))) c.save_left.ensures c.leg.ensures
+    (c.leg-leg.ensures.result_value, (c.leg-leg.ensures.motifs_after, (c.leg-leg.ensures.supports_after, c.leg-leg.ensures.weights_after))) c.save_left.ensures c.from.ensures

@@ -1,7 +1,5 @@
 -- An empty line is none of the lines, so the lines from the one behind it on are the same.
-use mathlib.Core.Path.{◌≡◌}
-use Prim.Native.Nat.{◌-◌}
-use lib.ListN.{length}
+use Rattle.std.proofs.Common.{◌≡◌, ◌-◌, length}
 use Rattle.rules.specs.Fasta.{lines_from}
 use Rattle.fasta.proofs.lines.first_line.Given as goal
 

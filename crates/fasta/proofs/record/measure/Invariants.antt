@@ -1,6 +1,5 @@
 -- What the lines passed have, and what is left, is the record's: at its end nothing is left.
-use Prim.Native.Nat.{◌-◌}
-use lib.ListN.{length}
+use Rattle.std.proofs.Common.{◌-◌, length}
 use Rattle.fasta.proofs.Body.{Measured}
 use Rattle.fasta.proofs.record.measure.Given as goal
 

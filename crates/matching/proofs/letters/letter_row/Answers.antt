@@ -1,6 +1,4 @@
-use mathlib.Core.Path.{refl}
 use native.Mathlib.Omega.{arith}
-use lib.ListN.{length-set}
 use Rattle.rules.proofs.Over.{over_none, over_put, over_all}
 use Rattle.matching.proofs.Standing.{letter_word, letter_word_is, joined_row}
 use Rattle.matching.proofs.letters.letter_row.Goals as goal
@@ -8,22 +6,18 @@ use Rattle.matching.proofs.letters.letter_row.Goals as goal
 pub loop-q-init : goal.loop-q-init
 loop-q-init c =
     let a = c.args in
-    (omega arith, refl, over_none (letter_word a.x a.bases.now) 0 a.row.now)
+    over_none (letter_word a.x a.bases.now) 0 a.row.now
 
 pub loop-q-preserved : goal.loop-q-preserved
 loop-q-preserved c =
     let a = c.args in
     let l = c.loop-q in
-    let i = l.invariant in
     let word = letter_word_is a.x a.bases.now l.q c.base_set-set.ensures c.has_base-a.ensures c.has_base-c.ensures c.has_base-g.ensures c.has_base-t.ensures
     c.pick.ensures c.pick-in-loop-q.ensures c.pick-in-loop-q-2.ensures c.pick-in-loop-q-3.ensures in
-    (omega (arith, c.loop-q-test.true), simp length-set i.1, over_put (letter_word a.x a.bases.now) l.q a.row.now i.2 word (omega (arith, c.loop-q-test.true, c.requires.1)))
+    over_put (letter_word a.x a.bases.now) l.q a.row.now l.invariant word (omega (arith, c.loop-q-test.true, c.requires.1))
 
-pub returns : goal.returns
-returns c =
+pub returns-clause-from_bases : goal.returns-clause-from_bases
+returns-clause-from_bases c =
     let a = c.args in
     let l = c.loop-q in
-    record {
-      from_bases = joined_row a.x a.bases.now l.row (over_all (letter_word a.x a.bases.now) l.q a.row.now l.invariant.2 (omega (arith, l.invariant.0, c.loop-q-test.false)) (omega (arith, c.requires.1)));
-      row_len_unchanged = l.invariant.1;
-    }
+    joined_row a.x a.bases.now l.row (over_all (letter_word a.x a.bases.now) l.q a.row.now l.invariant (omega (arith, l.auto.q-end, c.loop-q-test.false)) (omega (arith, c.requires.1)))

@@ -1,12 +1,6 @@
 -- A turn writes the next word of each letter's row, that of the 64 letters from its first on.
-use mathlib.Core.Path.{◌≡◌}
-use Prim.Native.Nat.{◌-◌, ◌≤◌}
-use lib.ListN.{length}
 use Rattle.matching.proofs.BaseRows.{Begun}
 use Rattle.matching.proofs.letters.sequence_slots.Given as goal
 
 abbrev pub invariant-loop-q : goal.invariant-loop-q
-invariant-loop-q l = (l.q ≤ l.count) × (length l.standing ≡ length l.initial.standing) × Begun l.from l.to l.sequence l.initial.standing l.q l.standing
-
-abbrev pub decreases-loop-q : goal.decreases-loop-q
-decreases-loop-q l = l.count - l.q
+invariant-loop-q l = Begun l.from l.to l.sequence l.initial.standing l.q l.standing

@@ -1,25 +1,22 @@
 -- The shifted row is written in the part of the table that is the slot.
-use Prim.Native.Nat.{◌+◌, ◌*◌}
 use native.Mathlib.Omega.{arith}
-use borrow.Rule.Slice.PartMut.{mid_len}
+use Prim.Native.Nat.{◌*◌}
 use Rattle.matching.proofs.BaseRows.{slot_filled}
+use Rattle.matching.proofs.Slots.{enough, row_cut}
+use Rattle.rows.specs.Set.{between}
 use Rattle.matching.proofs.letters.shift_slot.Goals as goal
 
-pub shift_all-requires : goal.shift_all-requires
-shift_all-requires c =
-    let a = c.args in
-    let p = c.requires in
-    let n = mid_len (a.s * 2072) (a.s * 2072 + 2072) a.standing.now p.i_bound.1 in
-    record {
-      i_bound = omega (arith, p.i_bound.0);
-      firsts = p.firsts;
-      lengths_in_bounds = (omega (arith, p.lengths_bound.0, p.lengths_bound.1), omega (arith, n, p.lengths_bound.0));
-    }
+pub shift_all-requires-clause-lengths_in_bounds : goal.shift_all-requires-clause-lengths_in_bounds
+unfolding between
+shift_all-requires-clause-lengths_in_bounds c =
+    let s = c.args.plan.now in
+    let most = enough s.letters.now s.layout.lengths.now s.sound_set in
+    (omega (arith, most, c.requires.row_len), omega (arith, most, row_cut (c.args.s * 2072) c.args.standing.now c.requires.i_bound.1))
 
-pub returns : goal.returns
-returns c =
+pub returns-clause-filled : goal.returns-clause-filled
+returns-clause-filled c =
     let a = c.args in
     let p = c.requires in
     let o = c.shift_all.ensures in
-    let w = slot_filled a.s _ a.lengths.now a.standing.now p.i_bound.1 _ o.out_len_unchanged o.filled in
-    record { standing_unchanged = w.0; filled = w.1 }
+    let w = slot_filled a.s _ a.plan.now.layout.lengths.now a.standing.now p.i_bound.1 _ o.out_len_unchanged o.filled in
+    w.1

@@ -5,32 +5,39 @@ use Rattle.matching.proofs.Extend.{below_bounded, kept_row, kept_support}
 use Rattle.matching.proofs.Slots.{enough}
 use Rattle.matching.proofs.path.extend.Goals as goal
 
-pub keep_all-requires : goal.keep_all-requires
-keep_all-requires c =
-    let a = c.args in
-    let p = c.requires in
-    let deep = p.le_size in
-    let long = p.letter_len in
-    let bounded = below_bounded a.template p.sound_template a.letters.now a.lengths.now p.sound_set a.size a.number deep.0 deep.1 a.slot.now p.slot in
-    record {
-      lengths_len_bound = (p.sound_set.few, omega (arith, deep.2));
-      firsts = p.firsts;
-      bounded = bounded;
-      lengths_in_bounds = (omega (arith, long.1, enough a.letters.now a.lengths.now p.sound_set), omega (arith, long.0, long.1), omega (arith, long.1, long.2));
-    }
+pub keep_all-requires-clause-bounded : goal.keep_all-requires-clause-bounded
+keep_all-requires-clause-bounded c =
+    let s = c.args.plan.now in
+    let q = c.args.place in
+    let deep = c.requires.le_size in
+    below_bounded s.search.template s.sound_template s.letters.now s.layout.lengths.now s.sound_set q.letters q.number deep.0 deep.1 c.args.slot.now c.requires.slot
 
-pub returns : goal.returns
-returns c =
-    let a = c.args in
+pub keep_all-requires-clause-lengths_in_bounds : goal.keep_all-requires-clause-lengths_in_bounds
+keep_all-requires-clause-lengths_in_bounds c =
+    let s = c.args.plan.now in
+    let long = c.requires.letter_len in
+    (omega (arith, long.1, enough s.letters.now s.layout.lengths.now s.sound_set), omega (arith, long.0, long.1), omega (arith, long.1, long.2))
+
+pub returns-clause-lower_bound : goal.returns-clause-lower_bound
+returns-clause-lower_bound c =
+    let s = c.args.plan.now in
+    let q = c.args.place in
+    let p = c.requires in
+    let all = kept_support s.search.template s.sound_template s.letters.now s.layout.lengths.now s.sound_set q.letters q.number p.le_size.0 p.le_size.1 c.args.slot.now p.slot p.letter_len.1 c.args.test.row.now c.args.test.by p.tests_last in
+    omega (arith, all, c.keep_all.ensures.lower_bound)
+
+pub returns-clause-value : goal.returns-clause-value
+returns-clause-value c =
+    let s = c.args.plan.now in
+    let q = c.args.place in
+    let p = c.requires in
+    let all = kept_support s.search.template s.sound_template s.letters.now s.layout.lengths.now s.sound_set q.letters q.number p.le_size.0 p.le_size.1 c.args.slot.now p.slot p.letter_len.1 c.args.test.row.now c.args.test.by p.tests_last in
+    λ h. c.keep_all.ensures.value h ∙ all
+
+pub returns-clause-row : goal.returns-clause-row
+returns-clause-row c =
+    let s = c.args.plan.now in
+    let q = c.args.place in
     let p = c.requires in
     let k = c.keep_all.ensures in
-    let deep = p.le_size in
-    let long = p.letter_len.1 in
-    let tests = p.tests_last in
-    let all = kept_support a.template p.sound_template a.letters.now a.lengths.now p.sound_set a.size a.number deep.0 deep.1 a.slot.now p.slot long a.letter.now a.by tests in
-    record {
-      lower_bound = omega (arith, all, k.lower_bound);
-      value = λ h. k.value h ∙ all;
-      row = λ h. kept_row a.template p.sound_template a.letters.now a.lengths.now p.sound_set a.size a.number deep.0 deep.1 a.slot.now p.slot long a.letter.now a.by tests _ (k.filled h) (k.marked h);
-      work_len_unchanged = k.out_len_unchanged;
-    }
+    λ h. kept_row s.search.template s.sound_template s.letters.now s.layout.lengths.now s.sound_set q.letters q.number p.le_size.0 p.le_size.1 c.args.slot.now p.slot p.letter_len.1 c.args.test.row.now c.args.test.by p.tests_last _ (k.filled h) (k.marked h)

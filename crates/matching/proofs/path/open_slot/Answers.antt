@@ -1,29 +1,26 @@
 -- The gap is opened in the slot by the distances of the template.
 use native.Mathlib.Omega.{arith}
 use Rattle.matching.proofs.Gapped.{gap_apart, opened_slot}
+use Rattle.matching.proofs.Slots.{enough}
 use Rattle.matching.proofs.path.open_slot.Goals as goal
 
-pub open_all-requires : goal.open_all-requires
-open_all-requires c =
-    let a = c.args in
+pub open_all-requires-clause-count_bound : goal.open_all-requires-clause-count_bound
+open_all-requires-clause-count_bound c =
+    let s = c.args.plan.now in
     let p = c.requires in
-    let z = p.lengths_bound in
-    let g = gap_apart a.template p.sound_template a.component p.le_component.0 p.le_component.1 _ c.components-components.ensures c.after-apart.ensures in
-    record {
-      lengths_len_bound = (p.le_component.2, g.any);
-      firsts = p.firsts;
-      bounded = p.bounded;
-      lengths_in_bounds = (omega (arith, z.0, z.2), omega (arith, z.1, z.2));
-    }
+    let g = gap_apart s.search.template s.sound_template c.args.component p.le_component.0 p.le_component.1 _ c.components-components.ensures c.after-apart.ensures in
+    g.any
 
-pub returns : goal.returns
-returns c =
-    let a = c.args in
+pub open_all-requires-clause-lengths_in_bounds : goal.open_all-requires-clause-lengths_in_bounds
+open_all-requires-clause-lengths_in_bounds c =
+    let s = c.args.plan.now in
+    let long = c.requires.slot_len in
+    let most = enough s.letters.now s.layout.lengths.now s.sound_set in
+    (omega (arith, most, long), omega (arith, long))
+
+pub returns-clause-filled : goal.returns-clause-filled
+returns-clause-filled c =
+    let s = c.args.plan.now in
     let p = c.requires in
-    let o = c.open_all.ensures in
     let e = c.components-components.ensures in
-    record {
-      slot_len_unchanged = o.row_len_unchanged;
-      marked = o.marked;
-      filled = opened_slot a.template p.sound_template a.component p.le_component.0 p.le_component.1 _ e c.after-apart.ensures a.lengths.now a.slot.now _ o.filled;
-    }
+    opened_slot s.search.template s.sound_template c.args.component p.le_component.0 p.le_component.1 _ e c.after-apart.ensures s.layout.lengths.now c.args.slot.now _ c.open_all.ensures.filled

@@ -1,110 +1,32 @@
--- The slot before is read in one table and the slot filled in the other, where those below it are left.
-use mathlib.Core.Path.{refl}
-use Prim.Native.Nat.{◌-◌, ◌/◌, ◌≤◌}
-use native.Mathlib.Omega.{arith}
+-- The table is cut after the slot before, and the next one filled: what is below it is left.
+use mathlib.Core.Path.{◌∙◌}
+use Prim.Native.Nat.{◌≤◌}
 use Rattle.matching.specs.Path.{row_slot}
 use Rattle.rows.specs.Set.{between}
-use Rattle.matching.proofs.Push.{pushed_even, pushed_odd}
-use Rattle.matching.proofs.Slots.{parent_even, parent_odd, row_cut, row_slot_long}
+use Rattle.matching.proofs.Push.{before_cut, path_stays, path_goes_on}
 use Rattle.matching.proofs.path.push.Goals as goal
 
-pub test_for-test-requires : goal.test_for-test-requires
-test_for-test-requires c =
-    let p = c.requires in
-    let deep = p.le_size in
-    let ready = p.ready in
-    record {
-      sound_template = p.sound_template;
-      le_size = (deep.0, omega (arith, deep.1), ready.placed);
-      template_in_bounds = ready.letters.long;
-    }
-
-pub overflow_add-g : goal.overflow_add-g
-overflow_add-g c = omega (arith, c.test_for-test.ensures.at_in_bounds)
-
-pub offset_bounds-standing-c : goal.offset_bounds-standing-c
-offset_bounds-standing-c c = omega (arith, c.test_for-test.ensures.at_in_bounds)
-
-pub fill_slot-requires : goal.fill_slot-requires
+pub fill_slot-requires-clause-slot : goal.fill_slot-requires-clause-slot
 unfolding row_slot between
-fill_slot-requires c =
-    let a = c.args in
-    let p = c.requires in
-    let deep = p.le_size in
-    let z = p.evens_len in
-    let ready = p.ready in
-    let test = c.test_for-test in
-    let slot = parent_odd a.template a.lengths.now a.letters.now a.evens.now a.odds.now a.size a.number p.path deep.0 (omega (arith, c.if-s-eq0.true, deep)) in
-    let long = row_slot_long ((a.size - 1) / 2) a.odds.now (omega (arith, z.1, deep, p.sound_template.deep)) in
-    let letter = row_cut test.result.at a.standing.now test.ensures.at_in_bounds.0 in
-    record {
-      sound_template = p.sound_template;
-      sound_set = p.sound_set;
-      le_size = (deep.0, deep.1, test.ensures.at_in_bounds.1);
-      inside = ready.placed;
-      firsts = ready.laid;
-      tests_last = test.ensures.by_index a.lengths.now a.letters.now ready.letters;
-      slot = slot;
-      letter_len = (letter, long, z.2, row_slot_long (a.size / 2) a.evens.now (omega (arith, z.0, deep, p.sound_template.deep)));
-    }
+fill_slot-requires-clause-slot c =
+    let s = c.args.made.now.plan in
+    let q = c.args.place in
+    let b = c.split_at_mut-below.ensures in
+    before_cut s.search.template s.layout.lengths.now s.letters.now c.args.slots.now q.letters q.number c.requires.path c.requires.le_size.0 _ b.front b.front_len
 
-pub shape_of-evens : goal.shape_of-evens
-shape_of-evens c = refl
-
-pub returns-then-s-eq0 : goal.returns-then-s-eq0
-returns-then-s-eq0 c =
-    let a = c.args in
-    let p = c.requires in
+pub returns-clause-path_2 : goal.returns-clause-path_2
+returns-clause-path_2 c =
+    let s = c.args.made.now.plan in
+    let q = c.args.place in
+    let b = c.split_at_mut-below.ensures in
     let f = c.fill_slot in
-    let o = f.ensures in
-    let z = p.evens_len in
-    let r = pushed_even a.template a.lengths.now a.letters.now a.evens.now a.odds.now a.size a.number p.path (a.quorum ≤ f.result) f.new.slot o.slot_2 c.if-s-eq0.true (omega (arith, z.0, p.le_size, p.sound_template.deep)) o.spare_len_unchanged.1 in
-    record {
-      lower_bound = o.lower_bound;
-      value = o.value;
-      path_2 = r.0.0;
-      path_3 = r.0.1;
-      evens_len_unchanged = (r.1, refl, o.spare_len_unchanged.0);
-    }
+    path_goes_on s.search.template s.layout.lengths.now s.letters.now c.args.slots.now q.letters q.number c.requires.path c.requires.le_size.0 _ b.front b.front_len _ _
+    (f.ensures.spare_len_unchanged.1 ∙ c.split_at_mut-slot.ensures.front_len) (c.args.quorum ≤ f.result) f.ensures.slot_2
 
-pub offset_bounds-standing-c-2 : goal.offset_bounds-standing-c-2
-offset_bounds-standing-c-2 c = omega (arith, c.test_for-test.ensures.at_in_bounds)
-
-pub fill_slot-requires-2 : goal.fill_slot-requires-2
-unfolding row_slot between
-fill_slot-requires-2 c =
-    let a = c.args in
-    let p = c.requires in
-    let deep = p.le_size in
-    let z = p.evens_len in
-    let ready = p.ready in
-    let test = c.test_for-test in
-    let slot = parent_even a.template a.lengths.now a.letters.now a.evens.now a.odds.now a.size a.number p.path deep.0 (omega (arith, c.if-s-eq0.false, deep)) in
-    let long = row_slot_long ((a.size - 1) / 2) a.evens.now (omega (arith, z.0, deep, p.sound_template.deep)) in
-    let letter = row_cut test.result.at a.standing.now test.ensures.at_in_bounds.0 in
-    record {
-      sound_template = p.sound_template;
-      sound_set = p.sound_set;
-      le_size = (deep.0, deep.1, test.ensures.at_in_bounds.1);
-      inside = ready.placed;
-      firsts = ready.laid;
-      tests_last = test.ensures.by_index a.lengths.now a.letters.now ready.letters;
-      slot = slot;
-      letter_len = (letter, long, z.2, row_slot_long (a.size / 2) a.odds.now (omega (arith, z.1, deep, p.sound_template.deep)));
-    }
-
-pub returns : goal.returns
-returns c =
-    let a = c.args in
-    let p = c.requires in
-    let f = c.fill_slot-2 in
-    let o = f.ensures in
-    let z = p.evens_len in
-    let r = pushed_odd a.template a.lengths.now a.letters.now a.evens.now a.odds.now a.size a.number p.path (a.quorum ≤ f.result) f.new.slot o.slot_2 (omega (arith, c.if-s-eq0.false)) (omega (arith, z.1, p.le_size, p.sound_template.deep)) o.spare_len_unchanged.1 in
-    record {
-      lower_bound = o.lower_bound;
-      value = o.value;
-      path_2 = r.0.0;
-      path_3 = r.0.1;
-      evens_len_unchanged = (refl, r.1, o.spare_len_unchanged.0);
-    }
+pub returns-clause-path_3 : goal.returns-clause-path_3
+returns-clause-path_3 c =
+    let s = c.args.made.now.plan in
+    let q = c.args.place in
+    let b = c.split_at_mut-below.ensures in
+    path_stays s.search.template s.layout.lengths.now s.letters.now c.args.slots.now q.letters q.number c.requires.path c.requires.le_size.0 _ b.front b.front_len _ _
+    (c.fill_slot.ensures.spare_len_unchanged.1 ∙ c.split_at_mut-slot.ensures.front_len)

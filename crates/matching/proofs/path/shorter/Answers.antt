@@ -1,50 +1,39 @@
-use mathlib.Core.Path.{◌≡◌, refl, ◌∙◌}
+use mathlib.Core.Path.{◌≡◌, refl, ap, ◌∙◌}
 use Prim.Native.Nat.{◌+◌, ◌-◌}
 use native.Mathlib.Omega.{arith}
+use Rattle.std.specs.Prelude.{Some}
 use Rattle.matching.proofs.Replay.{slot_begin, slot_more, last_prefix}
 use Rattle.matching.proofs.path.shorter.Goals as goal
 
 pub loop-d-init : goal.loop-d-init
 loop-d-init c =
-    let a = c.args in
+    let s = c.args.plan.now in
+    let q = s.search.place in
     let p = c.requires in
-    let deep = p.le_size in
-    (omega arith, deep.0, slot_begin a.template a.size a.number a.lengths.now a.letters.now a.even.now a.odd.now deep.0 deep.2 p.slot, (λ h. absurd (omega arith)), refl, refl, refl)
-
-pub take_turn-found-requires : goal.take_turn-found-requires
-take_turn-found-requires c =
-    let p = c.requires in
-    let i = c.loop-d.invariant in
-    let e = c.prefix-prefix.ensures in
-    let z = p.letter_len in
-    record {
-      sound_template = p.sound_template;
-      sound_set = p.sound_set;
-      le_size = (i.0, omega (arith, c.loop-d-test.true, p.le_size.1));
-      inside = p.inside;
-      firsts = p.firsts;
-      base_rows = p.base_rows;
-      slot = rw e i.2;
-      letter_len = (i.4 ∙ z.0, i.5 ∙ z.1, i.6 ∙ z.2);
-    }
+    (slot_begin s.search.template q.letters q.number s.layout.lengths.now s.letters.now c.args.even.now c.requires.le_letters.0 c.requires.le_letters.2 p.slot, (λ _. refl), (λ h. absurd (omega arith)), p.letter_len.1, p.letter_len.2)
 
 pub loop-d-preserved : goal.loop-d-preserved
 loop-d-preserved c =
-    let a = c.args in
+    let s = c.args.plan.now in
+    let q = s.search.place in
     let l = c.loop-d in
     let i = l.invariant in
-    let t = c.loop-d-test.true in
-    let q = c.take_turn-found.ensures in
-    let n = q.letter_len_unchanged in
-    let e = c.prefix-prefix.ensures in
+    let t = c.take_turn.ensures in
+    let n = t.letter_len_unchanged in
+    let e = c.prefix-number.ensures in
     let z : l.d + 1 - 1 ≡ l.d = omega arith in
-    let slot = slot_more a.template a.size a.number a.lengths.now a.letters.now _ _ l.d t (rw e at q.slot_2) in
-    (omega (arith, i.0), omega arith, slot, (λ h. rw z (rw e at q.value)), n.0 ∙ i.4, n.1 ∙ i.5, n.2 ∙ i.6)
+    let slot = slot_more s.search.template q.letters q.number s.layout.lengths.now s.letters.now _ l.d c.loop-d-test.true (rw e at t.slot_2) in
+    (slot, (λ h. absurd (omega (arith, h, l.auto.d))), (λ h. ap Some (rw z (rw e at t.value))), n.1 ∙ i.4, i.3)
 
-pub returns : goal.returns
-returns c =
-    let a = c.args in
+pub returns-clause-value : goal.returns-clause-value
+returns-clause-value c =
+    let s = c.args.plan.now in
+    let q = s.search.place in
     let l = c.loop-d in
-    let i = l.invariant in
-    let e : l.d ≡ a.size = omega (arith, i.1, c.loop-d-test.false) in
-    λ h. rw (← e, ← (last_prefix a.template a.size a.number l.d e i.0)) (i.3 (omega arith))
+    let e : l.d ≡ q.letters = omega (arith, l.auto.d-end, c.requires.le_letters.0, c.loop-d-test.false) in
+    λ h. rw (← e, ← (last_prefix s.search.template q.letters q.number l.d e l.auto.d)) (l.invariant.2 (omega arith))
+
+pub take_turn-requires-clause-le_size : goal.take_turn-requires-clause-le_size
+take_turn-requires-clause-le_size c =
+    let s = c.args.plan.now in
+    (c.loop-d.auto.d, omega (arith, c.loop-d-test.true, c.requires.le_letters.1))

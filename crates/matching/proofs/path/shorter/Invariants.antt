@@ -1,18 +1,18 @@
--- Prefix after prefix in two slots: each gives its support, and the slot of the next one.
+-- Prefix after prefix in two slots that take turns: each gives its support, and the slot of the next one.
 use mathlib.Core.Path.{◌≡◌}
+use Rattle.std.specs.Prelude.{Some, None}
 use Prim.Native.Nat.{◌-◌, ◌/◌, ◌^◌, ◌≤◌}
 use lib.ListN.{length}
 use Rattle.rules.specs.Profile.{base_of}
 use Rattle.rules.specs.Sequences.{sequences}
 use Rattle.rules.specs.Support.{support, parts}
-use Rattle.matching.specs.Path.{parity, Slot}
+use Rattle.matching.specs.Path.{Slot}
+use Rattle.rows.specs.Set.{row_words}
 use Rattle.matching.proofs.path.shorter.Given as goal
 
 abbrev pub invariant-loop-d : goal.invariant-loop-d
-invariant-loop-d l = (1 ≤ l.d) × (l.d ≤ l.size)
-    × Slot l.template l.lengths l.letters (parity l.even l.odd (l.d - 1)) (l.d - 1) (l.number / base_of l.template ^ (l.size - l.d) / base_of l.template)
-    × (2 ≤ l.d → l.found ≡ support (parts l.template (l.d - 1) (l.number / base_of l.template ^ (l.size - (l.d - 1)))) (sequences l.letters l.lengths))
-    × (length l.letter ≡ length l.initial.letter) × (length l.even ≡ length l.initial.even) × (length l.odd ≡ length l.initial.odd)
-
-abbrev pub decreases-loop-d : goal.decreases-loop-d
-decreases-loop-d l = l.size - l.d
+invariant-loop-d l =
+    Slot l.plan.search.template l.plan.layout.lengths.now l.plan.letters.now l.before (l.d - 1) (l.plan.search.place.number / base_of l.plan.search.template ^ (l.plan.search.place.letters - l.d) / base_of l.plan.search.template)
+    × (l.d ≡ 1 → l.found ≡ None)
+    × (2 ≤ l.d → l.found ≡ Some (support (parts l.plan.search.template (l.d - 1) (l.plan.search.place.number / base_of l.plan.search.template ^ (l.plan.search.place.letters - (l.d - 1)))) (sequences l.plan.letters.now l.plan.layout.lengths.now)))
+    × (length l.before ≡ row_words) × (length l.slot ≡ row_words)

@@ -1,4 +1,3 @@
-use borrow.Author.Rules.{rules}
 use mathlib.Core.List.{List, map}
 use mathlib.Core.Path.{◌≡◌}
 use Prim.Native.Nat.{ℕ, ◌+◌, ◌*◌, ◌≤◌, ◌<◌}
@@ -18,37 +17,30 @@ more ns row counts w top = weights_more ns row counts sequence_set_sequences w (
 pub loop-w-init : goal.loop-w-init
 loop-w-init c =
     let a = c.args in
-    (search rules, omega (arith, weights_all a.lengths.now a.row.now a.counts.now))
+    omega (arith, weights_all a.plan.now.layout.lengths.now a.row.now a.counts.now)
 
-pub add_sequences-total-requires : goal.add_sequences-total-requires
-add_sequences-total-requires c =
+pub add_sequences-total-requires-clause-w_bound_2 : goal.add_sequences-total-requires-clause-w_bound_2
+add_sequences-total-requires-clause-w_bound_2 c =
     let a = c.args in
     let p = c.requires in
     let w = c.loop-w.w in
     let top : w < row_marks = c.loop-w-test.true in
-    let m = more a.lengths.now a.row.now a.counts.now w top in record {
-      w_bound = (top, p.lengths_len_bound);
-      firsts = p.firsts;
-      offsets = p.offsets;
-      bounded = p.bounded;
-      lengths_in_bounds = p.lengths_in_bounds;
-      by_index = p.by_index;
-      w_bound_2 = omega (arith, m, c.loop-w.invariant.1, p.counts_bound);
-    }
+    let m = more a.plan.now.layout.lengths.now a.row.now a.counts.now w top in
+    omega (arith, m, c.loop-w.invariant, p.counts_bound)
 
 pub overflow_add-total : goal.overflow_add-total
 overflow_add-total c =
     let a = c.args in
-    omega (arith, more a.lengths.now a.row.now a.counts.now c.loop-w.w c.loop-w-test.true, c.loop-w.invariant.1, c.requires.counts_bound, c.add_sequences-total.ensures)
+    omega (arith, more a.plan.now.layout.lengths.now a.row.now a.counts.now c.loop-w.w c.loop-w-test.true, c.loop-w.invariant, c.requires.counts_bound, c.add_sequences-total.ensures)
 
 pub loop-w-preserved : goal.loop-w-preserved
 loop-w-preserved c =
     let a = c.args in
-    (search rules, omega (arith, more a.lengths.now a.row.now a.counts.now c.loop-w.w c.loop-w-test.true, c.loop-w.invariant.1, c.add_sequences-total.ensures))
+    omega (arith, more a.plan.now.layout.lengths.now a.row.now a.counts.now c.loop-w.w c.loop-w-test.true, c.loop-w.invariant, c.add_sequences-total.ensures)
 
 pub returns : goal.returns
 returns c =
     let a = c.args in
     let l = c.loop-w in
-    let q : row_marks ≤ l.w = search rules in
-    omega (arith, weights_none a.lengths.now a.row.now a.counts.now sequence_set_sequences (l.w * 64) (λ m h u. absurd (omega (arith, q))))
+    let q : row_marks ≤ l.w = omega (arith, c.loop-w-test.false) in
+    omega (arith, weights_none a.plan.now.layout.lengths.now a.row.now a.counts.now sequence_set_sequences (l.w * 64) (λ m h u. absurd (omega (arith, q))))

@@ -1,5 +1,4 @@
 -- The two callees write the counts from `a` up to `e`, one after the other, and no others.
-use borrow.Author.Rules.{rules}
 use mathlib.Core.Bool.{Bool}
 use mathlib.Core.List.{List}
 use mathlib.Core.Path.{◌≡◌, ap, ◌∙◌}
@@ -20,28 +19,39 @@ kept : (first : Bool) (part : List ℕ) (a e : ℕ) (x y : List ℕ) → a ≤ e
 unfolding between
 kept first part a e x y h g n q = ap (masked (held part)) (part_first a e x y h g n) ∙ q
 
-pub lead-requires : goal.lead-requires
+pub lead-requires-clause-by_index : goal.lead-requires-clause-by_index
 unfolding between
-lead-requires c =
+lead-requires-clause-by_index c =
     let p = c.requires in
     let a = c.args in
-    let k = kept a.first (between a.from a.to a.row.now) a.a.0 a.e.0 a.counts.now c.begin.new.counts p.from_le_to.3 p.from_le_to.4 c.begin.auto.counts c.begin.ensures in record {
-      le_d = p.le_d;
-      counts_len_bound = search rules;
-      by_index = λ i. rw k (p.by_index i);
-      by_index_2 = λ i z. rw k (p.by_index_2 i z);
-    }
+    let k = kept a.first (between a.from a.to a.row.now) a.a.0 a.e.0 a.counts.now c.begin.new.counts p.from_le_to.3 p.from_le_to.4 c.begin.auto.counts c.begin.ensures in
+    λ i. rw k (p.by_index i)
 
-pub returns : goal.returns
+pub lead-requires-clause-by_index_2 : goal.lead-requires-clause-by_index_2
 unfolding between
-returns c =
+lead-requires-clause-by_index_2 c =
+    let p = c.requires in
+    let a = c.args in
+    let k = kept a.first (between a.from a.to a.row.now) a.a.0 a.e.0 a.counts.now c.begin.new.counts p.from_le_to.3 p.from_le_to.4 c.begin.auto.counts c.begin.ensures in
+    λ i z. rw k (p.by_index_2 i z)
+
+pub returns-clause-counts_unchanged : goal.returns-clause-counts_unchanged
+unfolding between
+returns-clause-counts_unchanged c =
+    let p = c.requires in
+    let a = c.args in
+    let m = c.begin in
+    let r = c.lead in
+    let q = part_led a.a.0 a.e.0 a.counts.now m.new.counts p.from_le_to.3 p.from_le_to.4 m.auto.counts r.new.counts r.auto.counts in
+    q.0
+
+pub returns-clause-counts_after : goal.returns-clause-counts_after
+unfolding between
+returns-clause-counts_after c =
     let p = c.requires in
     let a = c.args in
     let m = c.begin in
     let r = c.lead in
     let k = kept a.first (between a.from a.to a.row.now) a.a.0 a.e.0 a.counts.now m.new.counts p.from_le_to.3 p.from_le_to.4 m.auto.counts m.ensures in
     let q = part_led a.a.0 a.e.0 a.counts.now m.new.counts p.from_le_to.3 p.from_le_to.4 m.auto.counts r.new.counts r.auto.counts in
-    record {
-      counts_unchanged = q.0;
-      counts_after = ap (masked (held (between a.from a.to a.opened.now))) q.1 ∙ r.ensures ∙ ap (added a.d (a.d + a.n - 1)) k;
-    }
+    ap (masked (held (between a.from a.to a.opened.now))) q.1 ∙ r.ensures ∙ ap (added a.d (a.d + a.n - 1)) k

@@ -1,9 +1,8 @@
 -- The sequences up to the next mark have none and are passed over; the one there gets its counts, and all others keep theirs.
 use mathlib.Core.Bool.{Bool}
 use mathlib.Core.List.{List}
-use mathlib.Core.Path.{◌≡◌}
 use Prim.Native.Nat.{ℕ, ◌+◌, ◌*◌}
-use lib.ListN.{length, get_or}
+use lib.ListN.{get_or}
 use Rattle.rows.specs.Set.{is_marked}
 use Rattle.matching.proofs.Leads.{led_at, Led}
 use Rattle.rows.proofs.Lowest.{Walk}
@@ -14,7 +13,7 @@ abbrev pub Led_to : ℕ → List ℕ → List ℕ → List ℕ → Bool → ℕ 
 Led_to w ns row opened first d n x y e = Led (is_marked row) (led_at first d n ns row x) ns opened (w * 64) (w * 64 + e) x y
 
 abbrev pub invariant-loop-rest : goal.invariant-loop-rest
-invariant-loop-rest l = (length l.counts ≡ length l.initial.counts) × (Walk (Led_to l.w l.lengths l.row l.opened l.first l.d l.n l.initial.counts l.counts) (get_or l.row l.w 0) l.rest)
+invariant-loop-rest l = Walk (Led_to l.w l.plan.layout.lengths.now l.row l.opened l.first l.d l.n l.initial.counts l.counts) (get_or l.row l.w 0) l.rest
 
 abbrev pub decreases-loop-rest : goal.decreases-loop-rest
 decreases-loop-rest l = l.rest

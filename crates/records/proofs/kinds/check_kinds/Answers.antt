@@ -1,21 +1,27 @@
-use mathlib.Core.Path.{sym, ap, ◌∙◌}
-use mathlib.Core.Bool.{not}
-use Rattle.rules.specs.Refusals.{check11}
-use Rattle.rules.specs.Saved.{has_kind}
-use Rattle.records.proofs.RecordsInTurn.{left_all, left_next, left_bad, left_none}
+-- `check_kinds`: the first record that the test finds bad is the first bad one.
+use mathlib.Core.Path.{refl, ◌∙◌}
+use native.Mathlib.Omega.{arith}
+use Prim.Native.Nat.{◌+◌}
+use Rattle.std.proofs.Common.{rules, tests}
+use Rattle.std.proofs.lemmas.Iterator.{YieldsList-from_range}
+use Rattle.std.proofs.lemmas.Iterator.Search.{find_from_yields_List}
+use Rattle.rules.specs.Refusals.{check11, bad_kind}
+use Rattle.rules.specs.Saved.{component_count, record_at}
+use Rattle.records.proofs.RecordsInTurn.{first_found}
 use Rattle.records.proofs.kinds.check_kinds.Goals as goal
 
-pub loop-i-init : goal.loop-i-init
+pub returns-in-Some : goal.returns-in-Some
 unfolding check11
-loop-i-init c = left_all 11 has_kind _ c.component_count-n.ensures
+returns-in-Some c =
+    let bs = c.args.bytes.0.now in
+    let bad = bad_kind (component_count bs) in
+    let found = find_from_yields_List (λ i. bad i (record_at bs i)) _ _ c.find.result c.find.ensures.ran (YieldsList-from_range 0 _ (c.from-n.result + 2) refl (omega arith)) (λ x b q k. search (rules, tests)) in
+    rw c.in-Some.is at (first_found 11 bad bs c.find.result (c.from-n.ensures ∙ c.component_count.ensures) found)
 
-pub returns-then-not-has_kind : goal.returns-then-not-has_kind
-returns-then-not-has_kind c =
-    sym (c.loop-i.invariant ∙ left_bad 11 has_kind _ c.has_kind.ensures (ap not c.if-not-has_kind.true) c.loop-i-test.true)
-
-pub loop-i-preserved : goal.loop-i-preserved
-loop-i-preserved c =
-    c.loop-i.invariant ∙ left_next 11 has_kind _ c.has_kind.ensures (ap not c.if-not-has_kind.false) c.loop-i-test.true
-
-pub returns : goal.returns
-returns c = sym (c.loop-i.invariant ∙ left_none 11 has_kind _ _ _ c.loop-i-test.false)
+pub returns-in-None : goal.returns-in-None
+unfolding check11
+returns-in-None c =
+    let bs = c.args.bytes.0.now in
+    let bad = bad_kind (component_count bs) in
+    let found = find_from_yields_List (λ i. bad i (record_at bs i)) _ _ c.find.result c.find.ensures.ran (YieldsList-from_range 0 _ (c.from-n.result + 2) refl (omega arith)) (λ x b q k. search (rules, tests)) in
+    rw c.in-None.is at (first_found 11 bad bs c.find.result (c.from-n.ensures ∙ c.component_count.ensures) found)

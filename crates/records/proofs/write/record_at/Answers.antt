@@ -12,14 +12,14 @@ returns-then-i-eq0 c = rw c.if-i-eq0.true (c.of_size.ensures ∙ sym (size_at c.
 pub of_component-requires : goal.of_component-requires
 of_component-requires c =
     let k = c.args.i - 1 in
-    rw c.components-cs.ensures
+    rw c.components.ensures
     ((c.requires.sound_template.each k (omega arith)).short, le_trans (c.requires.sound_template.within k (omega arith)) (c.requires.sound_template.each k (omega arith)).short)
 
-pub returns-then-i-count : goal.returns-then-i-count
-returns-then-i-count c =
+pub returns-then-i-t : goal.returns-then-i-t
+returns-then-i-t c =
     let e : suc (c.args.i - 1) ≡ c.args.i = omega arith in
     let a = rw e at (component_at c.args.s c.requires.sound_template.few (c.args.i - 1) (omega arith)) in
-    c.of_component.ensures ∙ rw c.components-cs.ensures (sym a)
+    c.of_component.ensures ∙ rw c.components.ensures (sym a)
 
 pub returns : goal.returns
 returns c =

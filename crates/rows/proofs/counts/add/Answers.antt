@@ -1,70 +1,68 @@
-use mathlib.Core.List.{List}
-use mathlib.Core.Path.{◌≡◌}
-use Prim.Native.Nat.{ℕ, ◌+◌, ◌-◌, ◌*◌, ◌≤◌, min}
+use mathlib.Core.List.{◌++◌}
+use mathlib.Core.Path.{◌≡◌, sym, ap, ◌∙◌}
+use native.Mathlib.Nat.{zero-add}
 use native.Mathlib.Omega.{arith}
-use lib.ListN.{length, take, drop}
-use borrow.Author.Rules.{rules}
-use Rattle.rules.specs.Lists.{sum}
-use Rattle.rows.specs.Bits.{held}
-use Rattle.rows.specs.Flags.{masked}
-use Rattle.rows.proofs.Adding.{part, row_left, row_all, row_end, stretch_next, stretch_counts, stretch_dark}
+use lib.ListN.{length, length-append}
+use Rattle.std.proofs.lemmas.List.{take-append-drop}
+use Rattle.rows.proofs.Adding.{Parts, counted_part, counted_rest, sum_parts}
 use Rattle.rows.proofs.counts.add.Goals as goal
+use Rattle.rows.proofs.counts.add.Goals.{After-split_at}
 
--- what those past the last stretch add
-past : (row counts : List ℕ) (q : ℕ) → length counts ≤ 64 * length row → 64 * q ≤ length counts → q ≤ length row
-    → row_left row counts q ≡ sum (masked (held (take (length row - q) (drop q row))) (part counts q (length counts)))
-past row counts q few low some =
-    let last : length counts ≡ min (64 * length row) (length counts) = omega arith in
-    omega (arith, stretch_next row counts q (length row) last low some (omega arith), row_end row counts (length row) (omega arith))
+pub loop-stretch-init : goal.loop-stretch-init
+loop-stretch-init c =
+    let p = c.requires in
+    (record { most = p.row_in_bounds.0; least = p.row_in_bounds.1; dark = p.by_index }, zero-add _)
 
-pub loop-q-init : goal.loop-q-init
-loop-q-init c = (search rules, search rules, row_all _ _)
+-- a turn takes a stretch and its counts
+parts : (c : After-split_at) → Parts c.loop-stretch.row.now c.in-Some.stretch.now c.in-Some.words.now c.loop-stretch.counts.now c.split_at.result.0.now c.split_at.result.1.now 16
+parts c =
+    let s = c.in-Some.ensures.cases in
+    let k = c.split_at.ensures in
+    let words : c.loop-stretch.row.now ≡ c.in-Some.stretch.now ++ c.in-Some.words.now = rw (s.0, s.1) (sym (take-append-drop 16 c.loop-stretch.row.now)) in
+    let long = ap length words ∙ length-append c.in-Some.stretch.now c.in-Some.words.now in
+    record {
+      words = words;
+      same = rw (k.front, k.back) (sym (take-append-drop c.min.result c.loop-stretch.counts.now));
+      n = omega (arith, long, s.2);
+      m = omega (arith, k.front_len, c.min.ensures);
+    }
 
 pub add_stretch-total-requires : goal.add_stretch-total-requires
 add_stretch-total-requires c =
-    let p = c.requires in
-    let row = c.args.row.now in
-    let counts = c.args.counts.now in
-    let q = c.loop-q.q in
-    let low = c.loop-q.invariant.1 in
-    let inside : q + 16 ≤ length row = omega arith in
-    let ends : 64 * q + 1024 ≡ min (64 * (q + 16)) (length counts) = omega arith in record {
-      row_in_bounds = stretch_counts row counts q (q + 16) ends low (omega arith) inside p.row_in_bounds.0;
-      by_index = stretch_dark row counts q (q + 16) ends low (omega arith) inside p.by_index;
-      counts_bound = omega (arith, stretch_next row counts q (q + 16) ends low (omega arith) inside);
+    let i = c.loop-stretch.invariant in
+    let q = parts (goal.at.add_stretch-total-requires c).After-split_at in
+    let w = counted_part q i.0 in
+    record {
+      row_in_bounds = (w.most, w.least);
+      by_index = w.dark;
+      counts_bound = omega (arith, sum_parts q i.0, i.1, c.requires.counts_bound);
     }
 
 pub overflow_add-total : goal.overflow_add-total
 overflow_add-total c =
-    let q = c.loop-q.q in
-    let ends : 64 * q + 1024 ≡ min (64 * (q + 16)) (length c.args.counts.now) = omega arith in
-    omega (arith, stretch_next c.args.row.now c.args.counts.now q (q + 16) ends c.loop-q.invariant.1 (omega arith) (omega arith))
+    let i = c.loop-stretch.invariant in
+    omega (arith, sum_parts (parts (goal.at.overflow_add-total c).After-split_at) i.0, i.1, c.requires.counts_bound)
 
-pub loop-q-preserved : goal.loop-q-preserved
-loop-q-preserved c =
-    let q = c.loop-q.q in
-    let ends : 64 * q + 1024 ≡ min (64 * (q + 16)) (length c.args.counts.now) = omega arith in
-    (search rules, omega (arith, ends), omega (arith, stretch_next c.args.row.now c.args.counts.now q (q + 16) ends c.loop-q.invariant.1 (omega arith) (omega arith)))
+pub loop-stretch-smaller : goal.loop-stretch-smaller
+loop-stretch-smaller c = omega (arith, c.in-Some.ensures.cases.2)
+
+pub loop-stretch-preserved : goal.loop-stretch-preserved
+loop-stretch-preserved c =
+    let i = c.loop-stretch.invariant in
+    let q = parts (goal.at.loop-stretch-preserved c).After-split_at in
+    (counted_rest q i.0, omega (arith, sum_parts q i.0, i.1))
 
 pub add_words-requires : goal.add_words-requires
 add_words-requires c =
-    let p = c.requires in
-    let row = c.args.row.now in
-    let counts = c.args.counts.now in
-    let q = c.loop-q.q in
-    let i = c.loop-q.invariant in
-    let last : length counts ≡ min (64 * length row) (length counts) = omega arith in record {
-      row_in_bounds = stretch_counts row counts q (length row) last i.1 i.0 (omega arith) p.row_in_bounds.0;
-      by_index = stretch_dark row counts q (length row) last i.1 i.0 (omega arith) p.by_index;
-      counts_bound = omega (arith, past row counts q p.row_in_bounds.1 i.1 i.0);
+    let i = c.loop-stretch.invariant in
+    record {
+      row_in_bounds = (i.0.most, i.0.least);
+      by_index = i.0.dark;
+      counts_bound = omega (arith, i.1, c.requires.counts_bound);
     }
 
 pub overflow_add-result : goal.overflow_add-result
-overflow_add-result c =
-    let i = c.loop-q.invariant in
-    omega (arith, past c.args.row.now c.args.counts.now c.loop-q.q c.requires.row_in_bounds.1 i.1 i.0)
+overflow_add-result c = omega (arith, c.loop-stretch.invariant.1, c.requires.counts_bound)
 
 pub returns : goal.returns
-returns c =
-    let i = c.loop-q.invariant in
-    omega (arith, past c.args.row.now c.args.counts.now c.loop-q.q c.requires.row_in_bounds.1 i.1 i.0)
+returns c = omega (arith, c.loop-stretch.invariant.1)

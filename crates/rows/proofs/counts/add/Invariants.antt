@@ -1,15 +1,15 @@
--- The loop's invariant: the sum so far with what the words from `q` on add is that of all. So no sum on the way is larger than the last.
+-- The sum so far with what the words that are left add is that of all. So no sum on the way is larger than the last.
 use mathlib.Core.Path.{◌≡◌}
-use Prim.Native.Nat.{◌+◌, ◌-◌, ◌*◌, ◌≤◌}
+use Prim.Native.Nat.{◌+◌}
 use lib.ListN.{length}
 use Rattle.rules.specs.Lists.{sum}
 use Rattle.rows.specs.Bits.{held}
 use Rattle.rows.specs.Flags.{masked}
-use Rattle.rows.proofs.Adding.{row_left}
+use Rattle.rows.proofs.Adding.{Counted}
 use Rattle.rows.proofs.counts.add.Given as goal
 
-abbrev pub invariant-loop-q : goal.invariant-loop-q
-invariant-loop-q l = (l.q ≤ length l.row) × (64 * l.q ≤ length l.counts) × (l.total + row_left l.row l.counts l.q ≡ sum (masked (held l.row) l.counts))
+abbrev pub invariant-loop-stretch : goal.invariant-loop-stretch
+invariant-loop-stretch l = Counted l.row l.counts × (l.total + sum (masked (held l.row) l.counts) ≡ sum (masked (held l.fn.row) l.fn.counts))
 
-abbrev pub decreases-loop-q : goal.decreases-loop-q
-decreases-loop-q l = length l.row - l.q
+abbrev pub decreases-loop-stretch : goal.decreases-loop-stretch
+decreases-loop-stretch l = length l.row

@@ -14,8 +14,5 @@ use Rattle.rows.proofs.counts.add_word.Given as goal
 abbrev pub Added : ℕ → List ℕ → ℕ → ℕ → Type 0
 Added word counts total o = total + left_from word counts o ≡ sum (masked (held (word ∷ [])) counts)
 
-abbrev pub invariant-loop-rest : goal.invariant-loop-rest
-invariant-loop-rest l = Walk (Added l.word l.counts l.total) l.word l.rest
-
-abbrev pub decreases-loop-rest : goal.decreases-loop-rest
-decreases-loop-rest l = l.rest
+abbrev pub invariant-loop-place : goal.invariant-loop-place
+invariant-loop-place l = Walk (Added l.word l.counts l.total) l.word l.place-iterator.0

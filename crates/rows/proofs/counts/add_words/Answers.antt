@@ -1,32 +1,40 @@
-use Prim.Native.Nat.{◌*◌, ◌^◌, ◌≤◌, ◌<◌}
+use mathlib.Core.Path.{◌≡◌}
+use Prim.Native.Nat.{◌-◌, ◌*◌}
+use native.Mathlib.Nat.{zero-add}
 use native.Mathlib.Omega.{arith}
-use lib.ListN.{length, get_or}
-use borrow.Author.Rules.{rules}
-use Rattle.rows.proofs.Adding.{row_all, row_end, word_next, word_few, word_fits}
+use lib.ListN.{length, take, drop, get_or, length-drop}
+use Rattle.rows.proofs.Adding.{counted_part, counted_rest, sum_parts, none_to_add, parts_at, word_fits}
 use Rattle.rows.proofs.counts.add_words.Goals as goal
 
 pub loop-q-init : goal.loop-q-init
-loop-q-init c = (search rules, row_all _ _)
+loop-q-init c =
+    let p = c.requires in
+    (record { most = p.row_in_bounds.0; least = p.row_in_bounds.1; dark = p.by_index }, zero-add _)
 
--- at a turn, what one word adds
 pub add_word-total-requires : goal.add_word-total-requires
 add_word-total-requires c =
-    let p = c.requires in
     let row = c.args.row.now in
     let counts = c.args.counts.now in
-    let q = c.loop-q.q in
-    let low : 64 * q ≤ length counts = omega arith in
-    let w : get_or row q 0 < 2 ^ 64 = omega (arith, c.type_inv.row q) in
-    (word_few row counts q c.least-to.ensures low, word_fits row counts q c.least-to.ensures low w p.by_index, omega (arith, word_next row counts q c.least-to.ensures low))
+    let l = c.loop-q in
+    let q = parts_at l.q row counts c.loop-q-test.true c.min-to.ensures (omega arith) in
+    let w = counted_part q l.invariant.0 in
+    (omega (arith, w.least), word_fits (get_or row l.q 0) (take (c.min-to.result - 64 * l.q) (drop (64 * l.q) counts)) (c.type_inv.row l.q).fits w, omega (arith, sum_parts q l.invariant.0, l.invariant.1, c.requires.counts_bound))
 
 pub overflow_add-total : goal.overflow_add-total
-overflow_add-total c = omega (arith, word_next c.args.row.now c.args.counts.now c.loop-q.q c.least-to.ensures (omega arith))
+overflow_add-total c =
+    let l = c.loop-q in
+    let q = parts_at l.q c.args.row.now c.args.counts.now c.loop-q-test.true c.min-to.ensures (omega arith) in
+    omega (arith, sum_parts q l.invariant.0, l.invariant.1, c.requires.counts_bound)
 
 pub loop-q-preserved : goal.loop-q-preserved
 loop-q-preserved c =
-    (search rules, omega (arith, word_next c.args.row.now c.args.counts.now c.loop-q.q c.least-to.ensures (omega arith)))
+    let l = c.loop-q in
+    let q = parts_at l.q c.args.row.now c.args.counts.now c.loop-q-test.true c.min-to.ensures (omega arith) in
+    (counted_rest q l.invariant.0, omega (arith, sum_parts q l.invariant.0, l.invariant.1))
 
 pub returns : goal.returns
 returns c =
-    let a = c.args in
-    omega (arith, row_end a.row.now a.counts.now c.loop-q.q (omega arith))
+    let l = c.loop-q in
+    let counts = c.args.counts.now in
+    let none : length (drop (64 * l.q) counts) ≡ 0 = omega (arith, length-drop (64 * l.q) counts, c.requires.row_in_bounds, c.loop-q-test.false) in
+    omega (arith, l.invariant.1, none_to_add (drop l.q c.args.row.now) (drop (64 * l.q) counts) none)

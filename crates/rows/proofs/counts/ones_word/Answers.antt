@@ -11,7 +11,7 @@ use Rattle.rows.proofs.counts.ones_word.Goals as goal
 pub returns-then-word-ne0 : goal.returns-then-word-ne0
 returns-then-word-ne0 c =
     let a = c.args in
-    ap (masked (held (a.word ∷ []))) c.fill.ensures
+    ap (masked (held (a.word ∷ []))) (c.fill.ensures.after (λ _ e. e))
 
 pub returns-else-word-ne0 : goal.returns-else-word-ne0
 returns-else-word-ne0 c =

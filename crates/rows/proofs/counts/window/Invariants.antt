@@ -1,13 +1,10 @@
 -- The loop's invariant: `total` is the sum of the first `k` counts that the row lets stand. Each is at most `count_most`, and there are at
 -- most 256.
 use mathlib.Core.Path.{◌≡◌}
-use Prim.Native.Nat.{◌-◌, ◌≤◌}
+use Prim.Native.Nat.{◌≤◌}
 use Rattle.rows.specs.Bits.{held}
 use Rattle.rows.specs.Flags.{recent, masked}
 use Rattle.rows.proofs.counts.window.Given as goal
 
 abbrev pub invariant-loop-k : goal.invariant-loop-k
 invariant-loop-k l = (l.k ≤ l.n) × (l.total ≡ recent (masked (held l.row) l.counts) l.o l.d l.k)
-
-abbrev pub decreases-loop-k : goal.decreases-loop-k
-decreases-loop-k l = l.n - l.k

@@ -13,8 +13,7 @@ pub open_sequences-requires : goal.open_sequences-requires
 open_sequences-requires c =
     let p = c.requires in
     let l = c.loop-w in record {
-      w_bound = (search rules, p.lengths_len_bound.0, p.lengths_len_bound.1);
-      firsts = p.firsts;
+      w_bound = (search rules, p.count_bound);
       bounded = same_bounds _ _ _ _ l.invariant.3.walked.kept p.bounded;
       lengths_in_bounds = (search rules, search rules);
     }
@@ -36,6 +35,6 @@ returns c =
     let l = c.loop-w in
     let n : sequence_set_sequences ≤ l.w * 64 = omega (arith, c.loop-w-test.false) in record {
       marked = opened_marks _ _ _ _ _ _ n l.invariant.3;
-      filled = opened_all _ _ _ _ _ _ n l.invariant.3 p.lengths_len_bound.0;
+      filled = opened_all _ _ _ _ _ _ n l.invariant.3 c.args.layout.now.few;
       row_len_unchanged = (l.invariant.2, l.invariant.1);
     }

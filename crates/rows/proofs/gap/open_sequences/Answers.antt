@@ -1,109 +1,76 @@
-use mathlib.Core.Path.{◌≡◌, refl, ◌∙◌}
-use Prim.Native.Nat.{◌+◌, ◌*◌, ◌<◌}
+use mathlib.Core.Path.{◌≡◌, refl, sym, ◌∙◌}
+use Prim.Native.Nat.{◌≤◌, ◌+◌, ◌*◌}
 use native.Mathlib.Omega.{arith}
-use lib.Count.{count_trailing_zeros}
 use lib.ListN.{length}
-use Rattle.rows.proofs.Sets.{first_past, window_is_at, turn_lies}
-use Rattle.rows.proofs.MarksWalk.{walked_end, no_rest, next}
-use Rattle.rows.proofs.Lowest.{walk_begin, walk_turn, lowest_less}
+use borrow.Rule.Slice.PartMut.{mid_len, same_len_mid, drop_put}
+use Rattle.rows.specs.Set.{between}
+use Rattle.rows.proofs.Sets.{first_past, window_is_at, part_opened}
+use Rattle.rows.proofs.MarksWalk.{Next, walked_end, no_rest, next_taken}
+use Rattle.rows.proofs.Lowest.{walk_begin, walk_take}
 use Rattle.rows.proofs.RowsRewritten.{later_words, later_window, rewritten_none, rewritten_turn}
 use Rattle.rows.proofs.gap.open_sequences.Goals as goal
+use Rattle.rows.proofs.gap.open_sequences.Goals.{In-Some}
 
 pub bounds-row-w : goal.bounds-row-w
 bounds-row-w c =
-    omega (arith, c.requires.w_bound, c.requires.lengths_in_bounds, first_past c.args.lengths.now (length c.args.lengths.now))
+    omega (arith, c.requires.w_bound, c.requires.lengths_in_bounds, first_past c.args.layout.now.lengths.now (length c.args.layout.now.lengths.now))
 
-pub loop-rest-init : goal.loop-rest-init
-loop-rest-init c =
+pub loop-place-init : goal.loop-place-init
+loop-place-init c =
     let a = c.args in
-    (refl, refl, walk_begin _ _ (omega (arith, c.type_inv.row a.w)) (rewritten_none _ _ _ _ _ _ (omega arith)))
+    (refl, refl, rw c.into_iter-place-iterator.ensures.into_iter_gives (walk_begin _ _ (omega (arith, c.type_inv.row a.w)) (rewritten_none _ _ _ _ _ _ (omega arith))))
 
 -- at a turn there is a next mark
-pub overflow_cast-at : goal.overflow_cast-at
-overflow_cast-at c =
-    let a = c.args in
+turn : (c : In-Some) → Next c.args.layout.now.lengths.now c.args.layout.now.firsts.now c.args.row.now c.args.w (c.args.w * 64 + c.loop-place.invariant.2.upto) (c.args.w * 64 + c.in-Some.place)
+turn c =
     let p = c.requires in
-    let n = next a.row.now a.w c.loop-rest.invariant.2.rests (omega (arith, c.loop-rest-test.true)) a.lengths.now a.firsts.now p.bounded p.firsts p.w_bound.0 in
-    omega (arith, n.in_word)
+    next_taken c.args.row.now c.args.w c.loop-place.invariant.2.rests c.in-Some.ensures.steps c.args.layout.now.lengths.now c.args.layout.now.firsts.now p.bounded c.args.layout.now.laid p.w_bound.0
+
+pub overflow_cast-at : goal.overflow_cast-at
+overflow_cast-at c = omega (arith, (turn (goal.at.overflow_cast-at c).In-Some).in_word)
 
 pub overflow_add-at : goal.overflow_add-at
-overflow_add-at c =
-    let a = c.args in
-    let p = c.requires in
-    let n = next a.row.now a.w c.loop-rest.invariant.2.rests (omega (arith, c.loop-rest-test.true)) a.lengths.now a.firsts.now p.bounded p.firsts p.w_bound.0 in
-    omega (arith, n.in_word)
+overflow_add-at c = omega (arith, (turn (goal.at.overflow_add-at c).In-Some).in_word)
 
-pub offset_bounds-firsts-at : goal.offset_bounds-firsts-at
-offset_bounds-firsts-at c =
-    let a = c.args in
-    let p = c.requires in
-    let n = next a.row.now a.w c.loop-rest.invariant.2.rests (omega (arith, c.loop-rest-test.true)) a.lengths.now a.firsts.now p.bounded p.firsts p.w_bound.0 in
-    omega (arith, n.in_word)
-
-pub bounds-firsts-at : goal.bounds-firsts-at
-bounds-firsts-at c =
-    let a = c.args in
-    let p = c.requires in
-    let n = next a.row.now a.w c.loop-rest.invariant.2.rests (omega (arith, c.loop-rest-test.true)) a.lengths.now a.firsts.now p.bounded p.firsts p.w_bound.0 in
-    omega (arith, n.inside, p.firsts.long)
-
-pub overflow_add-to : goal.overflow_add-to
-overflow_add-to c =
-    let a = c.args in
-    let p = c.requires in
-    let n = next a.row.now a.w c.loop-rest.invariant.2.rests (omega (arith, c.loop-rest-test.true)) a.lengths.now a.firsts.now p.bounded p.firsts p.w_bound.0 in
-    omega (arith, n.in_word)
-
-pub offset_bounds-firsts-at-in-loop-rest : goal.offset_bounds-firsts-at-in-loop-rest
-offset_bounds-firsts-at-in-loop-rest c =
-    let a = c.args in
-    let p = c.requires in
-    let n = next a.row.now a.w c.loop-rest.invariant.2.rests (omega (arith, c.loop-rest-test.true)) a.lengths.now a.firsts.now p.bounded p.firsts p.w_bound.0 in
-    omega (arith, n.in_word)
-
-pub bounds-firsts-at-in-loop-rest : goal.bounds-firsts-at-in-loop-rest
-bounds-firsts-at-in-loop-rest c =
-    let a = c.args in
-    let p = c.requires in
-    let n = next a.row.now a.w c.loop-rest.invariant.2.rests (omega (arith, c.loop-rest-test.true)) a.lengths.now a.firsts.now p.bounded p.firsts p.w_bound.0 in
-    omega (arith, n.inside, p.firsts.long)
+pub words-from-requires : goal.words-from-requires
+words-from-requires c = (turn (goal.at.words-from-requires c).In-Some).inside
 
 pub open_sequence-requires : goal.open_sequence-requires
 open_sequence-requires c =
-    let a = c.args in
     let p = c.requires in
-    let l = c.loop-rest in
-    let n = next a.row.now a.w l.invariant.2.rests (omega (arith, c.loop-rest-test.true)) a.lengths.now a.firsts.now p.bounded p.firsts p.w_bound.0 in
-    let u = turn_lies _ _ n.inside n.begins n.ends in
-    (u.0, omega (arith, u.1, p.lengths_in_bounds, l.invariant.0), omega (arith, u.1, p.lengths_in_bounds, l.invariant.1), p.w_bound.2)
+    let l = c.loop-place in
+    let t = c.words-from.ensures.inside in
+    (mid_len _ _ l.spare (omega (arith, t.1, p.lengths_in_bounds, l.invariant.0)) ∙ sym (mid_len _ _ l.row (omega (arith, t.1, p.lengths_in_bounds, l.invariant.1))), p.w_bound.1)
 
-pub loop-rest-smaller : goal.loop-rest-smaller
-loop-rest-smaller c = lowest_less c.loop-rest.invariant.2.rests (omega (arith, c.loop-rest-test.true))
-
-pub loop-rest-preserved : goal.loop-rest-preserved
-loop-rest-preserved c =
+pub loop-place-preserved : goal.loop-place-preserved
+unfolding between
+loop-place-preserved c =
     let a = c.args in
-    let p = c.requires in
-    let l = c.loop-rest in
-    let g = l.invariant.2 in
-    let some : 0 < l.rest = omega (arith, c.loop-rest-test.true) in
-    let n = next a.row.now a.w g.rests some a.lengths.now a.firsts.now p.bounded p.firsts p.w_bound.0 in
-    let e = c.open_sequence.ensures in
-    let x = window_is_at _ _ n.inside n.begins n.ends a.d a.count l.row ∙ later_window _ _ _ _ g.so_far.later a.d a.count _ n.later in
-    let up : a.w * 64 + count_trailing_zeros 64 l.rest + 1 ≡ a.w * 64 + (count_trailing_zeros 64 l.rest + 1) = omega arith in (
-      e.row_len_unchanged.1 ∙ l.invariant.0,
-      e.row_len_unchanged.0 ∙ l.invariant.1,
-      walk_turn _ _ g some (rw up at (rewritten_turn _ _ _ _ _ _ _ g.so_far _ n.skips _ (omega arith) n.later n.inside n.begins n.ends e.row_unchanged.0 e.row_unchanged.1 (e.row_after ∙ x))),
+    let l = c.loop-place in
+    let i = l.invariant in
+    let g = i.2 in
+    let o = c.open_sequence in
+    let n = turn (goal.at.loop-place-preserved c).In-Some in
+    let k = c.words-from.ensures.place in
+    let t = c.words-from.ensures.inside in
+    let inside : c.words-from.result.1 ≤ length l.row = omega (arith, t.1, c.requires.lengths_in_bounds, i.1) in
+    let e = part_opened _ _ l.row t.0 inside o.new.row o.auto.row o.ensures in
+    let f = drop_put _ _ l.row o.new.row t.0 inside (o.auto.row ∙ mid_len _ _ l.row inside) in
+    let x = window_is_at _ _ n.inside k.0 k.1 a.d a.count l.row ∙ later_window _ _ _ _ g.so_far.later a.d a.count _ n.later in
+    let up : a.w * 64 + c.in-Some.place + 1 ≡ a.w * 64 + (c.in-Some.place + 1) = omega arith in (
+      same_len_mid _ _ l.spare o.new.spare o.auto.spare ∙ i.0,
+      e.1 ∙ i.1,
+      walk_take _ _ g c.in-Some.ensures.steps (rw up at (rewritten_turn _ _ _ _ _ _ _ g.so_far _ n.skips _ (omega arith) n.later n.inside k.0 k.1 e.0 f (e.2 ∙ x))),
     )
 
 pub returns : goal.returns
 returns c =
     let a = c.args in
-    let l = c.loop-rest in
-    let g = l.invariant.2 in
-    let none = no_rest a.row.now a.w g.rests (omega (arith, c.loop-rest-test.false)) in record {
+    let i = c.loop-place.invariant in
+    let g = i.2 in
+    let none = no_rest a.row.now a.w g.rests c.in-None.ensures.steps in record {
       row_unchanged = g.so_far.walked.kept;
       row_unchanged_2 = later_words _ _ _ _ g.so_far.later (a.w * 64 + 64) (omega (arith, g.high));
-      row_len_unchanged = (l.invariant.1, l.invariant.0);
+      row_len_unchanged = (i.1, i.0);
       by_index = walked_end _ _ _ _ _ _ _ g.so_far.walked (a.w * 64 + 64) none;
     }

@@ -12,10 +12,7 @@ use Rattle.rows.proofs.gap.open_sequences.Given as goal
 abbrev pub Opened : ℕ → List ℕ → ℕ → ℕ → List ℕ → List ℕ → ℕ → Type 0
 Opened w ns d count x y e = Rewritten (is_marked x) (window_at d count ns x) ns (w * 64) (w * 64 + e) x y
 
-abbrev pub invariant-loop-rest : goal.invariant-loop-rest
-invariant-loop-rest l = (length l.spare ≡ length l.initial.spare)
+abbrev pub invariant-loop-place : goal.invariant-loop-place
+invariant-loop-place l = (length l.spare ≡ length l.initial.spare)
     × (length l.row ≡ length l.initial.row)
-    × (Walk (Opened l.w l.lengths l.d l.count l.initial.row l.row) (get_or l.initial.row l.w 0) l.rest)
-
-abbrev pub decreases-loop-rest : goal.decreases-loop-rest
-decreases-loop-rest l = l.rest
+    × (Walk (Opened l.w l.layout.lengths.now l.d l.count l.initial.row l.row) (get_or l.initial.row l.w 0) l.place-iterator.0)

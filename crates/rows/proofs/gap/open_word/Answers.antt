@@ -13,12 +13,12 @@ pub loop-have-init : goal.loop-have-init
 loop-have-init c = (search rules, search rules, window_one _ (bit_small _))
 
 pub loop-have-smaller : goal.loop-have-smaller
-loop-have-smaller c = let e = c.least-step.ensures in omega arith
+loop-have-smaller c = let e = c.min-step.ensures in omega arith
 
 pub loop-have-preserved : goal.loop-have-preserved
 loop-have-preserved c =
     let l = c.loop-have in
-    let d = c.least-step in
+    let d = c.min-step in
     (search rules, search rules, spread_more _ _ _ l.invariant.2 c.shift-all.ensures (joined_word _ _) (omega (arith, d.ensures)))
 
 pub returns : goal.returns

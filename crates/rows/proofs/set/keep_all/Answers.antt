@@ -9,18 +9,11 @@ use Rattle.rows.proofs.Possible.{possible_begin, stopped, ended, lost_most, poss
 use Rattle.rows.proofs.Sets.{first_past}
 use Rattle.rows.proofs.set.keep_all.Goals as goal
 
-pub overflow_sub-last : goal.overflow_sub-last
-overflow_sub-last c = omega (arith, c.requires.firsts.long)
-
-pub bounds-firsts-last : goal.bounds-firsts-last
-bounds-firsts-last c = omega (arith, c.requires.firsts.long)
-
 pub keep_short-requires : goal.keep_short-requires
 keep_short-requires c =
     record {
-      lengths_len_bound = (c.requires.lengths_len_bound.0, omega arith);
-      firsts = c.requires.firsts;
-      firsts_value = c.if-firsts-last-eq1.true;
+      i_bound = omega arith;
+      short = c.if-layout.true;
       bounded = c.requires.bounded;
       lengths_in_bounds = c.requires.lengths_in_bounds;
     }
@@ -28,33 +21,32 @@ keep_short-requires c =
 pub returns-then-i-eq0 : goal.returns-then-i-eq0
 returns-then-i-eq0 c = rw c.if-i-eq0.true c.keep_short.ensures
 
-pub keep_short-requires-then-firsts-last-eq1 : goal.keep_short-requires-then-firsts-last-eq1
-keep_short-requires-then-firsts-last-eq1 c =
+pub keep_short-requires-then-layout : goal.keep_short-requires-then-layout
+keep_short-requires-then-layout c =
     record {
-      lengths_len_bound = c.requires.lengths_len_bound;
-      firsts = c.requires.firsts;
-      firsts_value = c.if-firsts-last-eq1.true;
+      i_bound = c.requires.i_bound;
+      short = c.if-layout.true;
       bounded = c.requires.bounded;
       lengths_in_bounds = c.requires.lengths_in_bounds;
     }
 
-pub returns-then-firsts-last-eq1 : goal.returns-then-firsts-last-eq1
-returns-then-firsts-last-eq1 c = c.keep_short-then-firsts-last-eq1.ensures
+pub returns-then-layout : goal.returns-then-layout
+returns-then-layout c = c.keep_short-then-layout.ensures
 
 pub count-possible-requires : goal.count-possible-requires
 count-possible-requires c =
-    let m = words_marks _ c.requires.lengths_len_bound.0 c.words_of-used.ensures in
-    (m.0, omega (arith, m.0, c.requires.lengths_in_bounds.0, first_past c.args.lengths.now (length c.args.lengths.now)))
+    let m = words_marks _ c.args.layout.now.few c.words_of-used.ensures in
+    (m.0, omega (arith, m.0, c.requires.lengths_in_bounds.0, first_past c.args.layout.now.lengths.now (length c.args.layout.now.lengths.now)))
 
 pub loop-w-init : goal.loop-w-init
 loop-w-init c =
-    let m = words_marks _ c.requires.lengths_len_bound.0 c.words_of-used.ensures in
-    (omega arith, m.0, refl, possible_begin c.args.i c.args.lengths.now c.args.letter.now c.args.row.now c.requires.bounded _ m.1 c.args.quorum c.args.out.now m.0 (omega (arith, m.0, c.requires.lengths_in_bounds.0, first_past c.args.lengths.now (length c.args.lengths.now))) c.count-possible.ensures)
+    let m = words_marks _ c.args.layout.now.few c.words_of-used.ensures in
+    (omega arith, m.0, refl, possible_begin c.args.i c.args.layout.now.lengths.now c.args.letter.now c.args.row.now c.requires.bounded _ m.1 c.args.quorum c.args.out.now m.0 (omega (arith, m.0, c.requires.lengths_in_bounds.0, first_past c.args.layout.now.lengths.now (length c.args.layout.now.lengths.now))) c.count-possible.ensures)
 
 pub returns-then-possible-quorum : goal.returns-then-possible-quorum
 returns-then-possible-quorum c =
     let l = c.loop-w in
-    let r = stopped c.args.i c.args.lengths.now c.args.letter.now c.args.row.now c.args.quorum l.out l.possible l.w l.invariant.3 (omega (arith, l.invariant.0, l.invariant.1)) c.if-possible-quorum.true l.invariant.2 in
+    let r = stopped c.args.i c.args.layout.now.lengths.now c.args.letter.now c.args.row.now c.args.quorum l.out l.possible l.w l.invariant.3 (omega (arith, l.invariant.0, l.invariant.1)) c.if-possible-quorum.true l.invariant.2 in
     record {
       lower_bound = r.0;
       value = r.1.0;
@@ -67,8 +59,7 @@ pub keep_sequences-kept-requires : goal.keep_sequences-kept-requires
 keep_sequences-kept-requires c =
     let l = c.loop-w in
     record {
-      w_bound = (omega (arith, l.invariant.1, c.loop-w-test.true), c.requires.lengths_len_bound.0, c.requires.lengths_len_bound.1);
-      firsts = c.requires.firsts;
+      w_bound = (omega (arith, l.invariant.1, c.loop-w-test.true), c.requires.i_bound);
       bounded = c.requires.bounded;
       lengths_in_bounds = (c.requires.lengths_in_bounds.0, c.requires.lengths_in_bounds.1, l.invariant.2 ∙ c.requires.lengths_in_bounds.2);
     }
@@ -86,7 +77,7 @@ overflow_sub-possible-in-loop-w c =
     let e = k.ensures in
     let h = c.if-possible-quorum.false in
     let i = c.loop-w-test.true in
-    omega (arith, lost_most c.args.i c.args.lengths.now c.args.letter.now c.args.row.now c.args.quorum l.out l.possible l.w l.invariant.3 (omega (arith, h)) (omega (arith, l.invariant.1, i)) k.result.lost e.lost_bound)
+    omega (arith, lost_most c.args.i c.args.layout.now.lengths.now c.args.letter.now c.args.row.now c.args.quorum l.out l.possible l.w l.invariant.3 (omega (arith, h)) (omega (arith, l.invariant.1, i)) k.result.lost e.lost_bound)
 
 pub loop-w-preserved : goal.loop-w-preserved
 loop-w-preserved c =
@@ -99,13 +90,13 @@ loop-w-preserved c =
       search rules,
       l.invariant.1,
       length-set k.new.out l.w k.result.left ∙ e.out_unchanged.1 ∙ l.invariant.2,
-      possible_turn c.args.i c.args.lengths.now c.args.letter.now c.args.row.now c.args.quorum l.out l.possible l.w l.invariant.3 (omega (arith, h)) (omega (arith, l.invariant.1, i)) k.result.lost e.lost_bound _ k.result.left e.out_unchanged.0 long e.b_value e.out_after,
+      possible_turn c.args.i c.args.layout.now.lengths.now c.args.letter.now c.args.row.now c.args.quorum l.out l.possible l.w l.invariant.3 (omega (arith, h)) (omega (arith, l.invariant.1, i)) k.result.lost e.lost_bound _ k.result.left e.out_unchanged.0 long e.b_value e.out_after,
     )
 
 pub returns-then-possible-quorum-2 : goal.returns-then-possible-quorum-2
 returns-then-possible-quorum-2 c =
     let l = c.loop-w in
-    let r = stopped c.args.i c.args.lengths.now c.args.letter.now c.args.row.now c.args.quorum l.out l.possible l.w l.invariant.3 (omega (arith, l.invariant.0, l.invariant.1)) c.if-possible-quorum-2.true l.invariant.2 in
+    let r = stopped c.args.i c.args.layout.now.lengths.now c.args.letter.now c.args.row.now c.args.quorum l.out l.possible l.w l.invariant.3 (omega (arith, l.invariant.0, l.invariant.1)) c.if-possible-quorum-2.true l.invariant.2 in
     record {
       lower_bound = r.0;
       value = r.1.0;
@@ -133,7 +124,7 @@ returns c =
     let w : l.w ≡ m.result = omega (arith, l.invariant.0, c.loop-w-test.false) in
     let q : c.args.quorum ≤ l.possible = omega (arith, c.if-possible-quorum-2.false) in
     let wide = marks_in _ _ e.row_unchanged.1 l.invariant.2 c.requires.lengths_in_bounds.2 c.requires.lengths_in_bounds.0 in
-    let r = ended c.args.i c.args.lengths.now c.args.letter.now c.args.row.now c.args.quorum l.out l.possible l.w l.invariant.3 c.requires.bounded m.result (words_marks _ c.requires.lengths_len_bound.0 m.ensures).1 l.invariant.1 w q
+    let r = ended c.args.i c.args.layout.now.lengths.now c.args.letter.now c.args.row.now c.args.quorum l.out l.possible l.w l.invariant.3 c.requires.bounded m.result (words_marks _ c.args.layout.now.few m.ensures).1 l.invariant.1 w q
     _ e.by_index.0 e.by_index.1 e.row_unchanged.0 (omega (arith, l.invariant.1, wide)) c.count.ensures (e.row_unchanged.1 ∙ l.invariant.2) in
     record {
       lower_bound = r.0;

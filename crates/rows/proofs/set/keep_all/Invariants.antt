@@ -2,14 +2,11 @@
 -- word itself, which stands before all sequences; and those that are lost are taken off those that can have a mark. In the words of marks
 -- behind those that the set has, there is none.
 use mathlib.Core.Path.{◌≡◌}
-use Prim.Native.Nat.{◌-◌, ◌≤◌}
+use Prim.Native.Nat.{◌≤◌}
 use lib.ListN.{length}
 use Rattle.rows.specs.Set.{row_marks}
 use Rattle.rows.proofs.Possible.{Possible}
 use Rattle.rows.proofs.set.keep_all.Given as goal
 
 abbrev pub invariant-loop-w : goal.invariant-loop-w
-invariant-loop-w l = (l.w ≤ l.used) × (l.used ≤ row_marks) × (length l.out ≡ length l.initial.out) × (Possible l.i l.lengths l.letter l.row l.quorum l.out l.possible l.w)
-
-abbrev pub decreases-loop-w : goal.decreases-loop-w
-decreases-loop-w l = l.used - l.w
+invariant-loop-w l = (l.w ≤ l.used) × (l.used ≤ row_marks) × (length l.out ≡ length l.initial.out) × (Possible l.i l.layout.lengths.now l.letter l.row l.quorum l.out l.possible l.w)

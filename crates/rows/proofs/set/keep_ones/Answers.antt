@@ -1,133 +1,83 @@
-use mathlib.Core.Path.{◌≡◌, refl, ◌∙◌}
+use mathlib.Core.Path.{refl, ◌∙◌}
 use Prim.Native.Nat.{ℕ, ◌+◌, ◌*◌, ◌<◌}
 use native.Mathlib.Omega.{arith}
-use lib.Count.{count_trailing_zeros}
 use lib.ListN.{length, length-set}
 use Rattle.rows.specs.Set.{row_marks}
 use Rattle.rows.proofs.Sets.{first_past}
 use Rattle.rows.proofs.Kept.{going_begin, end_left, end_walked, word_in, kept_turn}
-use Rattle.rows.proofs.Lowest.{lowest_in, lowest_less}
+use Rattle.rows.proofs.Lowest.{taken_in}
+use Rattle.rows.proofs.Tally.{bit_from}
 use Rattle.rows.proofs.set.keep_ones.Goals as goal
+use Rattle.rows.proofs.set.keep_ones.Goals.{In-Some}
 
 pub bounds-row-w : goal.bounds-row-w
 bounds-row-w c =
-    omega (arith, c.requires.w_bound, c.requires.lengths_in_bounds, first_past c.args.lengths.now (length c.args.lengths.now))
+    omega (arith, c.requires.w_bound, c.requires.lengths_in_bounds, first_past c.args.layout.now.lengths.now (length c.args.layout.now.lengths.now))
 
-pub loop-rest-init : goal.loop-rest-init
-loop-rest-init c =
+pub loop-place-init : goal.loop-place-init
+loop-place-init c =
     let a = c.args in
-    (refl, record { lost = 0; going = going_begin a.i a.lengths.now a.letter.now a.row.now a.w (c.type_inv.row a.w).fits a.out.now })
+    (refl, rw c.into_iter-place-iterator.ensures.into_iter_gives (record { lost = 0; going = going_begin a.i a.layout.now.lengths.now a.letter.now a.row.now a.w (c.type_inv.row a.w).fits a.out.now }))
+
+-- at a turn there is a next mark, and the word of its sequence
+in_word : (c : In-Some) → c.in-Some.place < 64
+in_word c = taken_in c.loop-place.invariant.1.going.rests c.in-Some.ensures.steps
+
+inside : (c : In-Some) → row_marks + c.args.w * 64 + c.in-Some.place < length c.args.row.now
+inside c =
+    let a = c.args in
+    let p = c.requires in
+    let l = c.loop-place in
+    word_in a.i a.layout.now.lengths.now a.letter.now a.row.now a.w (c.type_inv.row a.w).fits a.out.now l.out l.place-iterator.0 l.marks l.invariant.1 c.in-Some.ensures.steps a.layout.now.firsts.now c.args.layout.now.laid (a.layout.now.ones p.short) p.bounded p.w_bound.0 p.lengths_in_bounds.0 refl
 
 pub overflow_cast-at : goal.overflow_cast-at
-overflow_cast-at c =
-    let l = c.loop-rest in
-    let a = c.args in
-    let some : 0 < l.rest = omega (arith, c.loop-rest-test.true) in
-    let low : count_trailing_zeros 64 l.rest < 64 = lowest_in l.invariant.1.going.rests some in
-    omega (arith, low, c.requires.w_bound)
+overflow_cast-at c = omega (arith, in_word (goal.at.overflow_cast-at c).In-Some)
 
 pub overflow_add-at : goal.overflow_add-at
-overflow_add-at c =
-    let l = c.loop-rest in
-    let a = c.args in
-    let some : 0 < l.rest = omega (arith, c.loop-rest-test.true) in
-    let low : count_trailing_zeros 64 l.rest < 64 = lowest_in l.invariant.1.going.rests some in
-    omega (arith, low, c.requires.w_bound)
+overflow_add-at c = omega (arith, in_word (goal.at.overflow_add-at c).In-Some, c.requires.w_bound)
 
 pub offset_bounds-row-at : goal.offset_bounds-row-at
-offset_bounds-row-at c =
-    let l = c.loop-rest in
-    let a = c.args in
-    let some : 0 < l.rest = omega (arith, c.loop-rest-test.true) in
-    let low : count_trailing_zeros 64 l.rest < 64 = lowest_in l.invariant.1.going.rests some in
-    omega (arith, low, c.requires.w_bound)
+offset_bounds-row-at c = omega (arith, in_word (goal.at.offset_bounds-row-at c).In-Some, c.requires.w_bound)
 
 pub bounds-row-at : goal.bounds-row-at
-bounds-row-at c =
-    let l = c.loop-rest in
-    let a = c.args in
-    let some : 0 < l.rest = omega (arith, c.loop-rest-test.true) in
-    let inside : row_marks + a.w * 64 + count_trailing_zeros 64 l.rest < length a.row.now =
-    word_in a.i a.lengths.now a.letter.now a.row.now a.w (c.type_inv.row a.w).fits a.out.now l.out l.rest l.marks l.invariant.1 some a.firsts.now c.requires.firsts c.requires.firsts_value c.requires.bounded c.requires.w_bound.0 c.requires.lengths_in_bounds.0 refl in
-    inside
+bounds-row-at c = omega (arith, inside (goal.at.bounds-row-at c).In-Some)
 
 pub offset_bounds-letter-at : goal.offset_bounds-letter-at
-offset_bounds-letter-at c =
-    let l = c.loop-rest in
-    let a = c.args in
-    let some : 0 < l.rest = omega (arith, c.loop-rest-test.true) in
-    let low : count_trailing_zeros 64 l.rest < 64 = lowest_in l.invariant.1.going.rests some in
-    omega (arith, low, c.requires.w_bound)
+offset_bounds-letter-at c = omega (arith, in_word (goal.at.offset_bounds-letter-at c).In-Some, c.requires.w_bound)
 
 pub bounds-letter-at : goal.bounds-letter-at
-bounds-letter-at c =
-    let l = c.loop-rest in
-    let a = c.args in
-    let some : 0 < l.rest = omega (arith, c.loop-rest-test.true) in
-    let inside : row_marks + a.w * 64 + count_trailing_zeros 64 l.rest < length a.row.now =
-    word_in a.i a.lengths.now a.letter.now a.row.now a.w (c.type_inv.row a.w).fits a.out.now l.out l.rest l.marks l.invariant.1 some a.firsts.now c.requires.firsts c.requires.firsts_value c.requires.bounded c.requires.w_bound.0 c.requires.lengths_in_bounds.0 refl in
-    omega (arith, inside, c.requires.lengths_in_bounds)
+bounds-letter-at c = omega (arith, inside (goal.at.bounds-letter-at c).In-Some, c.requires.lengths_in_bounds)
 
 pub offset_bounds-out-at : goal.offset_bounds-out-at
-offset_bounds-out-at c =
-    let l = c.loop-rest in
-    let a = c.args in
-    let some : 0 < l.rest = omega (arith, c.loop-rest-test.true) in
-    let low : count_trailing_zeros 64 l.rest < 64 = lowest_in l.invariant.1.going.rests some in
-    omega (arith, low, c.requires.w_bound)
+offset_bounds-out-at c = omega (arith, in_word (goal.at.offset_bounds-out-at c).In-Some, c.requires.w_bound)
 
 pub bounds-out-at : goal.bounds-out-at
-bounds-out-at c =
-    let l = c.loop-rest in
-    let a = c.args in
-    let some : 0 < l.rest = omega (arith, c.loop-rest-test.true) in
-    let inside : row_marks + a.w * 64 + count_trailing_zeros 64 l.rest < length a.row.now =
-    word_in a.i a.lengths.now a.letter.now a.row.now a.w (c.type_inv.row a.w).fits a.out.now l.out l.rest l.marks l.invariant.1 some a.firsts.now c.requires.firsts c.requires.firsts_value c.requires.bounded c.requires.w_bound.0 c.requires.lengths_in_bounds.0 refl in
-    omega (arith, inside, c.requires.lengths_in_bounds, l.invariant.0)
-
-pub overflow_cast-marks : goal.overflow_cast-marks
-overflow_cast-marks c =
-    let l = c.loop-rest in
-    let a = c.args in
-    let some : 0 < l.rest = omega (arith, c.loop-rest-test.true) in
-    let low : count_trailing_zeros 64 l.rest < 64 = lowest_in l.invariant.1.going.rests some in
-    omega (arith, low)
+bounds-out-at c = omega (arith, inside (goal.at.bounds-out-at c).In-Some, c.requires.lengths_in_bounds, c.loop-place.invariant.0)
 
 pub overflow_shl-marks : goal.overflow_shl-marks
-overflow_shl-marks c =
-    let l = c.loop-rest in
-    let a = c.args in
-    let some : 0 < l.rest = omega (arith, c.loop-rest-test.true) in
-    let low : count_trailing_zeros 64 l.rest < 64 = lowest_in l.invariant.1.going.rests some in
-    omega (arith, low)
+overflow_shl-marks c = omega (arith, in_word (goal.at.overflow_shl-marks c).In-Some)
 
-pub loop-rest-smaller : goal.loop-rest-smaller
-loop-rest-smaller c =
-    let l = c.loop-rest in
-    let some : 0 < l.rest = omega (arith, c.loop-rest-test.true) in
-    lowest_less l.invariant.1.going.rests some
-
-pub loop-rest-preserved : goal.loop-rest-preserved
-loop-rest-preserved c =
-    let l = c.loop-rest in
+pub loop-place-preserved : goal.loop-place-preserved
+loop-place-preserved c =
     let a = c.args in
-    let some : 0 < l.rest = omega (arith, c.loop-rest-test.true) in
-    let at : ℕ = row_marks + a.w * 64 + count_trailing_zeros 64 l.rest in (
+    let p = c.requires in
+    let l = c.loop-place in
+    let at : ℕ = row_marks + a.w * 64 + c.in-Some.place in (
       length-set l.out at _ ∙ l.invariant.0,
-      kept_turn a.i a.lengths.now a.letter.now a.row.now a.w (c.type_inv.row a.w).fits a.out.now l.out l.rest l.marks l.invariant.1 some a.firsts.now c.requires.firsts c.requires.firsts_value c.requires.bounded c.requires.w_bound.0 c.requires.lengths_in_bounds.0 refl
-          c.requires.w_bound.2 c.requires.lengths_in_bounds.1 (l.invariant.0 ∙ c.requires.lengths_in_bounds.2)
-          (c.type_inv.letter at).fits (c.type_inv.row at).fits c.one.ensures,
+      kept_turn a.i a.layout.now.lengths.now a.letter.now a.row.now a.w (c.type_inv.row a.w).fits a.out.now l.out l.place-iterator.0 l.marks l.invariant.1 c.in-Some.ensures.steps a.layout.now.firsts.now c.args.layout.now.laid (a.layout.now.ones p.short) p.bounded p.w_bound.0 p.lengths_in_bounds.0 refl
+          p.w_bound.1 p.lengths_in_bounds.1 (l.invariant.0 ∙ p.lengths_in_bounds.2)
+          (c.type_inv.letter at).fits (c.type_inv.row at).fits (bit_from _ c.from.ensures),
     )
 
 pub returns : goal.returns
 returns c =
-    let l = c.loop-rest in
+    let l = c.loop-place in
     let a = c.args in
     let g = l.invariant.1.going in
     let fits = (c.type_inv.row a.w).fits in
-    let none : l.rest ≡ 0 = omega (arith, c.loop-rest-test.false) in
+    let none = c.in-None.ensures.steps in
     record {
-      by_index = end_left a.i a.lengths.now a.letter.now a.row.now a.w fits a.out.now l.out l.rest l.marks _ g none;
+      by_index = end_left a.i a.layout.now.lengths.now a.letter.now a.row.now a.w fits a.out.now l.out l.place-iterator.0 l.marks _ g none;
       out_unchanged = (g.so_far.walked.kept, l.invariant.0);
-      by_index_2 = end_walked a.i a.lengths.now a.letter.now a.row.now a.w fits a.out.now l.out l.rest l.marks _ g none;
+      by_index_2 = end_walked a.i a.layout.now.lengths.now a.letter.now a.row.now a.w fits a.out.now l.out l.place-iterator.0 l.marks _ g none;
     }

@@ -5,8 +5,5 @@ use lib.ListN.{length}
 use Rattle.rows.proofs.Kept.{Kept}
 use Rattle.rows.proofs.set.keep_ones.Given as goal
 
-abbrev pub invariant-loop-rest : goal.invariant-loop-rest
-invariant-loop-rest l = (length l.out ≡ length l.initial.out) × (Kept l.i l.lengths l.letter l.row l.w l.initial.out l.out l.rest l.marks)
-
-abbrev pub decreases-loop-rest : goal.decreases-loop-rest
-decreases-loop-rest l = l.rest
+abbrev pub invariant-loop-place : goal.invariant-loop-place
+invariant-loop-place l = (length l.out ≡ length l.initial.out) × (Kept l.i l.layout.lengths.now l.letter l.row l.w l.initial.out l.out l.place-iterator.0 l.marks)

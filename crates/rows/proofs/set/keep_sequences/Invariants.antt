@@ -4,8 +4,5 @@ use lib.ListN.{length}
 use Rattle.rows.proofs.Kept.{Going}
 use Rattle.rows.proofs.set.keep_sequences.Given as goal
 
-abbrev pub invariant-loop-rest : goal.invariant-loop-rest
-invariant-loop-rest l = (length l.out ≡ length l.initial.out) × (Going l.i l.lengths l.letter l.row l.w l.initial.out l.out l.rest l.left l.lost)
-
-abbrev pub decreases-loop-rest : goal.decreases-loop-rest
-decreases-loop-rest l = l.rest
+abbrev pub invariant-loop-place : goal.invariant-loop-place
+invariant-loop-place l = (length l.out ≡ length l.initial.out) × (Going l.i l.layout.lengths.now l.letter l.row l.w l.initial.out l.out l.place-iterator.0 l.left l.lost)

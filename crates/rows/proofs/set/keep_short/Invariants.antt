@@ -1,14 +1,11 @@
 -- Each turn writes the sequences of one word of marks and then the word itself; and the ones that it has fewer than before are taken off
 -- those that can have a mark.
 use mathlib.Core.Path.{◌≡◌}
-use Prim.Native.Nat.{◌-◌, ◌≤◌}
+use Prim.Native.Nat.{◌≤◌}
 use lib.ListN.{length}
 use Rattle.rows.specs.Set.{row_marks}
 use Rattle.rows.proofs.Possible.{Possible}
 use Rattle.rows.proofs.set.keep_short.Given as goal
 
 abbrev pub invariant-loop-w : goal.invariant-loop-w
-invariant-loop-w l = (l.w ≤ row_marks) × (length l.out ≡ length l.initial.out) × (Possible l.i l.lengths l.letter l.row l.quorum l.out l.able l.w)
-
-abbrev pub decreases-loop-w : goal.decreases-loop-w
-decreases-loop-w l = row_marks - l.w
+invariant-loop-w l = (l.w ≤ row_marks) × (length l.out ≡ length l.initial.out) × (Possible l.i l.layout.lengths.now l.letter l.row l.quorum l.out l.able l.w)

@@ -5,7 +5,7 @@ use native.Mathlib.Omega.{arith}
 use lib.ListN.{length, length-set, get_or}
 use Rattle.rows.specs.Set.{row_marks, first_word}
 use Rattle.rows.proofs.Sets.{first_none, first_next}
-use Rattle.rows.proofs.Offsets.{offset_of, offset_none, offset_next, offset_most, length_most, first_bound, short_none, short_more, tabled_first, tabled_more, tabled_firsts, tabled_offsets}
+use Rattle.rows.proofs.Offsets.{offset_of, offset_none, offset_next, offset_most, length_most, first_bound, short_none, short_more, tabled_first, tabled_more, tabled_offsets}
 use Rattle.rows.proofs.set.lay_out.Goals as goal
 
 pub loop-k-init : goal.loop-k-init
@@ -62,21 +62,12 @@ loop-k-preserved c =
       short_more _ _ _ l.invariant.7 c.words_of-words.ensures,
     )
 
-pub overflow_sub-last : goal.overflow_sub-last
-overflow_sub-last c =
-    omega (arith, c.loop-k.invariant.1, length-set c.args.firsts.now 0 row_marks, c.requires.lengths_in_bounds.0)
-
-pub bounds-firsts-last : goal.bounds-firsts-last
-bounds-firsts-last c =
-    omega (arith, c.loop-k.invariant.1, length-set c.args.firsts.now 0 row_marks, c.requires.lengths_in_bounds.0)
-
 pub returns : goal.returns
 returns c =
     let l = c.loop-k in
-    let f : length l.firsts ≡ length c.args.firsts.now = l.invariant.1 ∙ length-set c.args.firsts.now 0 row_marks in
     let o : length l.offsets ≡ length c.args.offsets.now = l.invariant.2 ∙ length-set c.args.offsets.now 0 0 in
     record {
-      firsts = tabled_firsts _ _ _ (search rules) (omega (arith, f, c.requires.lengths_in_bounds.0)) l.invariant.5 _ l.invariant.7;
+      layout = refl;
       offsets = tabled_offsets _ _ _ (search rules) (omega (arith, o, c.requires.lengths_in_bounds.1)) l.invariant.6;
-      firsts_len_unchanged = (length-set l.firsts _ _ ∙ f, o);
+      offsets_len_unchanged = o;
     }

@@ -1,6 +1,6 @@
 -- Each turn adds one sequence's words and letters, and writes where the next begin.
 use mathlib.Core.Path.{◌≡◌}
-use Prim.Native.Nat.{◌-◌, ◌≤◌}
+use Prim.Native.Nat.{◌≤◌}
 use lib.ListN.{length}
 use Rattle.rows.specs.Set.{first_word}
 use Rattle.rows.proofs.Offsets.{offset_of, Short, Tabled}
@@ -15,6 +15,3 @@ invariant-loop-k l = (l.k ≤ length l.lengths)
     × (Tabled (first_word l.lengths) l.k l.firsts)
     × (Tabled (offset_of l.lengths) l.k l.offsets)
     × (Short l.lengths l.k l.short)
-
-abbrev pub decreases-loop-k : goal.decreases-loop-k
-decreases-loop-k l = length l.lengths - l.k

@@ -11,16 +11,6 @@ use Rattle.rows.proofs.set.mark_first.Goals as goal
 pub loop-k-init : goal.loop-k-init
 loop-k-init c = (search rules, refl, begun_none _ c.requires.by_index)
 
-pub bounds-row-q : goal.bounds-row-q
-bounds-row-q c =
-    let l = c.loop-k in
-    omega (arith, l.invariant.1, c.requires.n_bound, c.loop-k-test.true)
-
-pub bounds-row-q-in-loop-k : goal.bounds-row-q-in-loop-k
-bounds-row-q-in-loop-k c =
-    let l = c.loop-k in
-    omega (arith, l.invariant.1, c.requires.n_bound, c.loop-k-test.true)
-
 pub loop-k-preserved : goal.loop-k-preserved
 loop-k-preserved c =
     let l = c.loop-k in

@@ -1,6 +1,6 @@
 -- Each turn sets the next mark, which was not set.
 use mathlib.Core.Path.{◌≡◌}
-use Prim.Native.Nat.{◌-◌, ◌≤◌}
+use Prim.Native.Nat.{◌≤◌}
 use lib.ListN.{length}
 use Rattle.rows.proofs.Start.{Begun}
 use Rattle.rows.proofs.set.mark_first.Given as goal
@@ -9,6 +9,3 @@ abbrev pub invariant-loop-k : goal.invariant-loop-k
 invariant-loop-k l = (l.k ≤ l.n)
     × (length l.row ≡ length l.initial.row)
     × (Begun l.k l.initial.row l.row)
-
-abbrev pub decreases-loop-k : goal.decreases-loop-k
-decreases-loop-k l = l.n - l.k

@@ -1,40 +1,37 @@
 use borrow.Author.Rules.{rules}
-use mathlib.Core.Path.{refl, ◌∙◌}
-use Prim.Native.Nat.{◌+◌, ◌<◌}
+use mathlib.Core.Path.{refl, sym, ◌∙◌}
+use Prim.Native.Nat.{◌<◌}
 use native.Mathlib.Omega.{arith}
 use lib.ListN.{length}
-use Rattle.rows.proofs.Sets.{filled_none, filled_end, filled_turn, turn_lies}
+use borrow.Rule.Slice.PartMut.{mid_len}
+use Rattle.rows.specs.Set.{between}
+use Rattle.rows.proofs.Sets.{filled_none, filled_end, filled_turn, part_opened}
 use Rattle.rows.proofs.Shifted.{shifted_is_at}
 use Rattle.rows.proofs.shift.shift_all.Goals as goal
 
 pub loop-k-init : goal.loop-k-init
 loop-k-init c = (search rules, refl, filled_none _ _ _ _ _ refl)
 
-pub bounds-firsts-k : goal.bounds-firsts-k
-bounds-firsts-k c = omega (arith, c.loop-k-test.true, c.requires.firsts.long)
-
-pub bounds-firsts-k-in-loop-k : goal.bounds-firsts-k-in-loop-k
-bounds-firsts-k-in-loop-k c = omega (arith, c.loop-k-test.true, c.requires.firsts.long)
-
-pub shift_between-requires : goal.shift_between-requires
-shift_between-requires c =
+pub shift_down-requires : goal.shift_down-requires
+shift_down-requires c =
+    let p = c.requires in
     let l = c.loop-k in
-    let h : l.k < length c.args.lengths.now = c.loop-k-test.true in
-    let f = c.requires.firsts.same l.k (omega arith) in
-    let t = c.requires.firsts.same (l.k + 1) (omega arith) in
-    let w = turn_lies _ _ h f t in
-    (w.0, omega (arith, w.1, c.requires.lengths_in_bounds.0), omega (arith, w.1, c.requires.lengths_in_bounds.1, l.invariant.1), c.requires.i_bound)
+    let t = c.words-from.ensures.inside in
+    (mid_len _ _ l.out (omega (arith, t.1, p.lengths_in_bounds.1, l.invariant.1)) ∙ sym (mid_len _ _ c.args.row.now (omega (arith, t.1, p.lengths_in_bounds.0))), p.i_bound)
 
 pub loop-k-preserved : goal.loop-k-preserved
+unfolding between
 loop-k-preserved c =
+    let p = c.requires in
     let l = c.loop-k in
-    let h : l.k < length c.args.lengths.now = c.loop-k-test.true in
-    let f = c.requires.firsts.same l.k (omega arith) in
-    let t = c.requires.firsts.same (l.k + 1) (omega arith) in
-    let o = c.shift_between.ensures in (
+    let h : l.k < length c.args.layout.now.lengths.now = c.loop-k-test.true in
+    let k = c.words-from.ensures.place in
+    let t = c.words-from.ensures.inside in
+    let o = c.shift_down in
+    let e = part_opened _ _ l.out t.0 (omega (arith, t.1, p.lengths_in_bounds.1, l.invariant.1)) o.new.out o.auto.out o.ensures in (
       search rules,
-      o.out_unchanged.1 ∙ l.invariant.1,
-      filled_turn _ _ _ l.out _ _ h l.invariant.2 f t o.out_unchanged.0 (λ _. shifted_is_at _ _ h f t c.args.i c.args.row.now o.out_after),
+      e.1 ∙ l.invariant.1,
+      filled_turn _ _ _ l.out _ _ h l.invariant.2 k.0 k.1 e.0 (λ _. shifted_is_at _ _ h k.0 k.1 c.args.i c.args.row.now e.2),
     )
 
 pub returns : goal.returns

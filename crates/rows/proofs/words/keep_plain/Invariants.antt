@@ -2,7 +2,7 @@
 use mathlib.Core.Bool.{not}
 use mathlib.Core.List.{map}
 use mathlib.Core.Path.{◌≡◌}
-use Prim.Native.Nat.{◌-◌, ◌≤◌}
+use Prim.Native.Nat.{◌≤◌}
 use lib.Dec.{eqb}
 use lib.ListN.{length}
 use Rattle.rules.specs.Lists.{over, run}
@@ -14,6 +14,3 @@ abbrev pub invariant-loop-q : goal.invariant-loop-q
 invariant-loop-q l = (l.q ≤ l.n) × (length l.out ≡ length l.initial.out) × (length l.initial.out ≡ length l.row) × (length l.letters ≡ length l.row) × (l.n ≤ length l.row)
     × (eqb l.all 0 ≡ not (has_left (map (extended_word 0 l.letters l.row) (run 0 l.q))))
     × (l.out ≡ over (extended_word 0 l.letters l.row) l.q l.initial.out)
-
-abbrev pub decreases-loop-q : goal.decreases-loop-q
-decreases-loop-q l = l.n - l.q

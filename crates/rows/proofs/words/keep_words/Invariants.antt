@@ -1,7 +1,7 @@
 -- A turn writes the next word, and joins it to those before: all of them are 0 if none has a bit left. `low` is the word of the letter's
 -- row that the turn stands at.
 use mathlib.Core.Path.{◌≡◌}
-use Prim.Native.Nat.{◌-◌, ◌≤◌, ◌<◌}
+use Prim.Native.Nat.{◌≤◌, ◌<◌}
 use lib.ListN.{length, get_or}
 use Rattle.rules.specs.Lists.{over, run}
 use mathlib.Core.Bool.{not}
@@ -15,6 +15,3 @@ abbrev pub invariant-loop-q : goal.invariant-loop-q
 invariant-loop-q l = (l.q ≤ l.n) × (length l.out ≡ length l.initial.out) × (length l.initial.out ≡ length l.row) × (length l.letters ≡ length l.row) × (l.n < length l.row)
     × (eqb l.all 0 ≡ not (has_left (map (extended_word l.i l.letters l.row) (run 0 l.q))))
     × (l.out ≡ over (extended_word l.i l.letters l.row) l.q l.initial.out) × (l.low ≡ get_or l.letters l.q 0)
-
-abbrev pub decreases-loop-q : goal.decreases-loop-q
-decreases-loop-q l = l.n - l.q

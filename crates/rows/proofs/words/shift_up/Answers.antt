@@ -9,7 +9,7 @@ use Rattle.rows.proofs.words.shift_up.Goals as goal
 pub returns-then-n-e : goal.returns-then-n-e
 returns-then-n-e c =
     let a = c.args in
-    shift_out _ _ a.out.now (search rules) (λ q. (c.type_inv.row q).fits) (search rules) c.fill.ensures
+    shift_out _ _ a.out.now (search rules) (λ q. (c.type_inv.row q).fits) (search rules) (c.fill.ensures.after (λ _ e. e))
 
 pub slice_bounds-fill-end-2 : goal.slice_bounds-fill-end-2
 slice_bounds-fill-end-2 c = sym (length-take-le _ _ (search rules))
@@ -19,8 +19,8 @@ shift_words-requires c =
     let a = c.args in
     let u = c.up in
     let f = c.fill-2 in record {
-      out_len = (shift_length a.d a.row.now a.out.now (search rules) u.result (search rules) f.ensures ∙ search rules, search rules, search rules);
-      out_value = over_again _ _ _ (shift_begun _ _ a.out.now (search rules) (search rules) f.ensures u.ensures);
+      out_len = (shift_length a.d a.row.now a.out.now (search rules) u.result (search rules) (f.ensures.after (λ _ e. e)) ∙ search rules, search rules, search rules);
+      out_value = over_again _ _ _ (shift_begun _ _ a.out.now (search rules) (search rules) (f.ensures.after (λ _ e. e)) u.ensures);
     }
 
 pub returns : goal.returns
@@ -28,4 +28,4 @@ returns c =
     let a = c.args in
     let u = c.up in
     let f = c.fill-2 in
-    shift_whole _ _ a.out.now (search rules) (λ q. (c.type_inv.row q).fits) (search rules) f.ensures u.ensures c.shift_words.ensures
+    shift_whole _ _ a.out.now (search rules) (λ q. (c.type_inv.row q).fits) (search rules) (f.ensures.after (λ _ e. e)) u.ensures c.shift_words.ensures

@@ -1,6 +1,6 @@
 -- A turn writes the next word, of two words of the row side by side.
 use mathlib.Core.Path.{◌≡◌}
-use Prim.Native.Nat.{◌-◌, ◌≤◌, ◌<◌}
+use Prim.Native.Nat.{◌≤◌, ◌<◌}
 use lib.ListN.{length}
 use Rattle.rules.specs.Lists.{over}
 use Rattle.rows.specs.Words.{behind_word}
@@ -8,6 +8,3 @@ use Rattle.rows.proofs.words.shift_words.Given as goal
 
 abbrev pub invariant-loop-q : goal.invariant-loop-q
 invariant-loop-q l = (l.e < l.q) × (l.q ≤ length l.row) × (length l.out ≡ length l.initial.out) × (length l.initial.out ≡ length l.row) × (l.i < 64) × (l.out ≡ over (behind_word l.e l.i l.row) l.q l.initial.out)
-
-abbrev pub decreases-loop-q : goal.decreases-loop-q
-decreases-loop-q l = length l.row - l.q

@@ -11,12 +11,12 @@ pub loop-have-init : goal.loop-have-init
 loop-have-init c = (search rules, search rules, search rules, search rules, search rules, window_one _ (bit_small _))
 
 pub loop-have-smaller : goal.loop-have-smaller
-loop-have-smaller c = let e = c.least-d.ensures in omega arith
+loop-have-smaller c = let e = c.min-d.ensures in omega arith
 
 pub loop-have-preserved : goal.loop-have-preserved
 loop-have-preserved c =
     let l = c.loop-have in
-    let d = c.least-d in
+    let d = c.min-d in
     let s = c.shift_up in (
       search rules,
       search rules,

@@ -1,20 +1,27 @@
--- Each answer is that of the definition at the value tested.
-use borrow.Author.Tests.{eq-eqb, ne_eqb}
+-- Each answer is that of the definition at the value that is matched.
+use mathlib.Core.Logic.{◌≢◌}
+use mathlib.Core.Path.{◌≡◌}
+use Prim.Native.Nat.{ℕ}
+use native.Mathlib.Omega.{arith}
+use borrow.Author.Tests.{ne_eqb}
 use Rattle.rules.specs.Letters.{letter}
 use Rattle.rules.proofs.Letter.byte.Goals as goal
 
-pub returns-then-value-eq0 : goal.returns-then-value-eq0
+pub returns-in-0 : goal.returns-in-0
 unfolding letter
-returns-then-value-eq0 c = simp (eq-eqb _ _ c.if-value-eq0.true)
+returns-in-0 c = rw c.in-0.is
 
-pub returns-then-value-eq1 : goal.returns-then-value-eq1
+pub returns-in-1 : goal.returns-in-1
 unfolding letter
-returns-then-value-eq1 c = simp (ne_eqb _ _ c.if-value-eq0.false, eq-eqb _ _ c.if-value-eq1.true)
+returns-in-1 c = rw c.in-1.is
 
-pub returns-then-value-eq2 : goal.returns-then-value-eq2
+pub returns-in-2 : goal.returns-in-2
 unfolding letter
-returns-then-value-eq2 c = simp (ne_eqb _ _ c.if-value-eq0.false, ne_eqb _ _ c.if-value-eq1.false, eq-eqb _ _ c.if-value-eq2.true)
+returns-in-2 c = rw c.in-2.is
 
-pub returns-else-value-eq2 : goal.returns-else-value-eq2
+other : (v : ℕ) → v ≢ 0 → v ≢ 1 → v ≢ 2 → 84 ≡ letter v
 unfolding letter
-returns-else-value-eq2 c = simp (ne_eqb _ _ c.if-value-eq0.false, ne_eqb _ _ c.if-value-eq1.false, ne_eqb _ _ c.if-value-eq2.false)
+other v a c g = rw (ne_eqb v 0 a, ne_eqb v 1 c, ne_eqb v 2 g)
+
+pub returns-in_default : goal.returns-in_default
+returns-in_default c = other c.args.value (omega arith) (omega arith) (omega arith)

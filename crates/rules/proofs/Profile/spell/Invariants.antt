@@ -17,6 +17,3 @@ invariant-loop-i l =
     × (length l.word ≡ length l.initial.word)
     × (l.rest ≡ l.number / (profile_by l.self).base ^ (length l.initial.word - l.i))
     × (drop l.i l.word ≡ map stood_for (spell (profile_by l.self).base (length l.initial.word - l.i) l.number))
-
-abbrev pub decreases-loop-i : goal.decreases-loop-i
-decreases-loop-i l = l.i

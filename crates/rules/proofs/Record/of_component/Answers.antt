@@ -4,4 +4,4 @@ use Rattle.rules.proofs.Record.of_component.Goals as goal
 
 pub returns : goal.returns
 unfolding low_first component_record
-returns c = rw (c.low_first-u.ensures, c.low_first-l.ensures, c.allowance_in-allowance.ensures)
+returns c = rw (c.to_le_bytes-u.ensures, c.to_le_bytes-l.ensures, c.allowance_in-allowance.ensures)

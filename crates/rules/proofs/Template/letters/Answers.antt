@@ -1,40 +1,41 @@
--- `Template::letters`: a trimmed template has no letters past its last component, so all six slots add up to K, which is far below
--- what 32 bits hold.
-use mathlib.Core.Bool.{true}
-use mathlib.Core.List.{[], ◌∷◌, map}
-use mathlib.Core.Path.{◌≡◌, refl, sym}
-use Prim.Native.Nat.{ℕ, zero, suc, ◌+◌, ◌≤◌}
-use lib.Dec.{leb}
-use lib.ListN.{take}
-use lib.Seq.{take-nil}
-use Rattle.rules.specs.Lists.{sum}
-use Rattle.rules.specs.Template.{components, kept, size, trimmed}
-use Rattle.rules.specs.declared.Component.{Component}
-use Rattle.rules.specs.declared.Profile.{Profile}
-use Rattle.rules.specs.declared.Template.{Template}
+use mathlib.Core.List.{List, map}
+use mathlib.Core.Path.{◌≡◌}
+use Prim.Native.Nat.{ℕ, ◌+◌, ◌≤◌, ◌<◌}
 use native.Mathlib.Omega.{arith}
-use borrow.Author.Tests.{le-leb}
+use lib.ListN.{length, take, drop, get_or, length-map, get_or-map, length-take}
+use Rattle.rules.specs.Lists.{sum}
+use Rattle.rules.specs.Template.{slots, none, components, size}
+use Rattle.rules.specs.declared.Component.{Component}
+use Rattle.rules.specs.declared.Template.{Template}
+use Rattle.rules.proofs.Tables.{sum_more, sum_over, take_min}
 use Rattle.rules.proofs.Template.letters.Goals as goal
 
--- K is the sum over all slots, since those past the last component hold none
-in_all : (p : Profile) (n : ℕ) (a b c d e f : Component) → sum (map (λ c. c.length) (take n (a ∷ b ∷ c ∷ d ∷ e ∷ f ∷ [])))
-    ≡ (kept p n 1 a).length + (kept p n 2 b).length + (kept p n 3 c).length + (kept p n 4 d).length + (kept p n 5 e).length + (kept p n 6 f).length
-unfolding sum
-in_all p zero a b c d e f = refl
-in_all p (suc zero) a b c d e f = omega arith
-in_all p (suc (suc zero)) a b c d e f = omega arith
-in_all p (suc (suc (suc zero))) a b c d e f = omega arith
-in_all p (suc (suc (suc (suc zero)))) a b c d e f = omega arith
-in_all p (suc (suc (suc (suc (suc zero))))) a b c d e f = omega arith
-in_all p (suc (suc (suc (suc (suc (suc n)))))) a b c d e f =
-    let within : (i : ℕ) → i ≤ 6 → leb i (suc (suc (suc (suc (suc (suc n)))))) ≡ true = λ i h. le-leb i _ (omega arith) in
-    let past : sum (map (λ (x : Component). x.length) (take n [])) ≡ 0 = rw take-nil in
-    rw (within 1 (omega arith), within 2 (omega arith), within 3 (omega arith), within 4 (omega arith), within 5 (omega arith), within 6 (omega arith)) (omega arith)
+-- no more than the slots are passed
+few : (t : Template) (n : ℕ) {cs : List Component} → cs ≡ slots t → length (take n cs) ≤ 6
+few t n e = rw (e, length-take) (omega arith)
 
-all_slots : (t u : Template) → u ≡ trimmed t
-    → u.c1.length + u.c2.length + u.c3.length + u.c4.length + u.c5.length + u.c6.length ≡ size t
-unfolding components size trimmed
-all_slots t u e = rw e (sym (in_all t.profile t.count t.c1 t.c2 t.c3 t.c4 t.c5 t.c6))
+-- one component more
+more : (cs : List Component) (i : ℕ) → i < length cs → sum (drop i (map (λ c. c.length) cs)) ≡ (get_or cs i none).length + sum (drop (i + 1) (map (λ c. c.length) cs))
+more cs i h = rw (sum_more (map (λ c. c.length) cs) i (rw length-map h), get_or-map (λ c. c.length) cs i none)
+
+-- past the last nothing is left
+over : (cs : List Component) (i : ℕ) → length cs ≤ i → sum (drop i (map (λ c. c.length) cs)) ≡ 0
+over cs i h = sum_over (map (λ c. c.length) cs) i (rw length-map h)
+
+pub loop-c-init : goal.loop-c-init
+loop-c-init c = (omega arith, omega arith)
+
+pub overflow_add-k : goal.overflow_add-k
+overflow_add-k c = omega (arith, few c.args.self c.held.result c.components-slots.ensures, c.loop-c.invariant.0, c.loop-c-test.true)
+
+pub loop-c-preserved : goal.loop-c-preserved
+loop-c-preserved c =
+    let l = c.loop-c in
+    (omega arith, omega (arith, more (take c.held.result c.components-slots.result) l.c-index c.loop-c-test.true, l.invariant.1))
 
 pub returns : goal.returns
-returns c = all_slots c.args.self c.trim-t.result c.trim-t.ensures
+unfolding size components
+returns c =
+    let l = c.loop-c in
+    let whole : take c.held.result c.components-slots.result ≡ take c.args.self.count (slots c.args.self) = rw (c.components-slots.ensures, c.held.ensures, take_min c.args.self.count (slots c.args.self)) in
+    rw (← whole) (omega (arith, over (take c.held.result c.components-slots.result) l.c-index c.loop-c-test.false, l.invariant.1))

@@ -15,9 +15,7 @@ pub returns-then-is_number : goal.returns-then-is_number
 returns-then-is_number c =
     let a = c.args in
     let e = sym c.is_number.ensures ∙ c.if-is_number.true in
-    (rw c.value.ensures.0 (sym (number_yes a.most a.text.now e)), number_below a.most a.text.now e c.value.ensures.1)
+    record { value = rw c.value.ensures.0 (sym (number_yes a.most a.text.now e)); bound = number_below a.most a.text.now e c.value.ensures.1 }
 
-pub returns-else-is_number : goal.returns-else-is_number
-returns-else-is_number c =
-    let a = c.args in
-    (sym (number_no a.most a.text.now (sym c.is_number.ensures ∙ c.if-is_number.false)), tt)
+pub returns-else-is_number-clause-value : goal.returns-else-is_number-clause-value
+returns-else-is_number-clause-value c = sym (number_no c.args.most c.args.text.now (sym c.is_number.ensures ∙ c.if-is_number.false))

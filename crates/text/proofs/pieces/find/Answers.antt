@@ -1,27 +1,25 @@
-use borrow.Author.Rules.{rules}
-use native.Mathlib.Omega.{arith}
-use Rattle.text.proofs.Scan.{find_here, find_on, find_end}
+-- The eights pass bytes that are others, and `position` finds it among the rest.
+use Rattle.std.proofs.Common.{rules, sym, ◌∙◌, eqb}
+use borrow.Author.Tests.{tests}
+use Rattle.std.proofs.lemmas.Iterator.{YieldsList-from_slice}
+use Rattle.std.proofs.lemmas.Iterator.Search.{position_from_yields_List}
+use Rattle.text.proofs.Scan.{eight_more, position_past_none, position_past_some}
 use Rattle.text.proofs.pieces.find.Goals as goal
 
-pub loop-i-init : goal.loop-i-init
-loop-i-init c = c.pass_eights-i.ensures
+pub loop-eight-preserved : goal.loop-eight-preserved
+loop-eight-preserved c =
+    let v = c.loop-eight.invariant in
+    let e = c.in-Some.ensures.cases in
+    eight_more c.args.b c.args.text.now c.loop-eight.rest.now c.in-Some.eight.now c.in-Some.others.now v.0 v.1 v.2 e.0 e.1 e.2 (sym c.contains.ensures.value ∙ c.if-contains.false)
 
-pub returns-then-text-i : goal.returns-then-text-i
-returns-then-text-i c =
-    let l = c.loop-i in
-    let a = c.args in
-    omega (arith, l.invariant.1, find_here a.b l.i a.text.now c.loop-i-test.true c.if-text-i.true)
-
-pub loop-i-preserved : goal.loop-i-preserved
-loop-i-preserved c =
-    let l = c.loop-i in
-    let a = c.args in (
-      search rules,
-      omega (arith, l.invariant.1, find_on a.b l.i a.text.now c.loop-i-test.true c.if-text-i.false),
-    )
+pub returns-in_err-at : goal.returns-in_err-at
+returns-in_err-at c =
+    let v = c.loop-eight.invariant in
+    let h = position_from_yields_List (λ x. eqb x c.args.b) _ _ _ c.position.ensures.ran (YieldsList-from_slice _ c.iter.ensures.rest) (λ x b q k. search (rules, tests)) in
+    c.from_residual.ensures ∙ position_past_none c.args.b c.args.text.now c.loop-eight.rest.now v.0 v.2 (sym c.in_err-at.was ∙ h)
 
 pub returns : goal.returns
 returns c =
-    let l = c.loop-i in
-    let a = c.args in
-    omega (arith, l.invariant.1, find_end a.b l.i a.text.now c.loop-i-test.false)
+    let v = c.loop-eight.invariant in
+    let h = position_from_yields_List (λ x. eqb x c.args.b) _ _ _ c.position.ensures.ran (YieldsList-from_slice _ c.iter.ensures.rest) (λ x b q k. search (rules, tests)) in
+    position_past_some c.args.b c.args.text.now c.loop-eight.rest.now v.0 v.2 c.in_ok-at.at (sym c.in_ok-at.was ∙ h)

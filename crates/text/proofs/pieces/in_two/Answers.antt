@@ -1,9 +1,12 @@
--- There are two pieces if the byte is found, and not found again.
-use Rattle.text.proofs.Scan.{two_more, two_none}
+-- There are two pieces if the byte does not stand in what follows the first.
+use Rattle.std.proofs.Common.{sym, ◌∙◌}
+use Rattle.text.proofs.Scan.{two_pieces, not_two}
 use Rattle.text.proofs.pieces.in_two.Goals as goal
 
-pub returns-then-first-text : goal.returns-then-first-text
-returns-then-first-text c = two_more c.args.b c.args.text.now c.find-first.ensures c.if-first-text.true c.find.ensures
+pub returns-then-contains-clause-pieces : goal.returns-then-contains-clause-pieces
+returns-then-contains-clause-pieces c =
+    not_two c.args.b c.args.text.now c.in_ok-first.first.now c.in_ok-first.second.now c.in_ok-first.ensures.pieces (sym c.contains.ensures.value ∙ c.if-contains.true)
 
-pub returns-else-first-text : goal.returns-else-first-text
-returns-else-first-text c = two_none c.args.b c.args.text.now c.find-first.ensures c.if-first-text.false
+pub returns-clause-pieces : goal.returns-clause-pieces
+returns-clause-pieces c =
+    two_pieces c.args.b c.args.text.now c.in_ok-first.first.now c.in_ok-first.second.now c.in_ok-first.ensures.pieces (sym c.contains.ensures.value ∙ c.if-contains.false)

@@ -1,11 +1,9 @@
 -- The part that is parsed is the second line.
-use Rattle.rules.specs.Text.{parse_quorum}
+use mathlib.Core.Path.{ap, ◌∙◌}
+use Rattle.rules.specs.Text.{parse_number, parse_quorum}
+use Rattle.text.proofs.Lines.{told_else}
 use Rattle.text.proofs.read.read_quorum.Goals as goal
 
-pub returns-in-Value : goal.returns-in-Value
+pub returns : goal.returns
 unfolding parse_quorum
-returns-in-Value c = rw (← c.find_line-span.ensures.2, ← c.parse_number-number.ensures.0, c.in-Value.is)
-
-pub returns-in-Malformed : goal.returns-in-Malformed
-unfolding parse_quorum
-returns-in-Malformed c = rw (← c.find_line-span.ensures.2, ← c.parse_number-number.ensures.0, c.in-Malformed.is)
+returns c = c.unwrap_or.ensures ∙ told_else c.parse_number.result _ 0 (c.parse_number.ensures.value ∙ ap (parse_number 5) c.cut.ensures.quorum)

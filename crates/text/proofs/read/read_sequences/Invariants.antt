@@ -1,13 +1,10 @@
 -- Each turn reads one line more.
-use mathlib.Core.Path.{◌≡◌}
-use Prim.Native.Nat.{◌+◌, ◌-◌, ◌≤◌}
-use lib.ListN.{length, drop}
-use Rattle.text.specs.Pieces.{find}
+use lib.ListN.{length}
 use Rattle.text.proofs.SequenceLines.{Taken}
 use Rattle.text.proofs.read.read_sequences.Given as goal
 
-abbrev pub invariant-loop-end : goal.invariant-loop-end
-invariant-loop-end l = (l.start ≤ length l.input) × (l.end ≡ l.start + find 10 (drop l.start l.input)) × Taken l.input l.initial.letters l.initial.lengths l.letters l.lengths l.n l.k l.start
+abbrev pub invariant-loop-line : goal.invariant-loop-line
+invariant-loop-line l = Taken l.input l.initial.letters l.initial.lengths l.letters l.lengths l.read.letters l.read.sequences l.rest
 
-abbrev pub decreases-loop-end : goal.decreases-loop-end
-decreases-loop-end l = length l.input - l.start
+abbrev pub decreases-loop-line : goal.decreases-loop-line
+decreases-loop-line l = length l.rest

@@ -1,6 +1,0 @@
--- `Count::refused`: the refusal's number and place.
-
-use Rattle.exports.proofs.told.Count.refused.Goals as goal
-
-pub returns : goal.returns
-returns c = rw (c.number.ensures, c.place.ensures)

@@ -1,9 +1,0 @@
--- The loop goes through the table, row by row.
-use Rattle.std.proofs.Common.{◌-◌, ◌≤◌, length}
-use Rattle.reads.proofs.rows.Given as goal
-
-abbrev pub invariant-loop-i : goal.invariant-loop-i
-invariant-loop-i g l = l.i ≤ length l.table
-
-abbrev pub decreases-loop-i : goal.decreases-loop-i
-decreases-loop-i g l = length l.table - l.i
