@@ -179,12 +179,11 @@ pub fn test_for<'a>(made: &Made<'a>, place: Place) -> Test<'a>
     ensures by_bound { result.by < 16 }
     ensures tests_last { TestsLast made.now.plan.search.template made.now.plan.layout.lengths.now made.now.plan.letters.now place.letters place.number result.row.now result.by }
 {
-    let plan = made.plan;
     let standing = made.standing;
     let below = place.letters as usize - 1;
-    let profile = plan.search.template.profile;
+    let profile = made.plan.search.template.profile;
     let x = profile.last(place.number) as usize;
-    let i = plan.inside[below].letter as usize;
+    let i = made.plan.inside[below].letter as usize;
     let base = profile.base() as usize;
     let kept = (i + 1) * base * WORDS <= standing.len();
     if kept {

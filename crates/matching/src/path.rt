@@ -79,7 +79,7 @@ fn open_slot(plan: &Plan, component: usize, spare: &mut [u64], slot: &mut [u64])
     let before = components[component - 1];
     let here = components[component];
     let apart = here.after(before);
-    gap::open_all(&plan.layout, apart.near, apart.count, spare, slot);
+    gap::open_all(&plan.layout, apart, spare, slot);
 }
 
 // Makes a slot that has the row of a prefix what a further letter is added to: where that stands inside a component the row as it is, and

@@ -15,7 +15,7 @@ ghost use Rattle.matching.specs.Weights.{counts_at, kept_counts, HoldsCounts, co
 use super::made::{Made, Plan};
 use super::{SLOTS, WORDS, path};
 use rows::{BITS, MARKS, counts};
-use rules::{Offset, Place};
+use rules::{Distances, Offset, Place};
 
 // What a component's ways are counted from in one sequence, where the row has a bit: for the first one way, and else what there is.
 fn begin(first: bool, row: &[u64], counts: &mut [u64])
@@ -27,9 +27,9 @@ fn begin(first: bool, row: &[u64], counts: &mut [u64])
     }
 }
 
-// In one sequence, whose words are those from `from` up to `to` and whose counts are those from `a` up to `e`: opens a gap of `n`
-// distances, the least of them `d`, after the counts at which the row has a bit. `opened` is that row with the gap opened: where it has a
-// bit the counts are right then, and elsewhere they are anything.
+// In one sequence, whose words are those from `from` up to `to` and whose counts are those from `a` up to `e`: opens a gap after the counts
+// at which the row has a bit. `opened` is that row with the gap opened: where it has a bit the counts are right then, and elsewhere they
+// are anything.
 fn lead_between(
     from: usize,
     to: usize,
@@ -38,21 +38,26 @@ fn lead_between(
     row: &[u64],
     opened: &[u64],
     first: bool,
-    d: usize,
-    n: usize,
+    apart: Distances,
     counts: &mut [u64],
 )
     requires from_le_to { (from ≤ to) × (to ≤ length row.now) × (to ≤ length opened.now) × (a.0 ≤ e.0) × (e.0 ≤ length counts.old) × (e.0 - a.0 ≤ 64 * (to - from)) }
-    requires le_d { (1 ≤ d) × (d ≤ template_length + template_gap) × (1 ≤ n) × (n ≤ template_gap + 1) }
+    requires le_d { (1 ≤ apart.near) × (apart.near ≤ template_length + template_gap) × (1 ≤ apart.count) × (apart.count ≤ template_gap + 1) }
     requires by_index { (i : ℕ) → get_or (masked (held (between from to row.now)) (counted_from first (between a.0 e.0 counts.old))) i 0 ≤ count_most }
-    requires by_index_2 { (i : ℕ) → get_or (held (between from to opened.now)) i 0 ≡ 0 → get_or (added d (d + n - 1) (masked (held (between from to row.now)) (counted_from first (between a.0 e.0 counts.old)))) i 0 ≡ 0 }
+    requires by_index_2 { (i : ℕ) → get_or (held (between from to opened.now)) i 0 ≡ 0 → get_or (added apart.near (apart.near + apart.count - 1) (masked (held (between from to row.now)) (counted_from first (between a.0 e.0 counts.old)))) i 0 ≡ 0 }
     ensures counts_unchanged { (take a.0 counts.new ≡ take a.0 counts.old) × (drop e.0 counts.new ≡ drop e.0 counts.old) × (length counts.new ≡ length counts.old) }
-    ensures counts_after { masked (held (between from to opened.now)) (between a.0 e.0 counts.new) ≡ added d (d + n - 1) (masked (held (between from to row.now)) (counted_from first (between a.0 e.0 counts.old))) }
+    ensures counts_after { masked (held (between from to opened.now)) (between a.0 e.0 counts.new) ≡ added apart.near (apart.near + apart.count - 1) (masked (held (between from to row.now)) (counted_from first (between a.0 e.0 counts.old))) }
 {
     let x = a.0;
     let y = e.0;
     begin(first, &row[from..to], &mut counts[x..y]);
-    counts::lead(&row[from..to], &opened[from..to], d, n, &mut counts[x..y]);
+    counts::lead(
+        &row[from..to],
+        &opened[from..to],
+        apart.near,
+        apart.count,
+        &mut counts[x..y],
+    );
 }
 
 // The same in the sequences of one word of marks, those that have one.
@@ -62,28 +67,29 @@ fn lead_sequences(
     row: &[u64],
     opened: &[u64],
     first: bool,
-    d: usize,
-    n: usize,
+    apart: Distances,
     counts: &mut [u64],
 )
-    requires w_bound { (w < row_marks) × (1 ≤ d) × (d ≤ template_length + template_gap) × (1 ≤ n) × (n ≤ template_gap + 1) }
+    requires w_bound { (w < row_marks) × (1 ≤ apart.near) × (apart.near ≤ template_length + template_gap) × (1 ≤ apart.count) × (apart.count ≤ template_gap + 1) }
     requires bounded { Bounded plan.now.layout.lengths.now row.now }
     requires lengths_in_bounds { (length row.now ≡ row_words) × (length opened.now ≡ length row.now) × (lists.sum plan.now.layout.lengths.now ≤ length counts.old) }
     requires by_index { (k : ℕ) → w * 64 ≤ k → k < length plan.now.layout.lengths.now → is_marked row.now k ≡ true → (i : ℕ) → get_or (begun_counts first plan.now.layout.lengths.now row.now counts.old k) i 0 ≤ count_most }
-    requires by_index_2 { (k : ℕ) → w * 64 ≤ k → k < length plan.now.layout.lengths.now → is_marked row.now k ≡ true → (i : ℕ) → get_or (bits_at plan.now.layout.lengths.now k opened.now) i 0 ≡ 0 → get_or (added d (d + n - 1) (begun_counts first plan.now.layout.lengths.now row.now counts.old k)) i 0 ≡ 0 }
-    ensures by_index_3 { (k : ℕ) → w * 64 ≤ k → k < w * 64 + 64 → is_marked row.now k ≡ true → kept_counts plan.now.layout.lengths.now opened.now counts.new k ≡ added d (d + n - 1) (begun_counts first plan.now.layout.lengths.now row.now counts.old k) }
+    requires by_index_2 { (k : ℕ) → w * 64 ≤ k → k < length plan.now.layout.lengths.now → is_marked row.now k ≡ true → (i : ℕ) → get_or (bits_at plan.now.layout.lengths.now k opened.now) i 0 ≡ 0 → get_or (added apart.near (apart.near + apart.count - 1) (begun_counts first plan.now.layout.lengths.now row.now counts.old k)) i 0 ≡ 0 }
+    ensures by_index_3 { (k : ℕ) → w * 64 ≤ k → k < w * 64 + 64 → is_marked row.now k ≡ true → kept_counts plan.now.layout.lengths.now opened.now counts.new k ≡ added apart.near (apart.near + apart.count - 1) (begun_counts first plan.now.layout.lengths.now row.now counts.old k) }
     ensures by_index_4 { (k : ℕ) → k < w * 64 → k < length plan.now.layout.lengths.now → counts_at plan.now.layout.lengths.now k counts.new ≡ counts_at plan.now.layout.lengths.now k counts.old }
     ensures by_index_5 { (k : ℕ) → w * 64 + 64 ≤ k → k < length plan.now.layout.lengths.now → counts_at plan.now.layout.lengths.now k counts.new ≡ counts_at plan.now.layout.lengths.now k counts.old }
     ensures counts_len_unchanged { length counts.new ≡ length counts.old }
 {
+    let layout = plan.layout;
+    let offsets = plan.offsets;
     let base = w * BITS;
     let mut rest = row[w];
     while rest != 0 {
         let zeros = u64::trailing_zeros(rest);
         let at = base + zeros as usize;
-        let (from, to) = plan.layout.words(at);
-        let a = plan.offsets[at] as usize;
-        let e = plan.offsets[at + 1] as usize;
+        let (from, to) = layout.words(at);
+        let a = offsets[at] as usize;
+        let e = offsets[at + 1] as usize;
         lead_between(
             from,
             to,
@@ -92,8 +98,7 @@ fn lead_sequences(
             row,
             opened,
             first,
-            d,
-            n,
+            apart,
             counts,
         );
         rest &= rest - 1;
@@ -106,20 +111,19 @@ fn lead_all(
     row: &[u64],
     opened: &[u64],
     first: bool,
-    d: usize,
-    n: usize,
+    apart: Distances,
     counts: &mut [u64],
 )
-    requires le_d { (1 ≤ d) × (d ≤ template_length + template_gap) × (1 ≤ n) × (n ≤ template_gap + 1) }
+    requires le_d { (1 ≤ apart.near) × (apart.near ≤ template_length + template_gap) × (1 ≤ apart.count) × (apart.count ≤ template_gap + 1) }
     requires bounded { Bounded plan.now.layout.lengths.now row.now }
     requires lengths_in_bounds { (length row.now ≡ row_words) × (length opened.now ≡ length row.now) × (lists.sum plan.now.layout.lengths.now ≤ length counts.old) }
     requires by_index { (k : ℕ) → k < length plan.now.layout.lengths.now → is_marked row.now k ≡ true → (i : ℕ) → get_or (begun_counts first plan.now.layout.lengths.now row.now counts.old k) i 0 ≤ count_most }
-    requires by_index_2 { (k : ℕ) → k < length plan.now.layout.lengths.now → is_marked row.now k ≡ true → (i : ℕ) → get_or (bits_at plan.now.layout.lengths.now k opened.now) i 0 ≡ 0 → get_or (added d (d + n - 1) (begun_counts first plan.now.layout.lengths.now row.now counts.old k)) i 0 ≡ 0 }
-    ensures holds_counts { HoldsCounts (is_marked row.now) (λ k. added d (d + n - 1) (begun_counts first plan.now.layout.lengths.now row.now counts.old k)) plan.now.layout.lengths.now opened.now counts.new (length plan.now.layout.lengths.now) }
+    requires by_index_2 { (k : ℕ) → k < length plan.now.layout.lengths.now → is_marked row.now k ≡ true → (i : ℕ) → get_or (bits_at plan.now.layout.lengths.now k opened.now) i 0 ≡ 0 → get_or (added apart.near (apart.near + apart.count - 1) (begun_counts first plan.now.layout.lengths.now row.now counts.old k)) i 0 ≡ 0 }
+    ensures holds_counts { HoldsCounts (is_marked row.now) (λ k. added apart.near (apart.near + apart.count - 1) (begun_counts first plan.now.layout.lengths.now row.now counts.old k)) plan.now.layout.lengths.now opened.now counts.new (length plan.now.layout.lengths.now) }
     ensures counts_len_unchanged { length counts.new ≡ length counts.old }
 {
     for w in 0..MARKS {
-        lead_sequences(plan, w, row, opened, first, d, n, counts);
+        lead_sequences(plan, w, row, opened, first, apart, counts);
     }
 }
 
@@ -132,6 +136,8 @@ fn add_sequences(plan: &Plan, w: usize, row: &[u64], counts: &[u64]) -> u64
     requires w_bound_2 { lists.sum (map (weight_at plan.now.layout.lengths.now row.now counts.now) (lists.run (w * 64) 64)) < 2 ^ 64 }
     ensures { result ≡ lists.sum (map (weight_at plan.now.layout.lengths.now row.now counts.now) (lists.run (w * 64) 64)) }
 {
+    let layout = plan.layout;
+    let offsets = plan.offsets;
     let base = w * BITS;
     let mut total: u64 = 0;
     // Kept by hand: by `SetBits` searches took 4 to 8 in 100 longer, though they ran as many instructions.
@@ -139,9 +145,9 @@ fn add_sequences(plan: &Plan, w: usize, row: &[u64], counts: &[u64]) -> u64
     while rest != 0 {
         let zeros = u64::trailing_zeros(rest);
         let at = base + zeros as usize;
-        let (from, to) = plan.layout.words(at);
-        let a = plan.offsets[at] as usize;
-        let e = plan.offsets[at + 1] as usize;
+        let (from, to) = layout.words(at);
+        let a = offsets[at] as usize;
+        let e = offsets[at + 1] as usize;
         total += counts::add(&row[from..to], &counts[a..e]);
         rest &= rest - 1;
     }
@@ -204,7 +210,7 @@ fn count_ways(
         };
         path::support(made, prefix, slots, 0, spare);
         let opened = path::slot(size as usize, slots);
-        lead_all(&plan, spare, opened, c == 1, apart.near, apart.count, ways);
+        lead_all(&plan, spare, opened, c == 1, apart, ways);
     }
 }
 

@@ -8,6 +8,7 @@ ghost use Rattle.rows.specs.Set.{row_marks, first_word, bits_at, is_marked, wind
 use super::layout::Layout;
 use super::set_bits::SetBits;
 use super::{BITS, MARKS, words};
+use rules::Distances;
 
 // A word shifted up by `d` places: 0 where all of its bits leave it.
 fn shift(word: u64, d: usize) -> u64
@@ -32,52 +33,46 @@ fn open_word(word: u64, d: usize, count: usize) -> u64
 }
 
 // Opens a gap in the words of a sequence, one of which is opened apart: most sets have short sequences. `spare` is lent for the work.
-fn open_sequence(d: usize, count: usize, spare: &mut [u64], row: &mut [u64])
-    requires { (length spare.old ≡ length row.old) × (1 ≤ count) }
-    ensures { held row.new ≡ window d count (held row.old) }
+fn open_sequence(apart: Distances, spare: &mut [u64], row: &mut [u64])
+    requires { (length spare.old ≡ length row.old) × (1 ≤ apart.count) }
+    ensures { held row.new ≡ window apart.near apart.count (held row.old) }
 {
     if row.len() == 1 {
-        row[0] = open_word(row[0], d, count);
+        row[0] = open_word(row[0], apart.near, apart.count);
         return;
     }
-    words::open_gap(d, count, spare, row);
+    words::open_gap(apart.near, apart.count, spare, row);
 }
 
 // Opens a gap in the sequences of one word of marks, those that have one.
-fn open_sequences(
-    layout: &Layout,
-    w: usize,
-    d: usize,
-    count: usize,
-    spare: &mut [u64],
-    row: &mut [u64],
-)
-    requires w_bound { (w < row_marks) × (1 ≤ count) }
+fn open_sequences(layout: &Layout, w: usize, apart: Distances, spare: &mut [u64], row: &mut [u64])
+    requires w_bound { (w < row_marks) × (1 ≤ apart.count) }
     requires bounded { Bounded layout.now.lengths.now row.old }
     requires lengths_in_bounds { (first_word layout.now.lengths.now (length layout.now.lengths.now) ≤ length row.old) × (length spare.old ≡ length row.old) }
     ensures row_unchanged { take (first_word layout.now.lengths.now (min (w * 64) (length layout.now.lengths.now))) row.new ≡ take (first_word layout.now.lengths.now (min (w * 64) (length layout.now.lengths.now))) row.old }
     ensures row_unchanged_2 { drop (first_word layout.now.lengths.now (w * 64 + 64)) row.new ≡ drop (first_word layout.now.lengths.now (w * 64 + 64)) row.old }
     ensures row_len_unchanged { (length row.new ≡ length row.old) × (length spare.new ≡ length spare.old) }
-    ensures by_index { (k : ℕ) → w * 64 ≤ k → k < w * 64 + 64 → is_marked row.old k ≡ true → bits_at layout.now.lengths.now k row.new ≡ window_at d count layout.now.lengths.now row.old k }
+    ensures by_index { (k : ℕ) → w * 64 ≤ k → k < w * 64 + 64 → is_marked row.old k ≡ true → bits_at layout.now.lengths.now k row.new ≡ window_at apart.near apart.count layout.now.lengths.now row.old k }
 {
+    let layout = *layout;
     let base = w * BITS;
     for place in SetBits(row[w]) {
         let at = base + place as usize;
         let (from, to) = layout.words(at);
-        open_sequence(d, count, &mut spare[from..to], &mut row[from..to]);
+        open_sequence(apart, &mut spare[from..to], &mut row[from..to]);
     }
 }
 
 // Opens a gap in every sequence that has a mark, each in its own words; the marks stay.
-pub fn open_all(layout: &Layout, d: usize, count: usize, spare: &mut [u64], row: &mut [u64])
-    requires count_bound { 1 ≤ count }
+pub fn open_all(layout: &Layout, apart: Distances, spare: &mut [u64], row: &mut [u64])
+    requires count_bound { 1 ≤ apart.count }
     requires bounded { Bounded layout.now.lengths.now row.old }
     requires lengths_in_bounds { (first_word layout.now.lengths.now (length layout.now.lengths.now) ≤ length row.old) × (length spare.old ≡ length row.old) }
     ensures marked { Marked (is_marked row.old) row.new sequence_set_sequences }
-    ensures filled { Filled (is_marked row.old) (window_at d count layout.now.lengths.now row.old) layout.now.lengths.now row.new (length layout.now.lengths.now) }
+    ensures filled { Filled (is_marked row.old) (window_at apart.near apart.count layout.now.lengths.now row.old) layout.now.lengths.now row.new (length layout.now.lengths.now) }
     ensures row_len_unchanged { (length row.new ≡ length row.old) × (length spare.new ≡ length spare.old) }
 {
     for w in 0..MARKS {
-        open_sequences(layout, w, d, count, spare, row);
+        open_sequences(layout, w, apart, spare, row);
     }
 }

@@ -111,6 +111,7 @@ fn keep_sequences(
     ensures out_after { result.lost ≤ most → (k : ℕ) → w * 64 ≤ k → k < w * 64 + 64 → is_marked row.now k ≡ true → bits_at layout.now.lengths.now k out.new ≡ extended_at i layout.now.lengths.now letter.now row.now k }
     ensures lost_value { result.lost ≤ most → tally (is_extended_marked i layout.now.lengths.now letter.now row.now) (w * 64) 64 + result.lost ≡ tally (is_marked row.now) (w * 64) 64 }
 {
+    let layout = *layout;
     let base = w * BITS;
     let mut left: u64 = 0;
     let mut lost: u32 = 0;

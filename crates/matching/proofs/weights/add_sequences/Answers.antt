@@ -206,8 +206,8 @@ returns c =
     let none = no_rest a.row.now a.w g.rests (omega (arith, c.loop-rest-test.false)) in
     omega (arith, weights_none s.layout.lengths.now a.row.now a.counts.now (a.w * 64 + 64) (a.w * 64 + g.upto) none, g.so_far)
 
-pub bounds-plan-at : goal.bounds-plan-at
-bounds-plan-at c =
+pub bounds-offsets-at : goal.bounds-offsets-at
+bounds-offsets-at c =
     let l = c.loop-rest in
     let a = c.args in
     let p = c.requires in
@@ -216,8 +216,8 @@ bounds-plan-at c =
     let n = next a.row.now a.w l.invariant.rests some s.layout.lengths.now s.layout.firsts.now p.bounded s.layout.laid p.w_bound in
     omega (arith, n.inside, s.offsets_laid.long)
 
-pub bounds-plan-at-in-loop-rest : goal.bounds-plan-at-in-loop-rest
-bounds-plan-at-in-loop-rest c =
+pub bounds-offsets-at-in-loop-rest : goal.bounds-offsets-at-in-loop-rest
+bounds-offsets-at-in-loop-rest c =
     let l = c.loop-rest in
     let a = c.args in
     let p = c.requires in

@@ -100,8 +100,8 @@ returns-clause-by_index_3 c =
     let none = no_rest a.row.now a.w g.rests (omega (arith, c.loop-rest-test.false)) in
     led_end _ _ _ _ _ _ _ _ g.so_far (a.w * 64 + 64) none
 
-pub bounds-plan-at : goal.bounds-plan-at
-bounds-plan-at c =
+pub bounds-offsets-at : goal.bounds-offsets-at
+bounds-offsets-at c =
     let l = c.loop-rest in
     let a = c.args in
     let p = c.requires in
@@ -110,8 +110,8 @@ bounds-plan-at c =
     let n = next a.row.now a.w l.invariant.rests some s.layout.lengths.now s.layout.firsts.now p.bounded s.layout.laid p.w_bound.0 in
     omega (arith, n.inside, s.offsets_laid.long)
 
-pub bounds-plan-at-in-loop-rest : goal.bounds-plan-at-in-loop-rest
-bounds-plan-at-in-loop-rest c =
+pub bounds-offsets-at-in-loop-rest : goal.bounds-offsets-at-in-loop-rest
+bounds-offsets-at-in-loop-rest c =
     let l = c.loop-rest in
     let a = c.args in
     let p = c.requires in
