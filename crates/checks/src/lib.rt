@@ -15,7 +15,7 @@ ghost use Rattle.rules.specs.Saved.{meets_place_rule};
 ghost use Rattle.rules.specs.Told.{told_checked};
 
 use rules::{
-    Component, Letter, Offset, Place, RecordNumber, Refusal, Search, SequenceSet, Template,
+    Component, Letter, Offset, Place, RecordNumber, Refusal, Search, SequenceSet, Sequences, Template,
 };
 use spelled::valid;
 
@@ -36,11 +36,11 @@ pub fn check_letters(letters: &[u8]) -> Result<(), Refusal>
 }
 
 // 3: lengths that do not add up to the letters. Each is taken from what is left of the letters, so that no sum is formed.
-pub fn check_sum(letters: &[u8], lengths: &[u32]) -> Result<(), Refusal>
-    ensures { told_checked result ≡ check3 letters.now lengths.now }
+pub fn check_sum(set: &Sequences) -> Result<(), Refusal>
+    ensures { told_checked result ≡ check3 set.now.letters.now set.now.lengths.now }
 {
-    let mut left = letters.len();
-    for n in lengths {
+    let mut left = set.letters.len();
+    for n in set.lengths {
         let n = *n as usize;
         if left < n {
             return Err(Refusal::LengthSum);
@@ -205,25 +205,24 @@ pub fn check_place(s: Search) -> Result<(), Refusal>
 }
 
 // 12: a search over other sequences than the lent ones.
-pub fn check_same_set(letters: &[u8], lengths: &[u32], s: Search) -> Result<(), Refusal>
-    ensures { told_checked result ≡ check12 letters.now lengths.now s }
+pub fn check_same_set(set: &Sequences, s: Search) -> Result<(), Refusal>
+    ensures { told_checked result ≡ check12 set.now.letters.now set.now.lengths.now s }
 {
-    let set = s.set;
-    let n = set.sequences as usize;
-    let m = set.letters as usize;
-    Refusal::OtherSet.when(!((n == lengths.len()) & (m == letters.len())))
+    let n = s.set.sequences as usize;
+    let m = s.set.letters as usize;
+    Refusal::OtherSet.when(!((n == set.lengths.len()) & (m == set.letters.len())))
 }
 
 // 1 to 4: the checks of the sequences. No length and no letter is read where there are too many of either, and no letter where the
 // lengths do not add up.
 #[tactic(auto, using(rules::proofs::Verdicts::in_turn), unfolding(rules::specs::Refusals::first))]
-pub fn check_set(letters: &[u8], lengths: &[u32]) -> Result<(), Refusal>
-    ensures { told_checked result ≡ first (set_checks letters.now lengths.now) }
+pub fn check_set(set: &Sequences) -> Result<(), Refusal>
+    ensures { told_checked result ≡ first (set_checks set.now.letters.now set.now.lengths.now) }
 {
-    check_sequences(lengths)?;
-    check_letters(letters)?;
-    check_sum(letters, lengths)?;
-    check_bytes(letters)
+    check_sequences(set.lengths)?;
+    check_letters(set.letters)?;
+    check_sum(set)?;
+    check_bytes(set.letters)
 }
 
 // 5 to 8 and 24: the checks of a template.
@@ -240,18 +239,18 @@ pub fn check_template(t: Template) -> Result<(), Refusal>
 
 // 1 to 8, 24 and 9: the checks of a new search.
 #[tactic(auto, using(rules::proofs::Verdicts::in_turn, crate::proofs::Laws::new_in_turn))]
-pub fn check_new(letters: &[u8], lengths: &[u32], t: Template, quorum: u64) -> Result<(), Refusal>
-    ensures { told_checked result ≡ first (new_checks letters.now lengths.now t quorum) }
+pub fn check_new(set: &Sequences, t: Template, quorum: u64) -> Result<(), Refusal>
+    ensures { told_checked result ≡ first (new_checks set.now.letters.now set.now.lengths.now t quorum) }
 {
-    check_set(letters, lengths)?;
+    check_set(set)?;
     check_template(t)?;
-    check_quorum(lengths, quorum)
+    check_quorum(set.lengths, quorum)
 }
 
 // 23, 6, 7, 8, 24, 12, 9: those of a search value whose number of components is in order, before 13.
 #[tactic(auto, using(rules::proofs::Verdicts::in_turn), unfolding(rules::specs::Refusals::first))]
-pub fn check_end(letters: &[u8], lengths: &[u32], s: Search) -> Result<(), Refusal>
-    ensures { told_checked result ≡ first (end_before_13 letters.now lengths.now s) }
+pub fn check_end(set: &Sequences, s: Search) -> Result<(), Refusal>
+    ensures { told_checked result ≡ first (end_before_13 set.now.letters.now set.now.lengths.now s) }
 {
     let t = s.template;
     check_place(s)?;
@@ -259,15 +258,15 @@ pub fn check_end(letters: &[u8], lengths: &[u32], s: Search) -> Result<(), Refus
     check_size(t)?;
     check_gaps(t)?;
     check_allowances(t)?;
-    check_same_set(letters, lengths, s)?;
-    check_quorum(lengths, s.quorum)
+    check_same_set(set, s)?;
+    check_quorum(set.lengths, s.quorum)
 }
 
 // 5, 23, 6, 7, 8, 24, 12, 9: those of a search value, before 13.
 #[tactic(auto, using(rules::proofs::Verdicts::in_turn), unfolding(rules::specs::Refusals::first))]
-pub fn check_value(letters: &[u8], lengths: &[u32], s: Search) -> Result<(), Refusal>
-    ensures { told_checked result ≡ first (value_checks_before_13 letters.now lengths.now s) }
+pub fn check_value(set: &Sequences, s: Search) -> Result<(), Refusal>
+    ensures { told_checked result ≡ first (value_checks_before_13 set.now.letters.now set.now.lengths.now s) }
 {
     check_count(s.template)?;
-    check_end(letters, lengths, s)
+    check_end(set, s)
 }

@@ -79,6 +79,13 @@ pub struct Template {
     pub c6: Component,
 }
 
+// The sequences as they are lent: their letters in one buffer, those of one sequence behind those of another, and each one's length.
+#[derive(Clone, Copy)]
+pub struct Sequences<'a> {
+    pub letters: &'a [u8],
+    pub lengths: &'a [u32],
+}
+
 // The size of the set of sequences that a search is over.
 #[derive(Clone, Copy)]
 pub struct SequenceSet {

@@ -12,16 +12,16 @@ unfolding check3
 returns-then-left-n c =
     let l = c.loop-n in
     let a = c.args in
-    simp (ne_eqb (sum a.lengths.now) (length a.letters.now) (λ e. omega (arith, sum_more a.lengths.now l.n-index c.loop-n-test.true)))
+    simp (ne_eqb (sum a.set.now.lengths.now) (length a.set.now.letters.now) (λ e. omega (arith, sum_more a.set.now.lengths.now l.n-index c.loop-n-test.true)))
 
 pub loop-n-preserved : goal.loop-n-preserved
 loop-n-preserved c =
     let l = c.loop-n in
-    omega (arith, sum_more c.args.lengths.now l.n-index c.loop-n-test.true)
+    omega (arith, sum_more c.args.set.now.lengths.now l.n-index c.loop-n-test.true)
 
 pub returns : goal.returns
 unfolding check3
 returns c =
     let l = c.loop-n in
     let a = c.args in
-    rw (same_left l.left (sum a.lengths.now) (length a.letters.now) (omega (arith, sum_over a.lengths.now l.n-index c.loop-n-test.false))) c.when.ensures
+    rw (same_left l.left (sum a.set.now.lengths.now) (length a.set.now.letters.now) (omega (arith, sum_over a.set.now.lengths.now l.n-index c.loop-n-test.false))) c.when.ensures

@@ -7,4 +7,4 @@ use Rattle.rules.specs.Lists.{sum}
 use Rattle.checks.proofs.check_sum.Given as goal
 
 abbrev pub invariant-loop-n : goal.invariant-loop-n
-invariant-loop-n l = l.left + sum l.lengths ≡ length l.letters + sum (drop l.n-index l.lengths)
+invariant-loop-n l = l.left + sum l.set.lengths.now ≡ length l.set.letters.now + sum (drop l.n-index l.set.lengths.now)
