@@ -7,7 +7,8 @@ ghost use Rattle.rules.specs.Template.{allowance_in};
 use crate::{Component, Place, Profile, Record, Search};
 
 impl Record {
-    // A record's bytes; the kinds of record, which its first byte tells; the records besides the components'.
+    // A record's bytes; the kinds of record, which its first byte tells; the records besides the components'. The kinds are bytes of a
+    // save, and no enum: a save is read by comparing each of its bytes with what it has to be.
     pub const BYTES: usize = 16;
 
     pub const SIZE: u8 = 1;

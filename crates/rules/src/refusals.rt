@@ -57,6 +57,7 @@ impl Refusal {
     }
 }
 
+// The two calls below are those of `Refusal`, and no trait: nothing takes a refusal of either kind.
 impl FileRefusal {
     // Its number in the paper.
     pub fn number(self) -> u64
