@@ -13,84 +13,71 @@ ghost use Rattle.rules.specs.declared.Search.{Search};
 use crate::shape;
 use crate::told::Stopped;
 use checks::{check_count, check_set};
-use rules::{Leg, Profile, RecordNumber, Recovered, Refusal, Search, Template};
+use rules::{Leg, Profile, RecordNumber, Recovered, Refusal, Search, Sequences, Template};
 
 // What a call with a number that is no profile's is refused with: that comes after the sequences and the number of components.
 #[tactic(auto, using(rules::proofs::Verdicts::in_turn), unfolding(crate::specs::Exported::no_profile))]
-fn no_profile(letters: &[u8], lengths: &[u32], template: Template) -> Result<(), Refusal>
-    ensures { told_checked result ≡ no_profile letters.now lengths.now template }
+fn no_profile(set: &Sequences, template: Template) -> Result<(), Refusal>
+    ensures { told_checked result ≡ no_profile set.now.letters.now set.now.lengths.now template }
 {
-    check_set(letters, lengths)?;
+    check_set(set)?;
     check_count(template)?;
     Err(Refusal::SavedBlank(RecordNumber(0)))
 }
 
 // A number that is no profile's is refused.
 #[tactic(auto, unfolding(crate::specs::Exported::profile_check))]
-fn check_profile(
-    letters: &[u8],
-    lengths: &[u32],
-    profile: u16,
-    template: Template,
-) -> Result<(), Refusal>
-    ensures { told_checked result ≡ profile_check letters.now lengths.now profile template }
+fn check_profile(set: &Sequences, profile: u16, template: Template) -> Result<(), Refusal>
+    ensures { told_checked result ≡ profile_check set.now.letters.now set.now.lengths.now profile template }
 {
     match Profile::try_from(u64::from(profile)) {
         Ok(_) => Ok(()),
-        Err(_) => no_profile(letters, lengths, template),
+        Err(_) => no_profile(set, template),
     }
 }
 
 // Begins a search, unless its profile is refused, and writes it: it was checked as it was begun.
 #[tactic(auto, using(rules::proofs::Verdicts::in_turn))]
 pub fn begin(
-    letters: &[u8],
-    lengths: &[u32],
+    set: &Sequences,
     profile: u16,
     t: Template,
     quorum: u64,
     saved: &mut [u8],
 ) -> Result<usize, Refusal>
-    ensures result_value { told_answer result ≡ (write_begun (on_refusal (profile_check letters.now lengths.now profile t) refuses (begin_rule letters.now lengths.now t quorum)) saved.old).told }
-    ensures saved_after { saved.new ≡ (write_begun (on_refusal (profile_check letters.now lengths.now profile t) refuses (begin_rule letters.now lengths.now t quorum)) saved.old).out }
+    ensures result_value { told_answer result ≡ (write_begun (on_refusal (profile_check set.now.letters.now set.now.lengths.now profile t) refuses (begin_rule set.now.letters.now set.now.lengths.now t quorum)) saved.old).told }
+    ensures saved_after { saved.new ≡ (write_begun (on_refusal (profile_check set.now.letters.now set.now.lengths.now profile t) refuses (begin_rule set.now.letters.now set.now.lengths.now t quorum)) saved.old).out }
 {
-    check_profile(letters, lengths, profile, t)?;
-    let begun = search::begin(letters, lengths, t, quorum)?;
+    check_profile(set, profile, t)?;
+    let begun = search::begin(set, t, quorum)?;
     records::write_search(begun, saved)
 }
 
 // Saves a search, unless its profile is refused.
 #[tactic(auto, using(rules::proofs::Verdicts::in_turn))]
-pub fn save(
-    letters: &[u8],
-    lengths: &[u32],
-    profile: u16,
-    search: Search,
-    out: &mut [u8],
-) -> Result<usize, Refusal>
-    ensures result_value { told_answer result ≡ (checked_written (profile_check letters.now lengths.now profile search.template) (save_rule letters.now lengths.now search out.old) out.old).told }
-    ensures out_after { out.new ≡ (checked_written (profile_check letters.now lengths.now profile search.template) (save_rule letters.now lengths.now search out.old) out.old).out }
+pub fn save(set: &Sequences, profile: u16, search: Search, out: &mut [u8]) -> Result<usize, Refusal>
+    ensures result_value { told_answer result ≡ (checked_written (profile_check set.now.letters.now set.now.lengths.now profile search.template) (save_rule set.now.letters.now set.now.lengths.now search out.old) out.old).told }
+    ensures out_after { out.new ≡ (checked_written (profile_check set.now.letters.now set.now.lengths.now profile search.template) (save_rule set.now.letters.now set.now.lengths.now search out.old) out.old).out }
 {
-    check_profile(letters, lengths, profile, search.template)?;
-    saved::save(letters, lengths, search, out)
+    check_profile(set, profile, search.template)?;
+    saved::save(set, search, out)
 }
 
 // Recovers the occurrences of a motif, unless its profile is refused.
 #[tactic(auto, using(rules::proofs::Verdicts::in_turn))]
 pub fn recover(
-    letters: &[u8],
-    lengths: &[u32],
+    set: &Sequences,
     profile: u16,
     template: Template,
     motif: u64,
     first: u64,
     out: &mut [u32],
 ) -> Result<Recovered, Refusal>
-    ensures result_value { told_answer result ≡ (checked_written (profile_check letters.now lengths.now profile template) (recover_rule letters.now lengths.now template motif first out.old) out.old).told }
-    ensures out_after { out.new ≡ (checked_written (profile_check letters.now lengths.now profile template) (recover_rule letters.now lengths.now template motif first out.old) out.old).out }
+    ensures result_value { told_answer result ≡ (checked_written (profile_check set.now.letters.now set.now.lengths.now profile template) (recover_rule set.now.letters.now set.now.lengths.now template motif first out.old) out.old).told }
+    ensures out_after { out.new ≡ (checked_written (profile_check set.now.letters.now set.now.lengths.now profile template) (recover_rule set.now.letters.now set.now.lengths.now template motif first out.old) out.old).out }
 {
-    check_profile(letters, lengths, profile, template)?;
-    recovery::recover(letters, lengths, template, motif, first, out)
+    check_profile(set, profile, template)?;
+    recovery::recover(set, template, motif, first, out)
 }
 
 // Writes the search that a leg leaves, and nothing where the leg was refused.
@@ -107,8 +94,7 @@ fn save_left(leg: Leg, saved: &mut [u8])
 // the leg checks that. What it leaves needs no check: the search passes through the place, and its save is as long as the one that it
 // was read of.
 fn run(
-    letters: &[u8],
-    lengths: &[u32],
+    set: &Sequences,
     search: Search,
     budget: u64,
     saved: &mut [u8],
@@ -116,10 +102,10 @@ fn run(
     supports: &mut [u32],
     weights: &mut [u64],
 ) -> Stopped
-    requires { gives search ≡ read_rule letters.now lengths.now saved.old }
-    ensures { leg_of result saved.new motifs.new supports.new weights.new ≡ leg_outcome letters.now lengths.now saved.old budget motifs.old supports.old weights.old }
+    requires { gives search ≡ read_rule set.now.letters.now set.now.lengths.now saved.old }
+    ensures { leg_of result saved.new motifs.new supports.new weights.new ≡ leg_outcome set.now.letters.now set.now.lengths.now saved.old budget motifs.old supports.old weights.old }
 {
-    let leg = legs::leg(letters, lengths, search, budget, motifs, supports, weights);
+    let leg = legs::leg(set, search, budget, motifs, supports, weights);
     save_left(leg, saved);
     Stopped::from(leg)
 }
@@ -127,20 +113,17 @@ fn run(
 // Runs a leg of the search that `saved` holds.
 #[tactic(auto, using(records::proofs::Before::refused_before), unfolding(crate::specs::Exported::leg_outcome, crate::specs::Exported::leg_from))]
 pub fn leg(
-    letters: &[u8],
-    lengths: &[u32],
+    set: &Sequences,
     budget: u64,
     saved: &mut [u8],
     motifs: &mut [u64],
     supports: &mut [u32],
     weights: &mut [u64],
 ) -> Stopped
-    ensures { leg_of result saved.new motifs.new supports.new weights.new ≡ leg_outcome letters.now lengths.now saved.old budget motifs.old supports.old weights.old }
+    ensures { leg_of result saved.new motifs.new supports.new weights.new ≡ leg_outcome set.now.letters.now set.now.lengths.now saved.old budget motifs.old supports.old weights.old }
 {
-    match records::read_saved(letters, lengths, saved) {
-        Ok(search) => run(
-            letters, lengths, search, budget, saved, motifs, supports, weights,
-        ),
+    match records::read_saved(set, saved) {
+        Ok(search) => run(set, search, budget, saved, motifs, supports, weights),
         Err(why) => Stopped::from(why),
     }
 }

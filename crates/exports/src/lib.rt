@@ -12,7 +12,7 @@ ghost use Rattle.std.specs.Prelude.{◌≡◌};
 ghost use Rattle.exports.specs.Exported.{outcome, leg_of, search_of, begin_outcome, leg_outcome, restore_of, restore_outcome, save_outcome, recover_outcome, join_outcome, fasta_of, fasta_outcome};
 ghost use Rattle.exports.specs.Numbers.{count_answer, page_answer, stopped_answer, restored_answer};
 
-use rules::{Place, Search, SequenceSet};
+use rules::{Place, Search, SequenceSet, Sequences};
 use told::{Count, Found, Page, Restored};
 
 // A new search, saved to `saved`; `size` is the save's length.
@@ -33,7 +33,13 @@ pub extern "C" fn tulfasheq_begin(
     ensures { outcome (count_answer result place.new size.new) saved.new ≡ begin_outcome letters.now lengths.now profile components shape.now allowances.now quorum saved.old }
 {
     let t = shape::read(profile, components, shape, allowances);
-    let told = Count::from(chain::begin(letters, lengths, profile, t, quorum, saved));
+    let told = Count::from(chain::begin(
+        &Sequences { letters, lengths },
+        profile,
+        t,
+        quorum,
+        saved,
+    ));
     *place = told.place;
     *size = told.count;
     told.number
@@ -57,7 +63,14 @@ pub extern "C" fn tulfasheq_leg(
 ) -> u64
     ensures { leg_of (stopped_answer result place.new stop.new steps.new rows.new) saved.new motifs.new supports.new weights.new ≡ leg_outcome letters.now lengths.now saved.old budget motifs.old supports.old weights.old }
 {
-    let told = chain::leg(letters, lengths, budget, saved, motifs, supports, weights);
+    let told = chain::leg(
+        &Sequences { letters, lengths },
+        budget,
+        saved,
+        motifs,
+        supports,
+        weights,
+    );
     *place = told.place;
     *stop = told.stop;
     *steps = told.steps;
@@ -86,7 +99,7 @@ pub extern "C" fn tulfasheq_restore(
 ) -> u64
     ensures { restore_of (restored_answer result place.new profile.new components.new quorum.new sequences.new total.new next_letters.new next_number.new) shape.new allowances.new ≡ restore_outcome letters.now lengths.now saved.now shape.old allowances.old }
 {
-    let answer = saved::restore(letters, lengths, saved);
+    let answer = saved::restore(&Sequences { letters, lengths }, saved);
     let told = Restored::from(answer);
     chain::write(answer, shape, allowances);
     *place = told.place;
@@ -125,7 +138,7 @@ pub extern "C" fn tulfasheq_save(
     let set = SequenceSet::new(sequences, total);
     let next = Place::new(next_letters, next_number);
     let search = Search::new(template, quorum, set, next);
-    let told = Count::from(chain::save(letters, lengths, profile, search, out));
+    let told = Count::from(chain::save(&Sequences { letters, lengths }, profile, search, out));
     *place = told.place;
     *size = told.count;
     told.number
@@ -152,7 +165,14 @@ pub extern "C" fn tulfasheq_recover(
     ensures { outcome (page_answer result place.new rows.new length.new) out.new ≡ recover_outcome letters.now lengths.now profile components shape.now allowances.now motif first out.old }
 {
     let t = shape::read(profile, components, shape, allowances);
-    let told = Page::from(chain::recover(letters, lengths, profile, t, motif, first, out));
+    let told = Page::from(chain::recover(
+        &Sequences { letters, lengths },
+        profile,
+        t,
+        motif,
+        first,
+        out,
+    ));
     *place = told.place;
     *rows = told.rows;
     *length = told.length;

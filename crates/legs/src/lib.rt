@@ -11,24 +11,23 @@ ghost use Rattle.rules.specs.Told.{fine, told_leg};
 
 use matching::made::Spot;
 use matching::tables;
-use rules::{Leg, Search, SequenceSet};
+use rules::{Leg, Search, SequenceSet, Sequences};
 
 // A leg of a search, as `search::leg` promises it, of which 13 alone is left to check. The tables that it works in are its own, and
 // have the path of its place once 13 is checked: it goes on from there.
 pub fn leg(
-    letters: &[u8],
-    lengths: &[u32],
+    set: &Sequences,
     search: Search,
     budget: u64,
     motifs: &mut [u64],
     supports: &mut [u32],
     weights: &mut [u64],
 ) -> Leg
-    requires { before_13 letters.now lengths.now search ≡ fine }
-    ensures result_value { told_leg result ≡ (leg_rule letters.now lengths.now search budget motifs.old supports.old weights.old).told }
-    ensures motifs_after { motifs.new ≡ (leg_rule letters.now lengths.now search budget motifs.old supports.old weights.old).motifs }
-    ensures supports_after { supports.new ≡ (leg_rule letters.now lengths.now search budget motifs.old supports.old weights.old).supports }
-    ensures weights_after { weights.new ≡ (leg_rule letters.now lengths.now search budget motifs.old supports.old weights.old).weights }
+    requires { before_13 set.now.letters.now set.now.lengths.now search ≡ fine }
+    ensures result_value { told_leg result ≡ (leg_rule set.now.letters.now set.now.lengths.now search budget motifs.old supports.old weights.old).told }
+    ensures motifs_after { motifs.new ≡ (leg_rule set.now.letters.now set.now.lengths.now search budget motifs.old supports.old weights.old).motifs }
+    ensures supports_after { supports.new ≡ (leg_rule set.now.letters.now set.now.lengths.now search budget motifs.old supports.old weights.old).supports }
+    ensures weights_after { weights.new ≡ (leg_rule set.now.letters.now set.now.lengths.now search budget motifs.old supports.old weights.old).weights }
 {
     let mut inside = [Spot::FIRST; matching::LETTERS];
     let mut firsts = [0u32; matching::FIRSTS];
@@ -40,8 +39,7 @@ pub fn leg(
     let mut ways = [0u64; SequenceSet::LETTERS];
     let made = tables::make(
         search,
-        letters,
-        lengths,
+        set,
         &mut inside,
         &mut firsts,
         &mut offsets,

@@ -11,8 +11,7 @@ ghost use Rattle.rows.specs.Set.{row_words};
 use super::letters::{letter_rows, letter_slots};
 use super::made::{Made, Plan, Spot};
 use super::{SLOTS, WORDS};
-use rows::set;
-use rules::{Search, Template};
+use rules::{Search, Sequences, Template};
 
 // The places of the `n` letters of component `k`, the first of which is letter `from` of a motif.
 fn place_component(k: u8, n: u8, from: usize, inside: &mut [Spot])
@@ -47,22 +46,21 @@ fn place_letters(template: Template, inside: &mut [Spot])
 }
 
 // The slot of the prefix with no letters, which the first letter is added to: it has every mark and every bit.
-fn first_slot(template: Template, letters: &[u8], lengths: &[u32], slot: &mut [u64])
+fn first_slot(template: Template, set: &Sequences, slot: &mut [u64])
     requires sound_template { SoundTemplate template }
-    requires sound_set { SoundSet letters.now lengths.now }
+    requires sound_set { SoundSet set.now.letters.now set.now.lengths.now }
     requires slot_len { length slot.old ≡ row_words }
-    ensures slot { Slot template lengths.now letters.now slot.new 0 0 }
+    ensures slot { Slot template set.now.lengths.now set.now.letters.now slot.new 0 0 }
     ensures slot_len_unchanged { length slot.new ≡ length slot.old }
 {
-    let n = lengths.len();
-    set::begin(n, slot);
+    let n = set.lengths.len();
+    rows::set::begin(n, slot);
 }
 
 // All but the rows of the letters that only a motif has.
-pub fn begin<'a>(
+pub fn begin<'a, 's: 'a>(
     search: Search,
-    letters: &'a [u8],
-    lengths: &'a [u32],
+    set: &Sequences<'s>,
     inside: &'a mut [Spot],
     firsts: &'a mut [u32],
     offsets: &'a mut [u32],
@@ -70,21 +68,21 @@ pub fn begin<'a>(
     slot: &mut [u64],
 ) -> Plan<'a>
     requires sound_template { SoundTemplate search.template }
-    requires sound_set { SoundSet letters.now lengths.now }
-    requires template_in_bounds { (templates.size search.template ≤ length inside.old) × (length lengths.now < length firsts.old) × (length lengths.now < length offsets.old) × (letter_bases * row_words ≤ length standing.old) × (length slot.old ≡ row_words) }
-    ensures plan { (result.search ≡ search) × (result.letters.now ≡ letters.now) × (result.layout.lengths.now ≡ lengths.now) }
-    ensures base_rows { BaseRows lengths.now letters.now standing.new }
-    ensures slot { Slot search.template lengths.now letters.now slot.new 0 0 }
+    requires sound_set { SoundSet set.now.letters.now set.now.lengths.now }
+    requires template_in_bounds { (templates.size search.template ≤ length inside.old) × (length set.now.lengths.now < length firsts.old) × (length set.now.lengths.now < length offsets.old) × (letter_bases * row_words ≤ length standing.old) × (length slot.old ≡ row_words) }
+    ensures plan { (result.search ≡ search) × (result.letters.now ≡ set.now.letters.now) × (result.layout.lengths.now ≡ set.now.lengths.now) }
+    ensures base_rows { BaseRows set.now.lengths.now set.now.letters.now standing.new }
+    ensures slot { Slot search.template set.now.lengths.now set.now.letters.now slot.new 0 0 }
     ensures standing_len_unchanged { (length standing.new ≡ length standing.old) × (length slot.new ≡ length slot.old) }
 {
     let template = search.template;
     place_letters(template, inside);
-    let layout = set::lay_out(lengths, firsts, offsets);
-    first_slot(template, letters, lengths, slot);
+    let layout = rows::set::lay_out(set.lengths, firsts, offsets);
+    first_slot(template, set, slot);
     let plan = Plan {
         search,
         depth: template.letters() as u8,
-        letters,
+        letters: set.letters,
         layout,
         inside,
         offsets,
@@ -95,10 +93,9 @@ pub fn begin<'a>(
 
 // All of it, and the first slot of the path. `work` is lent for a row. The letters' rows are kept for as many places as `standing` has room
 // for, at least one.
-pub fn make<'a>(
+pub fn make<'a, 's: 'a>(
     search: Search,
-    letters: &'a [u8],
-    lengths: &'a [u32],
+    set: &Sequences<'s>,
     inside: &'a mut [Spot],
     firsts: &'a mut [u32],
     offsets: &'a mut [u32],
@@ -107,15 +104,14 @@ pub fn make<'a>(
     work: &mut [u64; WORDS],
 ) -> Made<'a>
     requires sound_template { SoundTemplate search.template }
-    requires sound_set { SoundSet letters.now lengths.now }
-    requires template_in_bounds { (templates.size search.template ≤ length inside.old) × (length lengths.now < length firsts.old) × (length lengths.now < length offsets.old) × (base_of search.template * row_words ≤ length standing.old) × (length standing.old ≤ letter_shifts * letter_bases * row_words) }
-    ensures plan { (result.plan.search ≡ search) × (result.plan.letters.now ≡ letters.now) × (result.plan.layout.lengths.now ≡ lengths.now) }
-    ensures slot { Slot search.template lengths.now letters.now (row_slot 0 slots.new) 0 0 }
+    requires sound_set { SoundSet set.now.letters.now set.now.lengths.now }
+    requires template_in_bounds { (templates.size search.template ≤ length inside.old) × (length set.now.lengths.now < length firsts.old) × (length set.now.lengths.now < length offsets.old) × (base_of search.template * row_words ≤ length standing.old) × (length standing.old ≤ letter_shifts * letter_bases * row_words) }
+    ensures plan { (result.plan.search ≡ search) × (result.plan.letters.now ≡ set.now.letters.now) × (result.plan.layout.lengths.now ≡ set.now.lengths.now) }
+    ensures slot { Slot search.template set.now.lengths.now set.now.letters.now (row_slot 0 slots.new) 0 0 }
 {
     let plan = begin(
         search,
-        letters,
-        lengths,
+        set,
         inside,
         firsts,
         offsets,

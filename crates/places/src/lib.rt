@@ -12,7 +12,7 @@ ghost use Rattle.places.specs.SearchOrder.{before_13};
 
 use matching::made::{Made, Spot};
 use matching::{SLOTS, WORDS, path, tables};
-use rules::{Refusal, Search};
+use rules::{Refusal, Search, Sequences};
 
 // Whether the prefix of a place that is one letter shorter is frequent, if this is its support. The empty one is, which is asked for none.
 fn frequent(quorum: u64, found: Option<u32>) -> bool
@@ -60,12 +60,12 @@ pub fn check_passes(
 
 // Whether the place of a search, one with letters, is a candidate, for a caller that goes on with no leg. The tables are made for it
 // alone, with two slots instead of a path, and one row for each letter, which is shifted as it is used.
-fn candidate_alone(letters: &[u8], lengths: &[u32], s: Search) -> bool
-    requires sound_set { SoundSet letters.now lengths.now }
+fn candidate_alone(set: &Sequences, s: Search) -> bool
+    requires sound_set { SoundSet set.now.letters.now set.now.lengths.now }
     requires sound_template { SoundTemplate s.template }
     requires place_value { meets_place_rule s.template s.place ≡ true }
     requires le_letters { 1 ≤ s.place.letters }
-    ensures { result ≡ is_passing letters.now lengths.now s }
+    ensures { result ≡ is_passing set.now.letters.now set.now.lengths.now s }
 {
     let mut inside = [Spot::FIRST; matching::LETTERS];
     let mut firsts = [0u32; matching::FIRSTS];
@@ -76,8 +76,7 @@ fn candidate_alone(letters: &[u8], lengths: &[u32], s: Search) -> bool
     let mut odd = [0u64; matching::WORDS];
     let plan = tables::begin(
         s,
-        letters,
-        lengths,
+        set,
         &mut inside,
         &mut firsts,
         &mut offsets,
@@ -90,43 +89,43 @@ fn candidate_alone(letters: &[u8], lengths: &[u32], s: Search) -> bool
 
 // Whether the place of a search is the ended place or a candidate, the same as `passes` for a caller that goes on with no leg: the
 // ended place and a place of one letter need no table.
-fn passes_alone(letters: &[u8], lengths: &[u32], s: Search) -> bool
-    requires sound_set { SoundSet letters.now lengths.now }
+fn passes_alone(set: &Sequences, s: Search) -> bool
+    requires sound_set { SoundSet set.now.letters.now set.now.lengths.now }
     requires sound_template { SoundTemplate s.template }
     requires place_value { meets_place_rule s.template s.place ≡ true }
-    ensures { result ≡ is_passing letters.now lengths.now s }
+    ensures { result ≡ is_passing set.now.letters.now set.now.lengths.now s }
 {
     match s.place.letters {
         0 => s.place.number == 0,
         1 => true,
-        _ => candidate_alone(letters, lengths, s),
+        _ => candidate_alone(set, s),
     }
 }
 
 // 13, for a caller that goes on with no leg.
-pub fn check_13(letters: &[u8], lengths: &[u32], s: Search) -> Result<(), Refusal>
-    requires sound_set { SoundSet letters.now lengths.now }
+pub fn check_13(set: &Sequences, s: Search) -> Result<(), Refusal>
+    requires sound_set { SoundSet set.now.letters.now set.now.lengths.now }
     requires sound_template { SoundTemplate s.template }
     requires place_value { meets_place_rule s.template s.place ≡ true }
-    ensures { told_checked result ≡ check13 letters.now lengths.now s }
+    ensures { told_checked result ≡ check13 set.now.letters.now set.now.lengths.now s }
 {
-    let alone = passes_alone(letters, lengths, s);
+    let alone = passes_alone(set, s);
     Refusal::NotACandidate.when(!alone)
 }
 
 // 1 to 4, 5, 23, 6, 7, 8, 24, 12, 9: what a leg or a save checks of its search before 13.
 #[tactic(auto, using(rules::proofs::Verdicts::in_turn), unfolding(crate::specs::SearchOrder::before_13))]
-pub fn check_before_13(letters: &[u8], lengths: &[u32], s: Search) -> Result<(), Refusal>
-    ensures { told_checked result ≡ before_13 letters.now lengths.now s }
+pub fn check_before_13(set: &Sequences, s: Search) -> Result<(), Refusal>
+    ensures { told_checked result ≡ before_13 set.now.letters.now set.now.lengths.now s }
 {
-    checks::check_set(letters, lengths)?;
-    checks::check_value(letters, lengths, s)
+    checks::check_set(set)?;
+    checks::check_value(set, s)
 }
 
 // All that a save checks of its search.
-pub fn check_alone(letters: &[u8], lengths: &[u32], s: Search) -> Result<(), Refusal>
-    ensures { told_checked result ≡ first (search_checks letters.now lengths.now s) }
+pub fn check_alone(set: &Sequences, s: Search) -> Result<(), Refusal>
+    ensures { told_checked result ≡ first (search_checks set.now.letters.now set.now.lengths.now s) }
 {
-    check_before_13(letters, lengths, s)?;
-    check_13(letters, lengths, s)
+    check_before_13(set, s)?;
+    check_13(set, s)
 }

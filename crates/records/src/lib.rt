@@ -20,38 +20,33 @@ use blanks::check_blanks;
 use checks::{check_count, check_end, check_set};
 use kinds::check_kinds;
 use read::SavedBytes;
-use rules::{Refusal, Search};
+use rules::{Refusal, Search, Sequences};
 use sizes::{check_adds_up, check_sized};
 pub use write::write_search;
 
 // 10, 5, 11, 21, 22, 23, 6, 7, 8, 24, 12, 9: a restore's order before 13, where the sequences passed 1 to 4.
 #[tactic(auto, using(rules::proofs::Verdicts::in_turn), unfolding(rules::specs::Refusals::first))]
-fn check_saved(
-    letters: &[u8],
-    lengths: &[u32],
-    bytes: SavedBytes<'_>,
-    s: Search,
-) -> Result<(), Refusal>
+fn check_saved(set: &Sequences, bytes: SavedBytes<'_>, s: Search) -> Result<(), Refusal>
     requires { s ≡ read_search bytes.0.now }
-    ensures { told_checked result ≡ first (saved_checks_before_13 letters.now lengths.now bytes.entry.0.now) }
+    ensures { told_checked result ≡ first (saved_checks_before_13 set.now.letters.now set.now.lengths.now bytes.entry.0.now) }
 {
     check_sized(bytes)?;
     check_count(s.template)?;
     check_kinds(bytes)?;
     check_blanks(bytes)?;
     check_adds_up(bytes, s)?;
-    check_end(letters, lengths, s)
+    check_end(set, s)
 }
 
 // The search that saved bytes hold, over the same sequences, or what they are refused with before 13: whether the search passes through
 // its place is left to the caller.
 #[tactic(auto, using(rules::proofs::Verdicts::in_turn, crate::proofs::Before::in_turn))]
-pub fn read_saved(letters: &[u8], lengths: &[u32], bytes: &[u8]) -> Result<Search, Refusal>
-    ensures { told_answer result ≡ read_rule letters.now lengths.now bytes.now }
+pub fn read_saved(set: &Sequences, bytes: &[u8]) -> Result<Search, Refusal>
+    ensures { told_answer result ≡ read_rule set.now.letters.now set.now.lengths.now bytes.now }
 {
-    check_set(letters, lengths)?;
+    check_set(set)?;
     let bytes = SavedBytes(bytes);
     let s = bytes.search();
-    check_saved(letters, lengths, bytes, s)?;
+    check_saved(set, bytes, s)?;
     Ok(s)
 }

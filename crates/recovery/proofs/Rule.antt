@@ -1,7 +1,6 @@
 -- The rule of a recovery, part by part: what 1 to 8, 24 and 14 refuse is refused; else 15 is refused if the first row lies past the
 -- list, and else the rows that went out are a page of it, since each has a number for the sequence and one for each component.
 use mathlib.Core.Path.{◌≡◌, refl, sym, ap, ◌∙◌}
-use mathlib.Core.Bool.{Bool, true, false}
 use mathlib.Core.List.{List, [], ◌∷◌, ◌++◌, Memᴰ}
 use Prim.Native.Nat.{ℕ, suc, ◌-◌, ◌≤◌, ◌<◌}
 use native.Mathlib.Omega.{arith}
@@ -19,9 +18,9 @@ use Rattle.rules.specs.Recovery as list
 use Rattle.rules.specs.Refusals.{◌else◌, first, check14, check15, set_checks, recover_checks}
 use Rattle.rules.specs.Sequences.{sequences}
 use Rattle.rules.specs.Sound.{SoundSet, SoundTemplate}
-use Rattle.rules.specs.Support.{occurrence_rows, parts, valid}
+use Rattle.rules.specs.Support.{occurrence_rows, parts}
 use Rattle.rules.specs.Template.{size}
-use Rattle.rules.specs.Told.{Verdict, Told, fine, refused, gives, refuses}
+use Rattle.rules.specs.Told.{Told, fine, refused, gives, refuses}
 use Rattle.rules.specs.declared.Template.{Template}
 use Rattle.rules.specs.declared.Recovered.{Recovered}
 use Rattle.rules.proofs.Occurs.{parts_worded, rows_are}

@@ -20,7 +20,7 @@ ghost use Rattle.ways.specs.Counts.{counts, aligned};
 use checks::spelled::valid;
 use checks::{check_set, check_template};
 use descent::{Descent, FLAGS, Page};
-use rules::{Offset, Recovered, Refusal, SequenceNumber, SequenceSet, Template};
+use rules::{Offset, Recovered, Refusal, SequenceNumber, SequenceSet, Sequences, Template};
 use ways::{step, sum};
 
 // Sets the flags of the positions that have a number above 0, and clears the others.
@@ -108,27 +108,26 @@ fn list_sequence(
 
 // The rows of all sequences, each by its own part of the letters, and how many there are.
 fn list_sequences(
-    letters: &[u8],
-    lengths: &[u32],
+    set: &Sequences,
     template: Template,
     motif: u64,
     ways: &mut [u64; SequenceSet::LETTERS],
     flags: &mut [bool; FLAGS],
     page: &mut Page<'_>,
 ) -> u64
-    requires sound_set { SoundSet letters.now lengths.now }
+    requires sound_set { SoundSet set.now.letters.now set.now.lengths.now }
     requires sound_template { SoundTemplate template }
     ensures same_buffer { page.new.out.ghost_name ≡ page.old.out.ghost_name }
-    ensures page_after { buffer page.new.progress page.new.out.now ≡ emits (suc template.count) (occurrence_rows (parts template (size template) motif) (sequences letters.now lengths.now)) (buffer page.old.progress page.old.out.now) }
-    ensures length_value { result ≡ length (occurrence_rows (parts template (size template) motif) (sequences letters.now lengths.now)) }
+    ensures page_after { buffer page.new.progress page.new.out.now ≡ emits (suc template.count) (occurrence_rows (parts template (size template) motif) (sequences set.now.letters.now set.now.lengths.now)) (buffer page.old.progress page.old.out.now) }
+    ensures length_value { result ≡ length (occurrence_rows (parts template (size template) motif) (sequences set.now.letters.now set.now.lengths.now)) }
 {
     let mut length: u64 = 0;
     let mut begin: usize = 0;
-    for (i, letters_here) in lengths.iter().enumerate() {
+    for (i, letters_here) in set.lengths.iter().enumerate() {
         let end = begin + *letters_here as usize;
         let number = i + 1;
         length += list_sequence(
-            SequenceSet::part(letters, Offset(begin), Offset(end)),
+            SequenceSet::part(set.letters, Offset(begin), Offset(end)),
             SequenceNumber(number),
             template,
             motif,
@@ -151,15 +150,10 @@ fn check_motif(template: Template, motif: u64) -> Result<(), Refusal>
 
 // 1 to 8, 24 and 14.
 #[tactic(auto, using(rules::proofs::Verdicts::in_turn, crate::proofs::Rule::in_turn))]
-fn check_recovery(
-    letters: &[u8],
-    lengths: &[u32],
-    template: Template,
-    motif: u64,
-) -> Result<(), Refusal>
-    ensures { told_checked result ≡ first (first_checks letters.now lengths.now template motif) }
+fn check_recovery(set: &Sequences, template: Template, motif: u64) -> Result<(), Refusal>
+    ensures { told_checked result ≡ first (first_checks set.now.letters.now set.now.lengths.now template motif) }
 {
-    check_set(letters, lengths)?;
+    check_set(set)?;
     check_template(template)?;
     check_motif(template, motif)
 }
@@ -167,24 +161,21 @@ fn check_recovery(
 // What comes of it once those have passed. The list's length is counted, not listed; where the first row asked for lies above
 // it, all rows are passed over and nothing is written.
 fn recover_rows(
-    letters: &[u8],
-    lengths: &[u32],
+    set: &Sequences,
     template: Template,
     motif: u64,
     first: u64,
     out: &mut [u32],
 ) -> Result<Recovered, Refusal>
-    requires sound_set { SoundSet letters.now lengths.now }
+    requires sound_set { SoundSet set.now.letters.now set.now.lengths.now }
     requires sound_template { SoundTemplate template }
-    ensures result_value { told_answer result ≡ (rows_rule letters.now lengths.now template motif first out.old).told }
-    ensures out_after { out.new ≡ (rows_rule letters.now lengths.now template motif first out.old).out }
+    ensures result_value { told_answer result ≡ (rows_rule set.now.letters.now set.now.lengths.now template motif first out.old).told }
+    ensures out_after { out.new ≡ (rows_rule set.now.letters.now set.now.lengths.now template motif first out.old).out }
 {
     let mut ways = [0u64; SequenceSet::LETTERS];
     let mut flags = [false; FLAGS];
     let mut page = Page::new(first, out);
-    let length = list_sequences(
-        letters, lengths, template, motif, &mut ways, &mut flags, &mut page,
-    );
+    let length = list_sequences(set, template, motif, &mut ways, &mut flags, &mut page);
     if length < first {
         return Err(Refusal::FirstRow);
     }
@@ -200,16 +191,15 @@ fn recover_rows(
 // Refused, with nothing written: sequences (1 to 4) or a template (5 to 8, 24) that break a rule, a number that is no motif's (14),
 // and a first row above the list's length (15).
 pub fn recover(
-    letters: &[u8],
-    lengths: &[u32],
+    set: &Sequences,
     template: Template,
     motif: u64,
     first: u64,
     out: &mut [u32],
 ) -> Result<Recovered, Refusal>
-    ensures result_value { told_answer result ≡ (recover_rule letters.now lengths.now template motif first out.old).told }
-    ensures out_after { out.new ≡ (recover_rule letters.now lengths.now template motif first out.old).out }
+    ensures result_value { told_answer result ≡ (recover_rule set.now.letters.now set.now.lengths.now template motif first out.old).told }
+    ensures out_after { out.new ≡ (recover_rule set.now.letters.now set.now.lengths.now template motif first out.old).out }
 {
-    check_recovery(letters, lengths, template, motif)?;
-    recover_rows(letters, lengths, template, motif, first, out)
+    check_recovery(set, template, motif)?;
+    recover_rows(set, template, motif, first, out)
 }

@@ -12,7 +12,7 @@ pub make-made-requires : goal.make-made-requires
 make-made-requires c =
     let a = c.args in
     let e = sym c.requires in
-    let set = set_is a.letters.now a.lengths.now a.search e in
+    let set = set_is a.set.now.letters.now a.set.now.lengths.now a.search e in
     let template = template_is _ _ _ e in
     record {
       sound_template = template;
@@ -29,13 +29,13 @@ pub run-requires-clause-s_value : goal.run-requires-clause-s_value
 run-requires-clause-s_value c =
     let a = c.args in
     let e = c.make-made.ensures.plan in
-    rw (e.0, e.1, e.2) (sym (left_to_13 a.letters.now a.lengths.now a.search (sym c.requires) (rw (e.0, e.1, e.2) at c.in-Ok.ensures.result_value)))
+    rw (e.0, e.1, e.2) (sym (left_to_13 a.set.now.letters.now a.set.now.lengths.now a.search (sym c.requires) (rw (e.0, e.1, e.2) at c.in-Ok.ensures.result_value)))
 
 pub returns-in-Err : goal.returns-in-Err
 returns-in-Err c =
     let a = c.args in
     let e = c.make-made.ensures.plan in
-    let r = declined a.letters.now a.lengths.now a.search a.budget _ _ _ (left_to_13 a.letters.now a.lengths.now a.search (sym c.requires) (rw (e.0, e.1, e.2) at c.in-Err.ensures.result_value)) in
+    let r = declined a.set.now.letters.now a.set.now.lengths.now a.search a.budget _ _ _ (left_to_13 a.set.now.letters.now a.set.now.lengths.now a.search (sym c.requires) (rw (e.0, e.1, e.2) at c.in-Err.ensures.result_value)) in
     record { result_value = ap told_leg c.refused.ensures ∙ r.0; motifs_after = r.1.0; supports_after = r.1.1.0; weights_after = r.1.1.1 }
 
 pub returns-in-Ok : goal.returns-in-Ok
@@ -43,6 +43,6 @@ returns-in-Ok c =
     let a = c.args in
     let e = c.make-made.ensures.plan in
     let n = c.run.ensures in
-    let r = accepted a.letters.now a.lengths.now a.search a.budget _ _ _ (left_to_13 a.letters.now a.lengths.now a.search (sym c.requires) (rw (e.0, e.1, e.2) at c.in-Ok.ensures.result_value))
+    let r = accepted a.set.now.letters.now a.set.now.lengths.now a.search a.budget _ _ _ (left_to_13 a.set.now.letters.now a.set.now.lengths.now a.search (sym c.requires) (rw (e.0, e.1, e.2) at c.in-Ok.ensures.result_value))
     (rw (e.0, e.1, e.2) at n.result_value, (rw (e.0, e.1, e.2) at n.motifs_after, (rw (e.0, e.1, e.2) at n.supports_after, rw (e.0, e.1, e.2) at n.weights_after))) in
     record { result_value = r.0; motifs_after = r.1.0; supports_after = r.1.1.0; weights_after = r.1.1.1 }

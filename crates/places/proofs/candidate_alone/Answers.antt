@@ -16,4 +16,4 @@ returns c =
     let e = c.begin-plan.ensures.plan in
     let r = c.shorter-found.ensures in
     let f = c.frequent.ensures in
-    passes_by a.letters.now a.lengths.now a.s c.requires.place_value c.requires.le_letters (λ h. f.none (rw e.0 at r.none h)) (λ h. f.some _ (rw (e.0, e.1, e.2) at r.value h))
+    passes_by a.set.now.letters.now a.set.now.lengths.now a.s c.requires.place_value c.requires.le_letters (λ h. f.none (rw e.0 at r.none h)) (λ h. f.some _ (rw (e.0, e.1, e.2) at r.value h))

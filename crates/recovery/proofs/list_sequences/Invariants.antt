@@ -12,9 +12,9 @@ use Rattle.recovery.proofs.list_sequences.Given as goal
 
 abbrev pub invariant-loop-i : goal.invariant-loop-i
 invariant-loop-i l = let cs = parts l.template (size l.template) l.motif in
-    let through = going_through (suc l.template.count) cs l.lengths l.letters in record {
+    let through = going_through (suc l.template.count) cs l.set.lengths.now l.set.letters.now in record {
       same_buffer : l.page.out.ghost_name ≡ l.initial.page.out.ghost_name;
-      letters_left : l.begin + sum (drop l.i l.lengths) ≡ length l.letters;
+      letters_left : l.begin + sum (drop l.i l.set.lengths.now) ≡ length l.set.letters.now;
       rows_left : through l.i l.begin (buffer l.page.progress l.page.out.now) ≡ through 0 0 (buffer l.initial.page.progress l.initial.page.out.now);
-      count_left : l.length + left cs l.lengths l.letters l.i l.begin ≡ left cs l.lengths l.letters 0 0;
+      count_left : l.length + left cs l.set.lengths.now l.set.letters.now l.i l.begin ≡ left cs l.set.lengths.now l.set.letters.now 0 0;
     }

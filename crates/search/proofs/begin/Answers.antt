@@ -12,12 +12,12 @@ pub returns-in_err-check_new : goal.returns-in_err-check_new
 unfolding begin_rule
 returns-in_err-check_new c = rw (answer_handed_on _ _ c.from_residual.ensures, ← c.in_err-check_new.ensures)
 
-pub overflow_cast-lengths : goal.overflow_cast-lengths
-overflow_cast-lengths c = omega (arith, (new_sound _ _ _ _ (sym c.in_ok-check_new.ensures)).set.few)
+pub overflow_cast-set : goal.overflow_cast-set
+overflow_cast-set c = omega (arith, (new_sound _ _ _ _ (sym c.in_ok-check_new.ensures)).set.few)
 
-pub overflow_cast-letters : goal.overflow_cast-letters
-overflow_cast-letters c = omega (arith, (new_sound _ _ _ _ (sym c.in_ok-check_new.ensures)).set.short)
+pub overflow_cast-set-2 : goal.overflow_cast-set-2
+overflow_cast-set-2 c = omega (arith, (new_sound _ _ _ _ (sym c.in_ok-check_new.ensures)).set.short)
 
 pub returns : goal.returns
 unfolding begin_rule begun
-returns c = rw (← c.in_ok-check_new.ensures) (ap gives (rw (c.new.ensures, c.trim.ensures, c.new-set.ensures, c.first.ensures)))
+returns c = rw (← c.in_ok-check_new.ensures) (ap gives (rw (c.new.ensures, c.trim.ensures, c.new-size.ensures, c.first.ensures)))

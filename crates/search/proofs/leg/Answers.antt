@@ -10,5 +10,5 @@ leg-requires c = sym c.in-Ok.ensures
 
 pub returns-in-Err : goal.returns-in-Err
 returns-in-Err c =
-    let d = declined c.args.letters.now c.args.lengths.now c.args.search c.args.budget c.args.motifs.now c.args.supports.now c.args.weights.now (refused_before _ _ _ c.in-Err.ensures) in
+    let d = declined c.args.set.now.letters.now c.args.set.now.lengths.now c.args.search c.args.budget c.args.motifs.now c.args.supports.now c.args.weights.now (refused_before _ _ _ c.in-Err.ensures) in
     record { result_value = ap told_leg c.refused.ensures ∙ d.0; motifs_after = d.1.0; supports_after = d.1.1.0; weights_after = d.1.1.1 }

@@ -4,4 +4,4 @@ use Rattle.exports.proofs.chain.begin.Goals as goal
 
 pub write_search-requires : goal.write_search-requires
 write_search-requires c =
-    let a = c.args in begun_template a.letters.now a.lengths.now a.t a.quorum _ c.in_ok-begun.ensures
+    let a = c.args in begun_template a.set.now.letters.now a.set.now.lengths.now a.t a.quorum _ c.in_ok-begun.ensures

@@ -1,4 +1,4 @@
-use mathlib.Core.Path.{refl, sym, ◌∙◌}
+use mathlib.Core.Path.{sym, ◌∙◌}
 use native.Mathlib.Omega.{arith}
 use Rattle.legs.proofs.Kind.{up_go, up_drop, up_none, shorter_ok, rise_fits}
 use Rattle.legs.proofs.step.way_up.Goals as goal

@@ -8,4 +8,4 @@ returns-clause-slot c =
     let a = c.args in
     let p = c.requires in
     let o = c.begin.ensures in
-    first_slot a.letters.now a.lengths.now p.sound_set _ o.marked (λ q h u. o.row_len_unchanged.1 q h (omega (arith, u, p.slot_len))) a.template p.sound_template
+    first_slot a.set.now.letters.now a.set.now.lengths.now p.sound_set _ o.marked (λ q h u. o.row_len_unchanged.1 q h (omega (arith, u, p.slot_len))) a.template p.sound_template

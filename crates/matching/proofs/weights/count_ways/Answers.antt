@@ -10,7 +10,6 @@ use borrow.Author.Tests.{eqb-true, eqb-false}
 use Rattle.rules.specs.Lists.{sum}
 use Rattle.rules.specs.Profile.{base_of}
 use Rattle.rows.proofs.ByFlags.{row_bounded}
-use Rattle.rows.specs.Set.{row_words}
 use Rattle.matching.specs.Weights.{LeadsTo}
 use Rattle.matching.proofs.OneMoreComponent.{turn, begin_letters, only_led, behind_sound, turn_apart, next_letters, next_some, next_deep, next_less, next_path, next_small, next_dark, next_led}
 use Rattle.matching.proofs.Steps.{prefix_long}
