@@ -105,7 +105,9 @@ fn lead_sequences(
     }
 }
 
-// The same in every sequence that has a mark.
+// The same in every sequence that has a mark. It stays a function of its own: as a part of a leg its loops lacked registers, and a leg over
+// long sequences took a quarter longer.
+#[inline(never)]
 fn lead_all(
     plan: &Plan,
     row: &[u64],
