@@ -24,6 +24,7 @@ fn open_word(word: u64, d: usize, count: usize) -> u64
 {
     let mut all = word;
     let mut have = 1;
+    // No `for`: it doubles, and has no number to count by.
     while have < count {
         let step = have.min(count - have);
         all |= shift(all, step);

