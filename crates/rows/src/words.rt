@@ -18,7 +18,7 @@ pub fn down(i: usize, low: u64, high: u64) -> u64
 }
 
 // The same where `i` is not 0: one shift for each word. With `down` in its place `keep_words` takes 8 in 100 more instructions over a long
-// row, and 5 to 8 in 100 more time where both loops are aligned alike.
+// row, and 6 to 8 in 100 more time where both loops are aligned alike.
 fn down_some(i: usize, low: u64, high: u64) -> u64
     requires { (1 ≤ i) × (i < 64) }
     ensures { result ≡ words.shifted_down i low high }
