@@ -53,9 +53,6 @@ module _ {word e rest : ℕ} (r : Rest word e rest) where
       fits = omega (arith, cleared_less rest some r.fits, r.fits);
     }
 
-    pub lowest_less : bit_and rest (rest - 1) < rest
-    lowest_less = cleared_less rest some r.fits
-
 -- THE LOWEST TAKEN OFF
 module _ {word e rest : ℕ} (r : Rest word e rest) {place off : ℕ} (t : Taken rest place off) where
   pub taken_late : e ≤ place

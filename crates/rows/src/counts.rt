@@ -9,6 +9,7 @@ ghost use Rattle.rows.specs.Words.{behind_word};
 
 use super::set_bits::SetBits;
 use super::words;
+use rules::Distances;
 
 // The words of a stretch: so many of a long row are looked at together.
 const STRETCH: usize = 16;
@@ -40,15 +41,15 @@ fn held_before(row: &[u64], counts: &[u64], o: usize, d: usize) -> u64
     when((row[p / 64] >> (p % 64)) & 1, counts[p])
 }
 
-// The sum of the `n` counts that stand `d` places before `o` and further back, those at which the row has a bit.
-fn window(row: &[u64], counts: &[u64], o: usize, d: usize, n: usize) -> u64
-    requires o_in_bounds { (o ≤ length counts.now) × (1 ≤ d) × (d ≤ template_length + template_gap) × (n ≤ template_gap + 1) × (length counts.now ≤ 64 * length row.now) }
+// The sum of the `count` counts that stand `near` places before `o` and further back, those at which the row has a bit.
+fn window(row: &[u64], counts: &[u64], o: usize, apart: Distances) -> u64
+    requires o_in_bounds { (o ≤ length counts.now) × (1 ≤ apart.near) × (apart.near ≤ template_length + template_gap) × (apart.count ≤ template_gap + 1) × (length counts.now ≤ 64 * length row.now) }
     requires by_index { (i : ℕ) → get_or (masked (held row.now) counts.now) i 0 ≤ count_most }
-    ensures { result ≡ recent (masked (held row.now) counts.now) o d n }
+    ensures { result ≡ recent (masked (held row.now) counts.now) o apart.near apart.count }
 {
     let mut total: u64 = 0;
-    for k in 0..n {
-        total += held_before(row, counts, o, d + k);
+    for k in 0..apart.count {
+        total += held_before(row, counts, o, apart.near + k);
     }
     total
 }
@@ -63,20 +64,20 @@ fn shifted(row: &[u64], d: usize, q: usize) -> u64
     words::up(i, before(row, q, e + 1), before(row, q, e))
 }
 
-// Opens a gap of `n` distances, the least of them `d`, at the places of one word, those from `from` on: each gets the counts of all the
-// places that reach it and at which the row has a bit, added. It goes from the last place to the first, so that what is still to be read is
-// not written yet, and one sum slides along: `total` is that past the last place, and the answer that at `from`. Most often no place comes
-// into reach in a word and none is gone from it: then the sum stays.
-fn slide(row: &[u64], d: usize, n: usize, from: usize, total: u64, counts: &mut [u64]) -> u64
-    requires le_d { (1 ≤ d) × (d ≤ template_length + template_gap) × (1 ≤ n) × (n ≤ template_gap + 1) }
+// Opens a gap at the places of one word, those from `from` on: each gets the counts of all the places that reach it and at which the row has
+// a bit, added. It goes from the last place to the first, so that what is still to be read is not written yet, and one sum slides along:
+// `total` is that past the last place, and the answer that at `from`. Most often no place comes into reach in a word and none is gone from
+// it: then the sum stays.
+fn slide(row: &[u64], apart: Distances, from: usize, total: u64, counts: &mut [u64]) -> u64
+    requires le_d { (1 ≤ apart.near) × (apart.near ≤ template_length + template_gap) × (1 ≤ apart.count) × (apart.count ≤ template_gap + 1) }
     requires from_in_bounds { (from < length counts.old) × (from % 64 ≡ 0) × (length counts.old ≤ from + 64) × (length counts.old ≤ 64 * length row.now) }
-    requires total_value { total ≡ recent (masked (held row.now) counts.old) (length counts.old) d n }
+    requires total_value { total ≡ recent (masked (held row.now) counts.old) (length counts.old) apart.near apart.count }
     requires by_index { (i : ℕ) → get_or (masked (held row.now) counts.old) i 0 ≤ count_most }
-    ensures value { result ≡ recent (masked (held row.now) counts.old) from d n }
-    ensures counts_after { counts.new ≡ back (around (masked (held row.now) counts.old) d n) from counts.old }
+    ensures value { result ≡ recent (masked (held row.now) counts.old) from apart.near apart.count }
+    ensures counts_after { counts.new ≡ back (around (masked (held row.now) counts.old) apart.near apart.count) from counts.old }
 {
-    let far = d + n;
-    let come = shifted(row, d - 1, from / 64);
+    let far = apart.near + apart.count;
+    let come = shifted(row, apart.near - 1, from / 64);
     let gone = shifted(row, far - 1, from / 64);
     if come | gone == 0 {
         counts[from..].fill(total);
@@ -86,7 +87,7 @@ fn slide(row: &[u64], d: usize, n: usize, from: usize, total: u64, counts: &mut 
     for o in (from..counts.len()).rev() {
         let b = o - from;
         sum = sum + when((gone >> b) & 1, before(counts, o + 1, far))
-            - when((come >> b) & 1, before(counts, o + 1, d));
+            - when((come >> b) & 1, before(counts, o + 1, apart.near));
         counts[o] = sum;
     }
     sum
@@ -97,32 +98,31 @@ fn slide(row: &[u64], d: usize, n: usize, from: usize, total: u64, counts: &mut 
 fn lead_word(
     row: &[u64],
     opened: &[u64],
-    d: usize,
-    n: usize,
+    apart: Distances,
     from: usize,
     total: u64,
     counts: &mut [u64],
 ) -> u64
-    requires le_d { (1 ≤ d) × (d ≤ template_length + template_gap) × (1 ≤ n) × (n ≤ template_gap + 1) × (length opened.now ≡ length row.now) }
+    requires le_d { (1 ≤ apart.near) × (apart.near ≤ template_length + template_gap) × (1 ≤ apart.count) × (apart.count ≤ template_gap + 1) × (length opened.now ≡ length row.now) }
     requires from_in_bounds { (from < length counts.old) × (from % 64 ≡ 0) × (length counts.old ≤ from + 64) × (length counts.old ≤ 64 * length row.now) }
-    requires total_value { 0 < get_or opened.now (from / 64) 0 → total ≡ recent (masked (held row.now) counts.old) (length counts.old) d n }
+    requires total_value { 0 < get_or opened.now (from / 64) 0 → total ≡ recent (masked (held row.now) counts.old) (length counts.old) apart.near apart.count }
     requires by_index { (i : ℕ) → get_or (masked (held row.now) counts.old) i 0 ≤ count_most }
-    requires by_index_2 { (p : ℕ) → p < length counts.old → get_or (held opened.now) p 0 ≡ 0 → recent (masked (held row.now) counts.old) p d n ≡ 0 }
-    ensures value { result ≡ recent (masked (held row.now) counts.old) from d n }
+    requires by_index_2 { (p : ℕ) → p < length counts.old → get_or (held opened.now) p 0 ≡ 0 → recent (masked (held row.now) counts.old) p apart.near apart.count ≡ 0 }
+    ensures value { result ≡ recent (masked (held row.now) counts.old) from apart.near apart.count }
     ensures counts_unchanged { take from counts.new ≡ take from counts.old }
-    ensures counts_after { masked (held opened.now) counts.new ≡ back (around (masked (held row.now) counts.old) d n) from (masked (held opened.now) counts.old) }
+    ensures counts_after { masked (held opened.now) counts.new ≡ back (around (masked (held row.now) counts.old) apart.near apart.count) from (masked (held opened.now) counts.old) }
 {
     if opened[from / 64] == 0 {
         return 0;
     }
-    slide(row, d, n, from, total, counts)
+    slide(row, apart, from, total, counts)
 }
 
 // The sum past the last place, if the last word will need it: if the opened row has a bit there.
-fn sum_past(row: &[u64], opened: &[u64], d: usize, n: usize, counts: &[u64]) -> u64
-    requires le_d { (1 ≤ d) × (d ≤ template_length + template_gap) × (n ≤ template_gap + 1) × (length opened.now ≡ length row.now) × (length counts.now ≤ 64 * length row.now) }
+fn sum_past(row: &[u64], opened: &[u64], apart: Distances, counts: &[u64]) -> u64
+    requires le_d { (1 ≤ apart.near) × (apart.near ≤ template_length + template_gap) × (apart.count ≤ template_gap + 1) × (length opened.now ≡ length row.now) × (length counts.now ≤ 64 * length row.now) }
     requires by_index { (i : ℕ) → get_or (masked (held row.now) counts.now) i 0 ≤ count_most }
-    ensures { 0 < get_or opened.now ((length counts.now - 1) / 64) 0 → result ≡ recent (masked (held row.now) counts.now) (length counts.now) d n }
+    ensures { 0 < get_or opened.now ((length counts.now - 1) / 64) 0 → result ≡ recent (masked (held row.now) counts.now) (length counts.now) apart.near apart.count }
 {
     let to = counts.len();
     if to == 0 {
@@ -131,24 +131,24 @@ fn sum_past(row: &[u64], opened: &[u64], d: usize, n: usize, counts: &[u64]) -> 
     if opened[(to - 1) / 64] == 0 {
         return 0;
     }
-    window(row, counts, to, d, n)
+    window(row, counts, to, apart)
 }
 
-// Opens a gap of `n` distances, the least of them `d`, after the counts at which a row has a bit. The other row is that row with the gap
-// opened: only where a word of it has a bit are counts written, word by word from the last to the first.
-pub fn lead(row: &[u64], opened: &[u64], d: usize, n: usize, counts: &mut [u64])
-    requires le_d { (1 ≤ d) × (d ≤ template_length + template_gap) × (1 ≤ n) × (n ≤ template_gap + 1) }
+// Opens a gap after the counts at which a row has a bit. The other row is that row with the gap opened: only where a word of it has a bit
+// are counts written, word by word from the last to the first.
+pub fn lead(row: &[u64], opened: &[u64], apart: Distances, counts: &mut [u64])
+    requires le_d { (1 ≤ apart.near) × (apart.near ≤ template_length + template_gap) × (1 ≤ apart.count) × (apart.count ≤ template_gap + 1) }
     requires counts_len_bound { (length counts.old ≤ 64 * length row.now) × (length opened.now ≡ length row.now) }
     requires by_index { (i : ℕ) → get_or (masked (held row.now) counts.old) i 0 ≤ count_most }
-    requires by_index_2 { (p : ℕ) → get_or (held opened.now) p 0 ≡ 0 → get_or (added d (d + n - 1) (masked (held row.now) counts.old)) p 0 ≡ 0 }
-    ensures { masked (held opened.now) counts.new ≡ added d (d + n - 1) (masked (held row.now) counts.old) }
+    requires by_index_2 { (p : ℕ) → get_or (held opened.now) p 0 ≡ 0 → get_or (added apart.near (apart.near + apart.count - 1) (masked (held row.now) counts.old)) p 0 ≡ 0 }
+    ensures { masked (held opened.now) counts.new ≡ added apart.near (apart.near + apart.count - 1) (masked (held row.now) counts.old) }
 {
-    let mut total = sum_past(row, opened, d, n, counts);
+    let mut total = sum_past(row, opened, apart, counts);
     let mut to = counts.len();
-    // Kept as a loop: a `for` over the words has a value more to hold while the sum slides, and takes a seventh more instructions.
+    // No `for`: one over the words has a value more to hold while the sum slides, and takes 15.6 in 100 more instructions.
     while 0 < to {
         let from = (to - 1) / 64 * 64;
-        total = lead_word(row, opened, d, n, from, total, &mut counts[..to]);
+        total = lead_word(row, opened, apart, from, total, &mut counts[..to]);
         to = from;
     }
 }
@@ -236,10 +236,11 @@ pub fn add(row: &[u64], counts: &[u64]) -> u64
     let mut row = row;
     let mut counts = counts;
     let mut total: u64 = 0;
-    while let Some((stretch, words)) = row.split_first_chunk::<STRETCH>() {
+    // No `for`: it goes from stretch to stretch, and what is left of the row and of the counts is cut as it goes.
+    while let Some((stretch, others)) = row.split_first_chunk::<STRETCH>() {
         let (near, far) = counts.split_at(counts.len().min(64 * STRETCH));
         total += add_stretch(stretch, near);
-        row = words;
+        row = others;
         counts = far;
     }
     total + add_words(row, counts)

@@ -17,19 +17,20 @@ fn shift(word: u64, d: usize) -> u64
     if d < 64 { word << d } else { 0 }
 }
 
-// Opens a gap in a sequence of one word: spreads its bits over `count` places by shifts that double, and shifts them up by `d`.
-fn open_word(word: u64, d: usize, count: usize) -> u64
-    requires { 1 ≤ count }
-    ensures { held (result ∷ []) ≡ window d count (held (word ∷ [])) }
+// Opens a gap in a sequence of one word: spreads its bits over `count` places by shifts that double, and shifts them up by `near`.
+fn open_word(word: u64, apart: Distances) -> u64
+    requires { 1 ≤ apart.count }
+    ensures { held (result ∷ []) ≡ window apart.near apart.count (held (word ∷ [])) }
 {
     let mut all = word;
     let mut have = 1;
-    while have < count {
-        let step = have.min(count - have);
+    // No `for`: it doubles, and has no number to count by.
+    while have < apart.count {
+        let step = have.min(apart.count - have);
         all |= shift(all, step);
         have += step;
     }
-    shift(all, d)
+    shift(all, apart.near)
 }
 
 // Opens a gap in the words of a sequence, one of which is opened apart: most sets have short sequences. `spare` is lent for the work.
@@ -38,10 +39,10 @@ fn open_sequence(apart: Distances, spare: &mut [u64], row: &mut [u64])
     ensures { held row.new ≡ window apart.near apart.count (held row.old) }
 {
     if row.len() == 1 {
-        row[0] = open_word(row[0], apart.near, apart.count);
+        row[0] = open_word(row[0], apart);
         return;
     }
-    words::open_gap(apart.near, apart.count, spare, row);
+    words::open_gap(apart, spare, row);
 }
 
 // Opens a gap in the sequences of one word of marks, those that have one.

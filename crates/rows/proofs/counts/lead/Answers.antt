@@ -12,7 +12,7 @@ use Rattle.rows.proofs.counts.lead.Goals as goal
 pub loop-to-init : goal.loop-to-init
 loop-to-init c =
     let a = c.args in
-    (search rules, refl, refl, lead_begin a.row.now a.opened.now a.counts.now a.d a.n, c.sum_past-total.ensures)
+    (search rules, refl, refl, lead_begin a.row.now a.opened.now a.counts.now a.apart.near a.apart.count, c.sum_past-total.ensures)
 
 pub slice_bounds-lead_word-end-in-loop-to : goal.slice_bounds-lead_word-end-in-loop-to
 slice_bounds-lead_word-end-in-loop-to c = sym (length-take-le _ _ (search rules))
@@ -25,8 +25,8 @@ lead_word-total-requires c =
     let row = c.args.row.now in
     let opened = c.args.opened.now in
     let l = c.args.counts.now in
-    let d = c.args.d in
-    let n = c.args.n in
+    let d = c.args.apart.near in
+    let n = c.args.apart.count in
     let to = c.loop-to.to in
     let x = c.loop-to.counts in
     let many : length (take to x) ≡ to = handed_length row opened l d n to p.le_d.0 i.0 x i.1 i.2 in
@@ -50,8 +50,8 @@ loop-to-preserved c =
     let row = c.args.row.now in
     let opened = c.args.opened.now in
     let l = c.args.counts.now in
-    let d = c.args.d in
-    let n = c.args.n in
+    let d = c.args.apart.near in
+    let n = c.args.apart.count in
     let to = c.loop-to.to in
     let x = c.loop-to.counts in
     let sums : (o : ℕ) → o ≤ to → recent (masked (held row) (take to x)) o d n ≡ recent (masked (held row) l) o d n = handed_recent row opened l d n to p.le_d.0 i.0 x i.1 i.2 in
@@ -67,4 +67,4 @@ pub returns : goal.returns
 returns c =
     let a = c.args in
     let k = c.loop-to in
-    lead_end a.row.now a.opened.now a.counts.now k.counts a.d a.n k.to c.requires.le_d.2 (search rules) k.invariant.3
+    lead_end a.row.now a.opened.now a.counts.now k.counts a.apart.near a.apart.count k.to c.requires.le_d.2 (search rules) k.invariant.3

@@ -10,4 +10,4 @@ returns c =
     let a = c.args in
     let k = c.copy_from_slice in
     let s = c.spread in
-    open_end (held a.row.now) _ _ (s.ensures ∙ ap (λ x. window 0 a.count (held x)) k.ensures.after) c.shift_up.ensures
+    open_end (held a.row.now) _ _ (s.ensures ∙ ap (λ x. window 0 a.apart.count (held x)) k.ensures.after) c.shift_up.ensures
