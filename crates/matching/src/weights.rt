@@ -51,13 +51,7 @@ fn lead_between(
     let x = a.0;
     let y = e.0;
     begin(first, &row[from..to], &mut counts[x..y]);
-    counts::lead(
-        &row[from..to],
-        &opened[from..to],
-        apart.near,
-        apart.count,
-        &mut counts[x..y],
-    );
+    counts::lead(&row[from..to], &opened[from..to], apart, &mut counts[x..y]);
 }
 
 // The same in the sequences of one word of marks, those that have one.
