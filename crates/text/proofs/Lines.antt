@@ -17,7 +17,7 @@ use Rattle.rules.specs.Limits.{text_bytes, text_quorum_digits}
 use Rattle.rules.specs.Lists.{has_some}
 use Rattle.rules.specs.Refusals.{◌else◌, first}
 use Rattle.rules.specs.Text.{Parsed, parsed, malformed, is_well_formed, or_else, template_of, pieces, but_last, last, lines, nth_line, unended, refuse_line, text_checks, parse_components, parse_number}
-use Rattle.rules.specs.Told.{Verdict, fine, refused}
+use Rattle.rules.specs.Told.{fine, refused}
 use Rattle.text.proofs.Scan.{last_onto, but_last_onto}
 
 -- ---- one line

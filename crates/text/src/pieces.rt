@@ -9,6 +9,7 @@ pub fn find(b: u8, text: &[u8]) -> Option<usize>
     ensures { result ≡ position (λ x. eqb x b) text.now }
 {
     let mut rest = text;
+    // By what is left, and no `for` over `chunks_exact`: what is left is looked at behind the loop.
     while let Some((eight, others)) = rest.split_first_chunk::<8>() {
         if eight.contains(&b) {
             break;

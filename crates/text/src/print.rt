@@ -8,7 +8,8 @@ ghost use Rattle.text.specs.Printed.{line_room, WroteLine, Prints, HasRoom, HasL
 use super::read::copy_part;
 use rules::{Component, Letter, Template};
 
-// Room for the longest line that is printed.
+// Room for the longest line that is printed. Each function that prints one asks for it by a clause: a type of a lent buffer that is long
+// enough would want a clause too, that it is still the caller's.
 pub const LINE: usize = 256;
 
 // A buffer, and the place up to which it is written.
@@ -16,6 +17,14 @@ pub const LINE: usize = 256;
 struct Printer<'a> {
     out: &'a mut [u8],
     at: usize,
+}
+
+// A motif of a sound template, by its number.
+#[derive(Clone, Copy)]
+struct Motif {
+    template: Template,
+    number: u64,
+    ghost sound: { SoundTemplate template },
 }
 
 impl<'a> Printer<'a> {
@@ -83,37 +92,37 @@ impl<'a> Printer<'a> {
     }
 
     // The components after the first, which have the last `left` letters of the motif.
-    fn rest(&mut self, template: Template, motif: u64, left: u64)
-        requires { SoundTemplate template × (left ≡ size_from template 1) × HasRoom (shape_from template 1 motif) self.old }
-        ensures { Prints (shape_from template 1 motif) self.old self.new }
+    fn rest(&mut self, motif: Motif, left: u64)
+        requires { (left ≡ size_from motif.template 1) × HasRoom (shape_from motif.template 1 motif.number) self.old }
+        ensures { Prints (shape_from motif.template 1 motif.number) self.old self.new }
     {
-        let slots = template.components();
+        let slots = motif.template.components();
         let mut left = left;
-        for i in 1..usize::from(template.count) {
+        for i in 1..usize::from(motif.template.count) {
             let c = slots[i];
-            self.component(c, motif, left);
+            self.component(c, motif.number, left);
             left -= u64::from(c.length);
         }
     }
 
     // A motif in the template's shape.
-    fn motif(&mut self, template: Template, motif: u64)
-        requires { SoundTemplate template × HasLine self.old }
-        ensures { Prints (print_motif template motif) self.old self.new }
+    fn motif(&mut self, motif: Motif)
+        requires { HasLine self.old }
+        ensures { Prints (print_motif motif.template motif.number) self.old self.new }
     {
-        let all = u64::from(template.letters());
-        let first = u64::from(template.c1.length);
-        self.letters(motif, all, first);
-        self.rest(template, motif, all - first);
+        let all = u64::from(motif.template.letters());
+        let first = u64::from(motif.template.c1.length);
+        self.letters(motif.number, all, first);
+        self.rest(motif, all - first);
     }
 
     // A row: the motif in the template's shape, its support and its weighted support.
-    fn row(&mut self, template: Template, motif: u64, support: u32, weight: u64)
-        requires { SoundTemplate template × HasLine self.old }
-        ensures row { Prints (row template motif support weight) self.old self.new }
+    fn row(&mut self, motif: Motif, support: u32, weight: u64)
+        requires { HasLine self.old }
+        ensures row { Prints (row motif.template motif.number support weight) self.old self.new }
         ensures short { self.new.at ≤ self.old.at + line_room }
     {
-        self.motif(template, motif);
+        self.motif(motif);
         self.pair(b' ', u64::from(support), b' ', weight, b'\n');
     }
 }
@@ -124,7 +133,8 @@ pub fn print_row(template: Template, motif: u64, support: u32, weight: u64, out:
     ensures { WroteLine (row template motif support weight) out.old out.new result }
 {
     let mut line = Printer { out, at: 0 };
-    line.row(template, motif, support, weight);
+    let number = motif;
+    line.row(Motif { template, number }, support, weight);
     line.at
 }
 
@@ -144,7 +154,8 @@ pub fn print_page(
 {
     let mut page = Printer { out, at: 0 };
     for i in 0..rows {
-        page.row(template, motifs[i], supports[i], weights[i]);
+        let number = motifs[i];
+        page.row(Motif { template, number }, supports[i], weights[i]);
     }
     page.at
 }

@@ -69,6 +69,7 @@ fn check_end(input: &[u8]) -> Result<(), Refusal>
 {
     let mut line = 1;
     let mut rest = input;
+    // From line to line: nothing is counted that a `for` could go by.
     while let Some((_, others)) = split_once(b'\n', rest) {
         line += 1;
         rest = others;
@@ -107,7 +108,7 @@ pub fn read_quorum(input: &[u8]) -> u64
 
 // How many sequences were read, and how many letters.
 #[derive(Clone, Copy)]
-pub struct Sequences {
+pub struct SequencesRead {
     pub sequences: usize,
     pub letters: usize,
 }
@@ -125,18 +126,19 @@ pub fn copy_part(text: &[u8], at: usize, to: &mut [u8]) -> usize
 // Writes the letters of the sequence lines, joined, to the front of one table, and the lengths of the lines to the front of
 // another; what lies past them stays. The tables have a place for each byte of the input, so that the number of sequences is
 // refused where it is checked and not here.
-pub fn read_sequences(input: &[u8], letters: &mut [u8], lengths: &mut [u32]) -> Sequences
+pub fn read_sequences(input: &[u8], letters: &mut [u8], lengths: &mut [u32]) -> SequencesRead
     requires { (first (text_checks input.now) ≡ fine) × (length input.now ≤ length letters.old) × (length input.now ≤ length lengths.old) }
     ensures sequences_value { (result.sequences ≡ length (parse_lengths input.now)) × (result.letters ≡ length (parse_letters input.now)) }
     ensures sequences_in_bounds { (result.sequences ≤ length input.now) × (result.letters ≤ length input.now) }
     ensures letters_after { letters.new ≡ put (parse_letters input.now) letters.old }
     ensures lengths_after { lengths.new ≡ put (parse_lengths input.now) lengths.old }
 {
-    let mut read = Sequences {
+    let mut read = SequencesRead {
         sequences: 0,
         letters: 0,
     };
     let mut rest = cut(input).sequences;
+    // From line to line, as above.
     while let Some((line, others)) = split_once(b'\n', rest) {
         read.letters = copy_part(line, read.letters, letters);
         lengths[read.sequences] = line.len() as u32;

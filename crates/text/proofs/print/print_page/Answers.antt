@@ -12,7 +12,7 @@ pub row-requires : goal.row-requires
 row-requires c =
     let v = c.loop-i.invariant in
     let i = c.loop-i-test.true in
-    (c.requires.sound_template (omega (arith, i)), omega (arith, i, v.0, moved v.1, c.requires.rows_in_bounds_2))
+    omega (arith, i, v.0, moved v.1, c.requires.rows_in_bounds_2)
 
 pub loop-i-preserved : goal.loop-i-preserved
 loop-i-preserved c =

@@ -10,25 +10,25 @@ use Rattle.text.proofs.print.Printer.motif.Goals as goal
 
 pub letters-requires-2 : goal.letters-requires-2
 letters-requires-2 c =
-    let S = c.requires.0 in
+    let S = c.args.motif.sound in
     let k = size_is _ S in
-    let e : c.from-all.result ≡ size c.args.template = c.from-all.ensures ∙ c.letters.ensures in
+    let e : c.from-all.result ≡ size c.args.motif.template = c.from-all.ensures ∙ c.letters.ensures in
     let f = c.from-first.ensures in
     let h : c.from-first.result ≤ c.from-all.result = omega (arith, k, e, f) in
-    (h, omega (arith, e, S.deep), omega (arith, f, length_letters c.from-first.result c.from-all.result c.args.motif h, shape_room _ S c.args.motif, c.requires.1))
+    (h, omega (arith, e, S.deep), omega (arith, f, length_letters c.from-first.result c.from-all.result c.args.motif.number h, shape_room _ S c.args.motif.number, c.requires))
 
 pub overflow_sub-all : goal.overflow_sub-all
-overflow_sub-all c = omega (arith, size_is _ c.requires.0, c.from-all.ensures, c.letters.ensures, c.from-first.ensures)
+overflow_sub-all c = omega (arith, size_is _ c.args.motif.sound, c.from-all.ensures, c.letters.ensures, c.from-first.ensures)
 
 pub rest-requires : goal.rest-requires
 rest-requires c =
-    let S = c.requires.0 in
+    let S = c.args.motif.sound in
     let k = size_is _ S in
-    let e : c.from-all.result ≡ size c.args.template = c.from-all.ensures ∙ c.letters.ensures in
+    let e : c.from-all.result ≡ size c.args.motif.template = c.from-all.ensures ∙ c.letters.ensures in
     let f = c.from-first.ensures in
-    let l = length_letters c.from-first.result c.from-all.result c.args.motif (omega (arith, k, e, f)) in
-    (S, omega (arith, k, e, f), omega (arith, f, moved c.letters-2.ensures, l, shape_room _ S c.args.motif, c.requires.1))
+    let l = length_letters c.from-first.result c.from-all.result c.args.motif.number (omega (arith, k, e, f)) in
+    (omega (arith, k, e, f), omega (arith, f, moved c.letters-2.ensures, l, shape_room _ S c.args.motif.number, c.requires))
 
 pub returns : goal.returns
 returns c =
-    prints_as (c.letters-2.ensures and c.rest.ensures) (sym (shape_is _ c.requires.0 c.args.motif ∙ rw (c.from-first.ensures, c.from-all.ensures ∙ c.letters.ensures)))
+    prints_as (c.letters-2.ensures and c.rest.ensures) (sym (shape_is _ c.args.motif.sound c.args.motif.number ∙ rw (c.from-first.ensures, c.from-all.ensures ∙ c.letters.ensures)))

@@ -7,5 +7,5 @@ use Rattle.text.proofs.print.Printer.rest.Given as goal
 
 abbrev pub invariant-loop-i : goal.invariant-loop-i
 invariant-loop-i l = (l.left ≤ 32)
-    × (l.left ≡ size_from l.fn.template l.i)
-    × ((done : List ℕ) × Prints done l.initial.self l.self × (done ++ shape_from l.fn.template l.i l.motif ≡ shape_from l.fn.template 1 l.motif))
+    × (l.left ≡ size_from l.motif.template l.i)
+    × ((done : List ℕ) × Prints done l.initial.self l.self × (done ++ shape_from l.motif.template l.i l.motif.number ≡ shape_from l.motif.template 1 l.motif.number))

@@ -18,7 +18,7 @@ pub pair-requires : goal.pair-requires
 pair-requires c =
     let a = c.args in
     let f = c.ranges in
-    line_has_room _ c.from.result a.weight (head_short a.template a.motif c.requires.0) (omega (arith, c.from.ensures, f.support)) (omega (arith, f.weight)) c.requires.1 c.motif.ensures
+    line_has_room _ c.from.result a.weight (head_short a.motif.template a.motif.number a.motif.sound) (omega (arith, c.from.ensures, f.support)) (omega (arith, f.weight)) c.requires c.motif.ensures
 
 pub returns-clause-row : goal.returns-clause-row
 unfolding row
@@ -28,4 +28,4 @@ pub returns-clause-short : goal.returns-clause-short
 returns-clause-short c =
     let a = c.args in
     let f = c.ranges in
-    line_short _ c.from.result a.weight (head_short a.template a.motif c.requires.0) (omega (arith, c.from.ensures, f.support)) (omega (arith, f.weight)) c.motif.ensures c.pair.ensures
+    line_short _ c.from.result a.weight (head_short a.motif.template a.motif.number a.motif.sound) (omega (arith, c.from.ensures, f.support)) (omega (arith, f.weight)) c.motif.ensures c.pair.ensures
