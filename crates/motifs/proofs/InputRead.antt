@@ -1,9 +1,9 @@
 -- What an input comes to, once its text is checked; and a new search over what was read of it.
 use mathlib.Core.Path.{◌≡◌, sym, ap, ◌∙◌}
 use mathlib.Core.List.{List}
-use Prim.Native.Nat.{ℕ, ◌-◌, ◌≤◌}
+use Prim.Native.Nat.{ℕ, ◌≤◌}
 use native.Mathlib.Omega.{arith}
-use lib.ListN.{length, take, drop, length-append}
+use lib.ListN.{length, take, length-append}
 use Rattle.rules.specs.Calls.{begin_rule}
 use Rattle.rules.specs.Lists.{put}
 use Rattle.rules.specs.Refusals.{first}
@@ -34,15 +34,11 @@ module _ (input letters lengths : List ℕ) where
   unfolding input_rule input_told
   sound e = rw e
 
--- the part of a buffer from offset 0 on is its front
-pub front_part : {front : List ℕ} (n : ℕ) (l : List ℕ) → front ≡ take (n - 0) (drop 0 l) → front ≡ take n l
-front_part n l e = let z : n - 0 ≡ n = omega arith in rw z at e
-
 -- a new search over the fronts of two tables is one over what was put there
-pub begin_fronts : (xs ys letters lengths : List ℕ) {t u : Template} {q r n k : ℕ} {told : Told Search} {ls ns front : List ℕ}
+pub begin_fronts : (xs ys letters lengths : List ℕ) {t u : Template} {q r n k : ℕ} {told : Told Search} {ls ns front rows : List ℕ}
     → n ≡ length xs → k ≡ length ys → ls ≡ put xs letters → ns ≡ put ys lengths → t ≡ u → q ≡ r
-    → front ≡ take (n - 0) (drop 0 ls) → told ≡ begin_rule front (take k ns) t q → told ≡ begin_rule xs ys u r
-begin_fronts xs ys letters lengths {n = n} {ls = ls} a b c d e f g h = rw (front_part n ls g, c, d, put_front _ xs letters (sym a), put_front _ ys lengths (sym b), e, f) at h
+    → front ≡ take n ls → rows ≡ take k ns → told ≡ begin_rule front rows t q → told ≡ begin_rule xs ys u r
+begin_fronts xs ys letters lengths a b c d e f g h i = rw (g, h, c, d, put_front _ xs letters (sym a), put_front _ ys lengths (sym b), e, f) at i
 
 -- what was put to the front of a table is there
 pub put_room : {A : Type 0} (xs table : List A) → length xs ≤ length (put xs table)
@@ -51,8 +47,6 @@ put_room xs table = simp length-append (omega arith)
 
 -- what was read of an input stands at the fronts of the tables
 pub record Fronts (input : List ℕ) (n k : ℕ) (letters lengths : List ℕ) : Type 0 where
-  pub letters_fit : n ≤ length letters
-  pub lengths_fit : k ≤ length lengths
   pub letters_are : take n letters ≡ parse_letters input
   pub lengths_are : take k lengths ≡ parse_lengths input
 
@@ -65,8 +59,6 @@ fronts_are input letters lengths {n} {k} {ls} {ns} f c a b =
     let ls-is : ls ≡ put (parse_letters input) letters = a ∙ ap (λ (i : InputRule). i.letters) r in
     let ns-is : ns ≡ put (parse_lengths input) lengths = b ∙ ap (λ (i : InputRule). i.lengths) r in
     record {
-      letters_fit = rw (n-is, ls-is) (put_room (parse_letters input) letters);
-      lengths_fit = rw (k-is, ns-is) (put_room (parse_lengths input) lengths);
       letters_are = rw ls-is (put_front n (parse_letters input) letters (sym n-is));
       lengths_are = rw ns-is (put_front k (parse_lengths input) lengths (sym k-is));
     }

@@ -2,10 +2,10 @@
 -- it, and after as many pages as there is to print nothing is left.
 use mathlib.Core.Path.{◌≡◌, refl, sym, ap, ◌∙◌}
 use mathlib.Core.List.{List, ◌++◌, append_assoc, append-nil}
-use Prim.Native.Nat.{ℕ, zero, suc, ◌-◌, ◌≤◌}
+use Prim.Native.Nat.{ℕ, zero, suc, ◌≤◌}
 use native.Mathlib.Nat.{zero-add}
 use native.Mathlib.Omega.{arith}
-use lib.ListN.{length, take, drop}
+use lib.ListN.{length, take}
 use Rattle.rules.specs.Calls.{begin_rule}
 use Rattle.rules.specs.Refusals.{first}
 use Rattle.rules.specs.Relay.{whole_steps}
@@ -24,7 +24,7 @@ use Rattle.motifs.specs.Left.{Left, refusal, rows, end, nothing, unprinted, open
 use Rattle.motifs.specs.Pages.{print_rows, page_of, left_after, pages, left_at, text_left, Goes, Printable}
 use Rattle.motifs.specs.Program.{pages_of, left_of, Program}
 use Rattle.motifs.proofs.PagesLaid.{amount, page_then, ready_after, less_after}
-use Rattle.motifs.proofs.InputRead.{declined, sound, front_part, fronts_are}
+use Rattle.motifs.proofs.InputRead.{declined, sound, fronts_are}
 
 module _ (letters lengths : List ℕ) where
   -- the first n pages, and the text of what is left after them
@@ -126,18 +126,9 @@ program =
 
 -- WHAT WAS READ: the fronts of the tables are there, and what is left at first can be gone on with over them
 module _ (input letters lengths : List ℕ) {n k : ℕ} {ls ns : List ℕ} (c : (n ≡ (input_rule input letters lengths).count) × (k ≡ (input_rule input letters lengths).sequences)) (a : ls ≡ (input_rule input letters lengths).letters) (d : ns ≡ (input_rule input letters lengths).lengths) where
-  pub read_fits : (n ≤ length ls) × (k ≤ length ns)
-  read_fits = go (first (text_checks input)) refl
-    where
-      go : (v : Verdict) → first (text_checks input) ≡ v → (n ≤ length ls) × (k ≤ length ns)
-      go fine e = let f = fronts_are input letters lengths e c a d in (f.letters_fit, f.lengths_fit)
-      go (refused m p) e =
-          let i = declined input letters lengths e in
-          (omega (arith, c.0, ap (λ (i : InputRule). i.count) i), omega (arith, c.1, ap (λ (i : InputRule). i.sequences) i))
-
-  pub read_ready : {front : List ℕ} {b : Told Search} {s : Left} → front ≡ take (n - 0) (drop 0 ls) → b ≡ (input_rule input letters lengths).told → s ≡ opening b → Printable front (take k ns) s
+  pub read_ready : {front rows : List ℕ} {b : Told Search} {s : Left} → front ≡ take n ls → rows ≡ take k ns → b ≡ (input_rule input letters lengths).told → s ≡ opening b → Printable front rows s
   unfolding input_told
-  read_ready {front} {b} {s} p t o = rw (front_part n ls p) (go (first (text_checks input)) refl)
+  read_ready {front} {rows} {b} {s} p q t o = rw (p, q) (go (first (text_checks input)) refl)
     where
       go : (v : Verdict) → first (text_checks input) ≡ v → Printable (take n ls) (take k ns) s
       go fine e =

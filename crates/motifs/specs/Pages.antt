@@ -104,8 +104,8 @@ module _ (letters lengths : List ℕ) where
 
 -- a leg over the sequences and into the tables of some pages
 abbrev pub leg_over : Pages → Search → ℕ → LegRule
-leg_over p s budget = leg_rule p.letters.now p.lengths.now s budget p.motifs p.supports p.weights
+leg_over p s budget = leg_rule p.set.letters.now p.set.lengths.now s budget p.motifs p.supports p.weights
 
 -- the sequences are as they were, and the buffer has its bytes
 abbrev pub Kept : Pages → Pages → Type 0
-Kept before after = (after.letters.now ≡ before.letters.now) × (after.lengths.now ≡ before.lengths.now) × (length after.out ≡ page_bytes)
+Kept before after = (after.set.letters.now ≡ before.set.letters.now) × (after.set.lengths.now ≡ before.set.lengths.now) × (length after.out ≡ page_bytes)

@@ -6,21 +6,19 @@
 mod input;
 mod pages;
 
-ghost use Rattle.std.specs.Prelude.{◌≤◌, length};
-ghost use Rattle.rules.specs.Limits.{text_bytes};
 ghost use Rattle.motifs.specs.Left.{told_left};
 ghost use Rattle.motifs.specs.Pages.{Printable};
 
-use input::Input;
+use input::{Input, Tables};
 use pages::{Left, Pages};
-use rules::{Offset, SequenceSet, Text};
+use rules::{Sequences, Text};
 use stdin::{not_read, read_all};
 
 // Writes what is left, one page after another, and stops where a write failed.
-fn write_pages(rt: &impl Print, letters: &[u8], lengths: &[u32], first: Left)
-    requires { Printable letters.now lengths.now (told_left first) }
+fn write_pages(rt: &impl Print, set: &Sequences, first: Left)
+    requires { Printable set.now.letters.now set.now.lengths.now (told_left first) }
 {
-    let mut pages = Pages::new(letters, lengths);
+    let mut pages = Pages::new(set);
     let mut left = Some(first);
     while let Some(now) = left {
         let page = pages.next(now);
@@ -30,21 +28,20 @@ fn write_pages(rt: &impl Print, letters: &[u8], lengths: &[u32], first: Left)
 }
 
 // Answers an input.
-fn answer(rt: &impl Print, input: &[u8], letters: &mut [u8], lengths: &mut [u32])
-    requires { (text_bytes ≤ length letters.old) × (text_bytes ≤ length lengths.old) }
-{
-    let Input { begun, read } = input::read(input, letters, lengths);
-    let front = SequenceSet::part(letters, Offset(0), Offset(read.letters));
-    write_pages(rt, front, &lengths[..read.sequences], Left::opening(begun));
+fn answer(rt: &impl Print, input: &[u8], tables: &mut Tables) {
+    let Input { begun, read } = input::read(input, tables);
+    write_pages(rt, &tables.front(read), Left::opening(begun));
 }
 
 fn main(rt: HostRuntime) {
     let mut input = [0u8; Text::BYTES + 1];
     match read_all(&mut rt.stdin(), &mut input) {
         Ok(n) => {
-            let mut letters = [0u8; Text::BYTES];
-            let mut lengths = [0u32; Text::BYTES];
-            answer(&rt, &input[..n], &mut letters, &mut lengths);
+            let mut tables = Tables {
+                letters: [0; Text::BYTES],
+                lengths: [0; Text::BYTES],
+            };
+            answer(&rt, &input[..n], &mut tables);
         }
         Err(_) => not_read(&rt.stderr(), b"motifs"),
     }

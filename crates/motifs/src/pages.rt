@@ -5,7 +5,7 @@ ghost use Rattle.rules.specs.Told.{told_answer, told_leg};
 ghost use Rattle.motifs.specs.Left.{nothing, rows, told_left, told_rest, opening, rows_or_end};
 ghost use Rattle.motifs.specs.Pages.{page_rows, is_ended_told, leg_page, leg_over, Goes, Printable, Next, Kept};
 
-use rules::{Leg, Refusal, Search, Stop};
+use rules::{Leg, Refusal, Search, Sequences, Stop};
 use text::print::{LINE, print_end, print_page, print_refused};
 
 // The most rows of a page, and the bytes of that many of the longest line.
@@ -33,7 +33,7 @@ impl Way {
         let steps = self.steps + leg.steps;
         let rows = self.rows + leg.rows as u64;
         if matches!(leg.answer, Ok(Stop::Ended)) {
-            Left::End(steps, rows)
+            Left::End { steps, rows }
         } else {
             Left::Rows(Way {
                 search: leg.search,
@@ -50,7 +50,7 @@ impl Way {
 pub enum Left {
     Refusal(Refusal),
     Rows(Way),
-    End(u64, u64),
+    End { steps: u64, rows: u64 },
 }
 
 impl Left {
@@ -69,7 +69,8 @@ impl Left {
     }
 }
 
-// A page: its length in bytes, and what is left after it.
+// A page: its length in bytes, and what is left after it. It is told by its length, and not as a part of the buffer, since what is left is
+// handed back to the pages that have the buffer.
 #[derive(Clone, Copy)]
 pub struct Page {
     pub length: usize,
@@ -95,8 +96,7 @@ struct PrintedLeg {
 // The pages of a printout: the sequences, and the room for a page, as the tables of a leg's rows and as their text.
 #[derive(Drop)]
 pub struct Pages<'a> {
-    letters: &'a [u8],
-    lengths: &'a [u32],
+    set: Sequences<'a>,
     motifs: [u64; ROWS],
     supports: [u32; ROWS],
     weights: [u64; ROWS],
@@ -105,12 +105,11 @@ pub struct Pages<'a> {
 
 impl<'a> Pages<'a> {
     // The pages over some sequences.
-    pub fn new(letters: &'a [u8], lengths: &'a [u32]) -> Pages<'a>
-        ensures { (result.letters.now ≡ letters.now) × (result.lengths.now ≡ lengths.now) }
+    pub fn new(set: &Sequences<'a>) -> Pages<'a>
+        ensures { (result.set.letters.now ≡ set.now.letters.now) × (result.set.lengths.now ≡ set.now.lengths.now) }
     {
         Pages {
-            letters,
-            lengths,
+            set: *set,
             motifs: [0; ROWS],
             supports: [0; ROWS],
             weights: [0; ROWS],
@@ -126,13 +125,12 @@ impl<'a> Pages<'a> {
         ensures motifs_after { self.new.motifs ≡ (leg_over self.old search budget).motifs }
         ensures supports_after { self.new.supports ≡ (leg_over self.old search budget).supports }
         ensures weights_after { self.new.weights ≡ (leg_over self.old search budget).weights }
-        ensures length_value { result.length ≡ length (leg_page self.old.letters.now self.old.lengths.now search budget page_rows) }
-        ensures out_after { self.new.out ≡ put (leg_page self.old.letters.now self.old.lengths.now search budget page_rows) self.old.out }
+        ensures length_value { result.length ≡ length (leg_page self.old.set.letters.now self.old.set.lengths.now search budget page_rows) }
+        ensures out_after { self.new.out ≡ put (leg_page self.old.set.letters.now self.old.set.lengths.now search budget page_rows) self.old.out }
         ensures length_in_bounds { result.length ≤ length self.new.out }
     {
         let leg = search::leg(
-            self.letters,
-            self.lengths,
+            &self.set,
             search,
             budget,
             &mut self.motifs,
@@ -152,9 +150,9 @@ impl<'a> Pages<'a> {
 
     // The next page of a search: the rows of one leg more.
     fn next_rows(&mut self, way: Way) -> Page
-        requires { Goes self.old.letters.now self.old.lengths.now way }
+        requires { Goes self.old.set.letters.now self.old.set.lengths.now way }
         ensures kept { Kept self.old self.new }
-        ensures next { Next self.old.letters.now self.old.lengths.now (rows way) self.old.out self.new.out result }
+        ensures next { Next self.old.set.letters.now self.old.set.lengths.now (rows way) self.old.out self.new.out result }
     {
         let PrintedLeg { leg, length } = self.leg(way.search, STEPS);
         let left = Some(way.after(leg));
@@ -163,13 +161,13 @@ impl<'a> Pages<'a> {
 
     // THE NEXT PAGE of what is left, at the front of `out`, and what is left after it. Past the page `out` stays.
     pub fn next(&mut self, left: Left) -> Page
-        requires { Printable self.old.letters.now self.old.lengths.now (told_left left) }
+        requires { Printable self.old.set.letters.now self.old.set.lengths.now (told_left left) }
         ensures kept { Kept self.old self.new }
-        ensures next { Next self.old.letters.now self.old.lengths.now (told_left left) self.old.out self.new.out result }
+        ensures next { Next self.old.set.letters.now self.old.set.lengths.now (told_left left) self.old.out self.new.out result }
     {
         let length = match left {
             Left::Refusal(why) => print_refused(why.number(), why.place(), &mut self.out),
-            Left::End(steps, rows) => print_end(steps, rows, &mut self.out),
+            Left::End { steps, rows } => print_end(steps, rows, &mut self.out),
             Left::Rows(way) => return self.next_rows(way),
         };
         Page { length, left: None }

@@ -6,7 +6,7 @@ use Rattle.motifs.proofs.PagesLaid.{amount}
 use Rattle.motifs.proofs.write_pages.Given as goal
 
 abbrev pub invariant-loop-left : goal.invariant-loop-left
-invariant-loop-left g l = Printable l.letters l.lengths (told_rest l.left) × (l.pages.letters.now ≡ l.letters) × (l.pages.lengths.now ≡ l.lengths)
+invariant-loop-left g l = Printable l.set.letters.now l.set.lengths.now (told_rest l.left) × (l.pages.set.letters.now ≡ l.set.letters.now) × (l.pages.set.lengths.now ≡ l.set.lengths.now)
 
 abbrev pub decreases-loop-left : goal.decreases-loop-left
-decreases-loop-left g l = amount l.letters l.lengths (told_rest l.left)
+decreases-loop-left g l = amount l.set.letters.now l.set.lengths.now (told_rest l.left)

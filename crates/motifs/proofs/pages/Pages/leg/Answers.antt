@@ -16,32 +16,32 @@ pub print_page-length-requires-clause-sound_template : goal.print_page-length-re
 print_page-length-requires-clause-sound_template c =
     let s = c.args.self.now in
     let e = rows_told c.leg-leg.ensures.result_value in
-    λ h. rows_sound s.letters.now s.lengths.now c.args.search c.args.budget s.motifs s.supports s.weights (omega (arith, e))
+    λ h. rows_sound s.set.letters.now s.set.lengths.now c.args.search c.args.budget s.motifs s.supports s.weights (omega (arith, e))
 
 pub print_page-length-requires-clause-rows_in_bounds : goal.print_page-length-requires-clause-rows_in_bounds
 print_page-length-requires-clause-rows_in_bounds c =
     let s = c.args.self.now in
     let e = rows_told c.leg-leg.ensures.result_value in
-    let f = rows_fit s.letters.now s.lengths.now c.args.search c.args.budget s.motifs s.supports s.weights in
+    let f = rows_fit s.set.letters.now s.set.lengths.now c.args.search c.args.budget s.motifs s.supports s.weights in
     (omega (arith, e, f), omega (arith, e, f), omega (arith, e, f))
 
 pub print_page-length-requires-clause-rows_in_bounds_2 : goal.print_page-length-requires-clause-rows_in_bounds_2
 print_page-length-requires-clause-rows_in_bounds_2 c =
     let s = c.args.self.now in
     let e = rows_told c.leg-leg.ensures.result_value in
-    let f = rows_fit s.letters.now s.lengths.now c.args.search c.args.budget s.motifs s.supports s.weights in
+    let f = rows_fit s.set.letters.now s.set.lengths.now c.args.search c.args.budget s.motifs s.supports s.weights in
     let m : length s.motifs ≡ page_rows = search rules in
     let o : length s.out ≡ page_rows * 256 = search rules in
     omega (arith, e, f, m, o)
 
 -- the page that was written
 page_is : (c : After-print_page-length) → let s = c.args.self.now in
-    Page c.leg-leg.result.rows (leg_page s.letters.now s.lengths.now c.args.search c.args.budget page_rows) s.out c.print_page-length.new.out c.print_page-length.result
+    Page c.leg-leg.result.rows (leg_page s.set.letters.now s.set.lengths.now c.args.search c.args.budget page_rows) s.out c.print_page-length.new.out c.print_page-length.result
 page_is c =
     let s = c.args.self.now in
     let l = c.leg-leg.ensures in
     let r : room_of s.motifs s.supports s.weights ≡ page_rows = all_room _ _ _ (search rules) (search rules) (search rules) in
-    let p = page_left s.letters.now s.lengths.now c.args.search c.args.budget s.motifs s.supports s.weights (rows_told l.result_value) l.motifs_after l.supports_after l.weights_after c.print_page-length.ensures in
+    let p = page_left s.set.letters.now s.set.lengths.now c.args.search c.args.budget s.motifs s.supports s.weights (rows_told l.result_value) l.motifs_after l.supports_after l.weights_after c.print_page-length.ensures in
     rw r at p
 
 pub returns-clause-length_value : goal.returns-clause-length_value
@@ -54,7 +54,7 @@ pub returns-clause-length_in_bounds : goal.returns-clause-length_in_bounds
 returns-clause-length_in_bounds c =
     let s = c.args.self.now in
     let e = rows_told c.leg-leg.ensures.result_value in
-    let f = rows_fit s.letters.now s.lengths.now c.args.search c.args.budget s.motifs s.supports s.weights in
+    let f = rows_fit s.set.letters.now s.set.lengths.now c.args.search c.args.budget s.motifs s.supports s.weights in
     let m : length s.motifs ≡ page_rows = search rules in
     let o : length c.print_page-length.new.out ≡ page_rows * 256 = search rules in
     omega (arith, c.print_page-length.ensures.short, e, f, m, o)
