@@ -5,7 +5,7 @@
 
 mod print;
 
-ghost use Rattle.std.specs.Prelude.{◌≡◌, ◌+◌, ◌≤◌, length};
+ghost use Rattle.std.specs.Prelude.{◌≡◌, ◌+◌, length};
 ghost use Rattle.rules.specs.Limits.{fasta_bytes};
 ghost use Rattle.text.specs.Printed.{line_room};
 
@@ -28,9 +28,7 @@ fn check_written(errors: &impl Print, wrote: bool) {
 }
 
 // Answers a file.
-fn answer(rt: &impl Print, errors: &impl Print, file: &[u8], out: &mut [u8])
-    requires { fasta_bytes + line_room ≤ length out.old }
-{
+fn answer(rt: &impl Print, errors: &impl Print, file: &[u8], out: &mut [u8; BYTES]) {
     let n = print_lines(file, out);
     let wrote = rt.write_all(&out[..n]).is_ok();
     check_written(errors, wrote);

@@ -27,8 +27,7 @@ fn end_line(used: usize, letters: usize, out: &mut [u8]) -> usize
 }
 
 // The lines of a file's records, at the front of `out`, and how many bytes they have; or what is refused.
-fn print_records(file: &[u8], out: &mut [u8]) -> Result<usize, FileRefusal>
-    requires { fasta_bytes + line_room ≤ length out.old }
+fn print_records(file: &[u8], out: &mut [u8; BYTES]) -> Result<usize, FileRefusal>
     ensures lines { IfOk result (λ n. (take n out.new ≡ lines_rule file.now) × (n ≡ length (lines_rule file.now))) }
     ensures refusal { IfErr result (λ why. print_refused (file_refusal_number why) (file_refusal_place why) ≡ lines_rule file.now) }
 {
@@ -37,6 +36,7 @@ fn print_records(file: &[u8], out: &mut [u8]) -> Result<usize, FileRefusal>
     }
     let mut reader = Reader::new(file);
     let mut used: usize = 0;
+    // From record to record, as the reader hands them out: it fills what is lent to it, so that it is no iterator.
     while let Some(record) = reader.next(out, used, &mut [0; 1], 0)? {
         used = end_line(used, record.letters, out);
     }
@@ -44,8 +44,7 @@ fn print_records(file: &[u8], out: &mut [u8]) -> Result<usize, FileRefusal>
 }
 
 // THE PRINTOUT of a file, at the front of `out`, and its length.
-pub fn print_lines(file: &[u8], out: &mut [u8]) -> usize
-    requires { fasta_bytes + line_room ≤ length out.old }
+pub fn print_lines(file: &[u8], out: &mut [u8; BYTES]) -> usize
     ensures out_after { take result out.new ≡ lines_rule file.now }
     ensures value { result ≡ length (lines_rule file.now) }
 {
