@@ -4,7 +4,7 @@
 
 mod tell;
 
-use rules::{Component, Offset, Profile, SequenceSet, Template};
+use rules::{Component, Offset, Profile, SequenceSet, Sequences, Template};
 use std::fmt::Display;
 use std::io;
 
@@ -21,8 +21,14 @@ impl<'a> Case<'a> {
     // Begins the search, and tells what it answers.
     fn tell(self, rt: &impl Print, what: impl Display + Drop) -> io::Result<()> {
         print!(rt; "{what}")?;
-        let begun = search::begin(self.letters, self.lengths, self.template, self.quorum);
-        tell::begun(rt, self.letters, self.lengths, begun)
+        let Case {
+            letters,
+            lengths,
+            ..
+        } = self;
+        let set = Sequences { letters, lengths };
+        let begun = search::begin(&set, self.template, self.quorum);
+        tell::begun(rt, &set, begun)
     }
 }
 
@@ -168,9 +174,13 @@ fn example(rt: &impl Print) -> io::Result<()> {
         quorum: 2,
     }
     .tell(rt, "example")?;
+    let set = Sequences {
+        letters,
+        lengths: &lengths,
+    };
     let mut out = [0u32; 16];
     print!(rt; "example, motif 93313")?;
-    let recovered = recovery::recover(letters, &lengths, template, 93313, 0, &mut out);
+    let recovered = recovery::recover(&set, template, 93313, 0, &mut out);
     tell::recovered(rt, recovered, &out)
 }
 

@@ -1,5 +1,5 @@
 // What is printed of an answer: a refusal's number and place, or the counts and the rows.
-use rules::{Recovered, Refusal, Search, Stop};
+use rules::{Recovered, Refusal, Search, Sequences, Stop};
 use std::fmt::Display;
 use std::io;
 
@@ -29,13 +29,12 @@ fn table<T: Display>(rt: &impl Print, table: &[T]) -> io::Result<()> {
 }
 
 // The first leg of a search: why it stopped, its steps and its rows, and its three tables.
-fn leg(rt: &impl Print, letters: &[u8], lengths: &[u32], search: Search) -> io::Result<()> {
+fn leg(rt: &impl Print, set: &Sequences, search: Search) -> io::Result<()> {
     let mut motifs = [0u64; 8];
     let mut supports = [0u32; 8];
     let mut weights = [0u64; 8];
     let leg = search::leg(
-        letters,
-        lengths,
+        set,
         search,
         BUDGET,
         &mut motifs,
@@ -52,14 +51,9 @@ fn leg(rt: &impl Print, letters: &[u8], lengths: &[u32], search: Search) -> io::
 }
 
 // A new search: refused, or its first leg.
-pub fn begun(
-    rt: &impl Print,
-    letters: &[u8],
-    lengths: &[u32],
-    answer: Result<Search, Refusal>,
-) -> io::Result<()> {
+pub fn begun(rt: &impl Print, set: &Sequences, answer: Result<Search, Refusal>) -> io::Result<()> {
     match answer {
-        Ok(search) => leg(rt, letters, lengths, search),
+        Ok(search) => leg(rt, set, search),
         Err(why) => refused(rt, why),
     }
 }
