@@ -9,6 +9,7 @@ mod refusals;
 mod shape;
 
 ghost use Rattle.std.specs.Prelude.{◌≡◌};
+ghost use Rattle.rules.specs.Sound.{SoundTemplate};
 ghost use Rattle.rules.specs.Limits.{letter_bases, letter_bits, letter_symbols, letter_digits, letter_mark, profile_exact, profile_mixed, template_components, template_length, template_letters, template_mixed, template_gap, sequence_set_sequences, sequence_set_letters, record_bytes, record_size, record_component, record_place, record_extra, text_bytes, text_gap_digits, text_quorum_digits, fasta_bytes, fasta_length};
 
 // The three countings, each a type of its own, so that none can be taken for another.
@@ -98,6 +99,14 @@ pub struct SequenceSet {
 pub struct Place {
     pub letters: u8,
     pub number: u64,
+}
+
+// A motif of a sound template, by its number.
+#[derive(Clone, Copy)]
+pub struct Motif {
+    pub template: Template,
+    pub number: u64,
+    pub ghost sound: { SoundTemplate template },
 }
 
 // A search: what it is over, and where it stands.

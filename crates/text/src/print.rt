@@ -6,7 +6,7 @@ ghost use Rattle.rules.specs.Sound.{SoundTemplate};
 ghost use Rattle.text.specs.Printed.{line_room, WroteLine, Prints, HasRoom, HasLine, number_pair, motif_letters, ranged_word, size_from, shape_from, row, printed_page, Page};
 
 use super::read::copy_part;
-use rules::{Component, Letter, Template};
+use rules::{Component, Letter, Motif, Template};
 
 // Room for the longest line that is printed. Each function that prints one asks for it by a clause: a type of a lent buffer that is long
 // enough would want a clause too, that it is still the caller's.
@@ -17,14 +17,6 @@ pub const LINE: usize = 256;
 struct Printer<'a> {
     out: &'a mut [u8],
     at: usize,
-}
-
-// A motif of a sound template, by its number.
-#[derive(Clone, Copy)]
-struct Motif {
-    template: Template,
-    number: u64,
-    ghost sound: { SoundTemplate template },
 }
 
 impl<'a> Printer<'a> {
