@@ -93,6 +93,9 @@ pub struct Descent<'a> {
 }
 
 impl Descent<'_> {
+    // That a position is one of the sequence's is asked for here and in two functions more: a type that carries it would hold the number
+    // of letters too, and each of the three would ask that it is this sequence's.
+
     // Whether a component can start at a position, with the rest after it.
     fn can_start(&self, component: usize, at: Position) -> bool
         requires { (component < template_components) × (1 ≤ at.0) × (at.0 ≤ self.now.letters) }

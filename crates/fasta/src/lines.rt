@@ -47,6 +47,7 @@ pub(crate) fn first_line(file: &[u8], at: usize) -> Option<Line<'_>>
     ensures { MatchOption result (lines_from file.now at ≡ []) (λ l. FirstLine file.now at l.start l.text.now l.next) }
 {
     let mut start = at;
+    // No `for`: it counts nothing, and goes from line to line.
     while start < file.len() {
         let line = line_at(file, start);
         if !line.text.is_empty() {

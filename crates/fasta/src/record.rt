@@ -47,6 +47,7 @@ pub(crate) fn measure(file: &[u8], from: usize) -> Body
     let mut at = from;
     let mut size: usize = 0;
     let mut bad = None;
+    // No `for`: it counts nothing, and goes from line to line.
     while let Some(line) = body_line(file, at) {
         bad = bad.or_else(|| bad_in(line.start, line.text));
         size += line.text.len();
@@ -66,6 +67,7 @@ pub(crate) fn copy_body(file: &[u8], from: usize, letters: &mut [u8])
 {
     let mut at = from;
     let mut used: usize = 0;
+    // No `for`: it counts nothing, and goes from line to line.
     while let Some(line) = body_line(file, at) {
         let end = used + line.text.len();
         letters[used..end].copy_from_slice(line.text);
