@@ -33,6 +33,7 @@ impl<'a> Reader<'a> {
     //
     // `used` and `count` stay numbers beside the whole tables, of which `reader_rule` speaks: the C interface passes them so, and a
     // `used` past the buffer's end is refused (20), which no slice of the rest could show.
+    #[tactic(auto, using(crate::proofs::Handing::rule_end, crate::proofs::Handing::rule_text))]
     pub fn next(
         &mut self,
         letters: &mut [u8],
@@ -56,6 +57,7 @@ impl<'a> Reader<'a> {
     }
 
     // Hands out the record whose header is a line, or refuses it.
+    #[tactic(auto, using(crate::proofs::Names::name_fits))]
     fn hand_out(
         &mut self,
         header: Line,

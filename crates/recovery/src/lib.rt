@@ -147,6 +147,7 @@ fn list_sequences(set: &Sequences, motif: Motif, marks: &mut Marks, page: &mut P
 }
 
 // 14: a number that is no motif's.
+#[tactic(auto, unfolding(rules::specs::Refusals::check14))]
 fn check_motif(template: Template, motif: u64) -> Result<(), Refusal>
     ensures { told_checked result ≡ check14 template motif }
 {

@@ -4,7 +4,6 @@ use mathlib.Core.List.{map}
 use Prim.Native.Nat.{suc, ◌-◌, ◌<◌}
 use native.Mathlib.Omega.{arith}
 use lib.ListN.{length, length-map}
-use Rattle.descent.specs.Paths.{Flagged}
 use Rattle.recovery.proofs.FlagsFromWays.{room_kept, flagged_more, flagged_none}
 use Rattle.rules.specs.Letters.{value}
 use Rattle.rules.specs.Limits.{template_components, template_letters}
@@ -37,16 +36,8 @@ loop-component-preserved c =
       counted = λ h. r.ways_after;
     }
 
-pub returns : goal.returns
-returns c =
-    let a = c.args in
+pub returns-clause-ways_after : goal.returns-clause-ways_after
+returns-clause-ways_after c =
     let l = c.loop-component in
-    let cs = parts a.motif.template (size a.motif.template) a.motif.number in
-    let s = map value a.sequence.letters.now in
     let z : l.component ≡ 0 = omega arith in
-    let f : Flagged cs s l.self.flags 0 = rw (← z) l.invariant.flagged in
-    let w = counts_motif c.args.motif.sound a.motif.number template_letters c.args.motif.sound.deep 0 a.sequence.letters.now c.spell.ensures (rw z at (l.invariant.counted (omega (arith, c.args.motif.sound.some)))) in
-    record {
-      flagged = f;
-      ways_after = w;
-    }
+    counts_motif c.args.motif.sound c.args.motif.number template_letters c.args.motif.sound.deep 0 c.args.sequence.letters.now c.spell.ensures (rw z at (l.invariant.counted (omega (arith, c.args.motif.sound.some))))
