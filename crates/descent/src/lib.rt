@@ -48,6 +48,7 @@ impl<'a> Page<'a> {
     }
 
     // A row more: it is passed over, written behind the last one, or left out for want of room.
+    #[tactic(auto, using(crate::proofs::Buffer::emit_passed, crate::proofs::Buffer::emit_left))]
     fn emit(&mut self, row: &[u32])
         requires { 0 < length row.now }
         ensures same_buffer { self.new.out.ghost_name ≡ self.old.out.ghost_name }
@@ -93,7 +94,11 @@ pub struct Descent<'a> {
 }
 
 impl Descent<'_> {
+    // That a position is one of the sequence's is asked for here and in two functions more: a type that carries it would hold the number
+    // of letters too, and each of the three would ask that it is this sequence's.
+
     // Whether a component can start at a position, with the rest after it.
+    #[tactic(auto, using(crate::proofs::Paths::flag_in))]
     fn can_start(&self, component: usize, at: Position) -> bool
         requires { (component < template_components) × (1 ≤ at.0) × (at.0 ≤ self.now.letters) }
         ensures { result ≡ flag self.now.letters self.now.flags.now component at.0 }
@@ -147,6 +152,7 @@ impl Descent<'_> {
 
     // The same of all occurrences whose first start is `at`. Where no row of theirs is asked for, they are passed over at once, as
     // many as there are.
+    #[tactic(auto, using(crate::proofs::Buffer::passed_over, crate::proofs::StartByStart::handed_one))]
     fn list_start(&self, at: Position, row: [u32; ROW], page: &mut Page<'_>)
         requires { (1 ≤ at.0) × (at.0 ≤ self.now.letters) }
         ensures same_buffer { page.new.out.ghost_name ≡ page.old.out.ghost_name }

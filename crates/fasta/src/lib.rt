@@ -30,6 +30,10 @@ impl<'a> Reader<'a> {
 
     // THE NEXT RECORD: the reader moves on past it. Its letters go to `letters`, behind the `used` that it holds, and their number to
     // `lengths`, behind its `count` rows. A call that hands out none writes nothing, and the reader stays where it stood.
+    //
+    // `used` and `count` stay numbers beside the whole tables, of which `reader_rule` speaks: the C interface passes them so, and a
+    // `used` past the buffer's end is refused (20), which no slice of the rest could show.
+    #[tactic(auto, using(crate::proofs::Handing::rule_end, crate::proofs::Handing::rule_text))]
     pub fn next(
         &mut self,
         letters: &mut [u8],
@@ -53,6 +57,7 @@ impl<'a> Reader<'a> {
     }
 
     // Hands out the record whose header is a line, or refuses it.
+    #[tactic(auto, using(crate::proofs::Names::name_fits))]
     fn hand_out(
         &mut self,
         header: Line,

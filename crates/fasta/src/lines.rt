@@ -43,10 +43,12 @@ pub(crate) fn line_at(file: &[u8], at: usize) -> Line<'_>
 }
 
 // The first line from an offset on that is not empty.
+#[tactic(auto, using(crate::proofs::FileLines::line_skip, crate::proofs::FileLines::lines_end))]
 pub(crate) fn first_line(file: &[u8], at: usize) -> Option<Line<'_>>
     ensures { MatchOption result (lines_from file.now at ≡ []) (λ l. FirstLine file.now at l.start l.text.now l.next) }
 {
     let mut start = at;
+    // No `for`: it counts nothing, and goes from line to line.
     while start < file.len() {
         let line = line_at(file, start);
         if !line.text.is_empty() {

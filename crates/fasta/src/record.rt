@@ -28,6 +28,7 @@ fn body_line(file: &[u8], at: usize) -> Option<Line<'_>>
 }
 
 // The first byte of a line that is no letter.
+#[tactic(auto, using(checks::proofs::Laws::all_letters))]
 fn bad_in(start: usize, text: &[u8]) -> Option<FileOffset>
     requires { start + length text.now < 2 ^ 64 }
     ensures { check_line (line start text.now) ≡ told_bad result }
@@ -47,6 +48,7 @@ pub(crate) fn measure(file: &[u8], from: usize) -> Body
     let mut at = from;
     let mut size: usize = 0;
     let mut bad = None;
+    // No `for`: it counts nothing, and goes from line to line.
     while let Some(line) = body_line(file, at) {
         bad = bad.or_else(|| bad_in(line.start, line.text));
         size += line.text.len();
@@ -60,12 +62,14 @@ pub(crate) fn measure(file: &[u8], from: usize) -> Body
 }
 
 // Writes the bytes of those lines, joined, to the front of a buffer.
+#[tactic(auto, using(crate::proofs::Body::copied_none, crate::proofs::Body::copied_fits, crate::proofs::Body::copied_all))]
 pub(crate) fn copy_body(file: &[u8], from: usize, letters: &mut [u8])
     requires { (from ≤ length file.now) × (length (texts (body file.now from)) ≤ length letters.old) }
     ensures { letters.new ≡ put (texts (body file.now from)) letters.old }
 {
     let mut at = from;
     let mut used: usize = 0;
+    // No `for`: it counts nothing, and goes from line to line.
     while let Some(line) = body_line(file, at) {
         let end = used + line.text.len();
         letters[used..end].copy_from_slice(line.text);
@@ -84,6 +88,7 @@ pub(crate) fn name_length(text: &[u8]) -> usize
 }
 
 // Whether a buffer and a table have no room for a record of so many letters, `used` and `count` of them being filled.
+// Tried as `get_mut` of the rest and of the row in the caller: that made three refusals of this one, and was no plainer.
 pub(crate) fn no_room(
     letters: &[u8],
     used: usize,

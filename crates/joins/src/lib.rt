@@ -14,6 +14,7 @@ ghost use Rattle.joins.specs.Pass.{verdict, is_following, LieBefore, Reached, is
 use rules::{Distances, Position, Refusal, SequenceSet, Template};
 
 // 6: the head has the length of a component.
+#[tactic(auto, unfolding(rules::specs::Refusals::check6_head))]
 fn check_head(head: u16) -> Result<(), Refusal>
     ensures { told_checked result ≡ check6_head head }
 {
@@ -21,6 +22,7 @@ fn check_head(head: u16) -> Result<(), Refusal>
 }
 
 // 8: the range is one of a gap.
+#[tactic(auto, unfolding(rules::specs::Refusals::check8_range))]
 fn check_range(low: u16, high: u16) -> Result<(), Refusal>
     ensures { told_checked result ≡ check8_range low high }
 {
@@ -35,6 +37,7 @@ fn follows(last: Position, p: Position) -> bool
 }
 
 // Whether the positions rise strictly from 1 on and none is past the last letter that there may be.
+#[tactic(auto, using(crate::proofs::Rising::rises_not, crate::proofs::Rising::rises_on, crate::proofs::Rising::rises_end))]
 fn rises(list: &[u32]) -> bool
     ensures { result ≡ is_rising 0 list.now }
 {
@@ -50,6 +53,7 @@ fn rises(list: &[u32]) -> bool
 }
 
 // 16: both lists rise.
+#[tactic(auto, unfolding(rules::specs::Refusals::check16))]
 fn check_lists(first: &[u32], second: &[u32]) -> Result<(), Refusal>
     ensures { told_checked result ≡ check16 first.now second.now }
 {
@@ -57,6 +61,7 @@ fn check_lists(first: &[u32], second: &[u32]) -> Result<(), Refusal>
 }
 
 // 17: the table has room for all of the first list.
+#[tactic(auto, unfolding(rules::specs::Refusals::check17))]
 fn check_room(first: &[u32], out: &[u32]) -> Result<(), Refusal>
     ensures { told_checked result ≡ check17 (length first.now) out.now }
 {
@@ -94,6 +99,7 @@ fn skip(list: &[u32], at: usize, from: Position) -> usize
 }
 
 // Whether a list has a position at `at`, and it is before `end`.
+#[tactic(auto, unfolding(crate::specs::Pass::is_within))]
 fn within(list: &[u32], at: usize, end: Position) -> bool
     ensures { result ≡ is_within list.now at end.0 }
 {

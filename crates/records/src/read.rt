@@ -11,6 +11,7 @@ pub(crate) struct SavedRecord<'a>(pub(crate) &'a [u8]);
 
 impl<'a> SavedRecord<'a> {
     // The number in n bytes from byte k on, the low byte first.
+    #[tactic(auto, using(crate::proofs::Fields::read_none, crate::proofs::Fields::read_room))]
     pub(crate) fn field(self, k: usize, n: usize) -> u64
         requires { (k + n ≤ record_bytes) × (n ≤ 8) }
         ensures value { result ≡ field self.entry.0.now k n }
@@ -54,6 +55,7 @@ pub(crate) struct SavedBytes<'a>(pub(crate) &'a [u8]);
 
 impl<'a> SavedBytes<'a> {
     // Record i.
+    #[tactic(auto, using(crate::proofs::Fields::record_cut))]
     pub(crate) fn record(self, i: RecordNumber) -> SavedRecord<'a>
         ensures { result.0.now ≡ record_at self.entry.0.now i.0 }
     {

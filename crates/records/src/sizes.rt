@@ -1,7 +1,7 @@
 // 10 and 22: the length of saved bytes, and K.
 ghost use Rattle.std.specs.Prelude.{◌≡◌};
 ghost use Rattle.rules.specs.Refusals.{check10, check22};
-ghost use Rattle.rules.specs.Saved.{read_search, is_sized, adds_up};
+ghost use Rattle.rules.specs.Saved.{read_search, is_sized};
 ghost use Rattle.rules.specs.Told.{told_checked};
 
 use crate::read::SavedBytes;
@@ -26,21 +26,12 @@ pub(crate) fn check_sized(bytes: SavedBytes<'_>) -> Result<(), Refusal>
     Refusal::SavedSize.when(!sized(bytes))
 }
 
-// K, as the size record has it, is the sum of the lengths, in the bytes that hold this search.
-#[tactic(auto, unfolding(rules::specs::Saved::read_search, rules::specs::Saved::adds_up))]
-fn adds_up(bytes: SavedBytes<'_>, s: Search) -> bool
-    requires { s ≡ read_search bytes.0.now }
-    ensures { result ≡ adds_up bytes.entry.0.now }
-{
-    let k = bytes.record(RecordNumber(0)).field(6, 2);
-    k == u64::from(s.template.letters())
-}
-
-// 22: a K that is not the sum of the lengths.
-#[tactic(auto, unfolding(rules::specs::Refusals::check22))]
+// 22: a K, as the size record has it, that is not the sum of the lengths. The bytes hold this search.
+#[tactic(auto, unfolding(rules::specs::Refusals::check22, rules::specs::Saved::read_search, rules::specs::Saved::adds_up))]
 pub(crate) fn check_adds_up(bytes: SavedBytes<'_>, s: Search) -> Result<(), Refusal>
     requires { s ≡ read_search bytes.0.now }
     ensures { told_checked result ≡ check22 bytes.entry.0.now }
 {
-    Refusal::SavedSum.when(!adds_up(bytes, s))
+    let k = bytes.record(RecordNumber(0)).field(6, 2);
+    Refusal::SavedSum.when(k != u64::from(s.template.letters()))
 }

@@ -6,7 +6,7 @@ use mathlib.Core.List.{List, [], ◌∷◌, ◌++◌, map, append_assoc}
 use Prim.Native.Nat.{ℕ, suc, ◌+◌, ◌-◌, ◌*◌, ◌≤◌, ◌<◌}
 use native.Mathlib.Omega.{arith}
 use lib.Dec.{ltb}
-use lib.ListN.{length, take, drop, get_or, length-append, length-map, get_or-append, get_or-map}
+use lib.ListN.{length, take, drop, get_or, length-append, length-drop, length-map, length-take, get_or-append, get_or-map}
 use lib.Seq.{get_or-append-add, get_or-drop, get_or-take, length-take-le}
 use borrow.Author.Tests.{lt-ltb, ltb-true, ltb-false}
 use Rattle.descent.specs.Paths.{flag, paths, Flagged, WaysCounted}
@@ -97,6 +97,10 @@ module _ (cs : List Part) (s : List ℕ) (n c : ℕ) (letters : length s ≡ n) 
       flag_in (length s) flags' i p some inside
       ∙ ap (λ l. get_or l (i * sequence_set_letters + (p - 1)) false) is_placed ∙ past_place (c * sequence_set_letters) flags signs (omega arith) (i * sequence_set_letters + (p - 1)) (rw signs_length (omega arith))
       ∙ sym (flag_in (length s) flags i p some inside)
+
+  -- there are as many flags as before
+  pub room_kept : length flags' ≡ template_components * sequence_set_letters
+  room_kept = ap length is_placed ∙ simp (length-append, length-take, length-drop, signs_length) (omega arith)
 
   -- with those of component c, the flags are right from c on
   pub flagged_more : Flagged cs s flags (suc c) → Flagged cs s flags' c

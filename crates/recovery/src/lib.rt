@@ -23,6 +23,31 @@ use descent::{Descent, FLAGS, Page};
 use rules::{Offset, Recovered, Refusal, SequenceNumber, SequenceSet, Sequences, Template};
 use ways::{step, sum};
 
+// A motif of a sound template, by its number.
+#[derive(Clone, Copy)]
+struct Motif {
+    template: Template,
+    number: u64,
+    ghost sound: { SoundTemplate template },
+}
+
+// A sequence of a sound set, with its number.
+#[derive(Clone, Copy)]
+struct Sequence<'a> {
+    number: SequenceNumber,
+    letters: &'a [u8],
+    ghost numbered: { number.0 ≤ sequence_set_sequences },
+    ghost short: { length letters.now ≤ sequence_set_letters },
+}
+
+// What a sequence is read by: in how many ways a component can start at each position with those after it, and for each component
+// and position whether it can.
+#[derive(Drop)]
+struct Marks {
+    ways: [u64; SequenceSet::LETTERS],
+    flags: [bool; FLAGS],
+}
+
 // Sets the flags of the positions that have a number above 0, and clears the others.
 fn set_flags(ways: &[u64], flags: &mut [bool])
     requires { length flags.old ≡ length ways.now }
@@ -33,114 +58,96 @@ fn set_flags(ways: &[u64], flags: &mut [bool])
     }
 }
 
-// The flags of a component in a sequence, from the ways of it and those after it. `ways` has those of the ones after it, and
-// then its own. The motif's letters are the last of `word`, each by the bases that it stands for.
-fn mark_component(
-    sequence: &[u8],
-    template: Template,
-    word: &[u8],
-    component: usize,
-    ways: &mut [u64; SequenceSet::LETTERS],
-    flags: &mut [bool; FLAGS],
-)
-    requires sound_template { SoundTemplate template }
-    requires component_lt_count { (component < template.count) × (size template ≤ length word.now) × (length sequence.now ≤ sequence_set_letters) }
-    requires ways_value { component + 1 < template.count → take (length sequence.now) ways.old ≡ counts (aligned (drop (component + 1) (components template)) word.now) sequence.now }
-    ensures ways_after { take (length sequence.now) ways.new ≡ counts (aligned (drop component (components template)) word.now) sequence.now }
-    ensures flags_after { flags.new ≡ take (component * sequence_set_letters) flags.old ++ (map (ltb 0) (take (length sequence.now) ways.new) ++ drop (component * sequence_set_letters + length sequence.now) flags.old) }
-{
-    let n = sequence.len();
-    step(sequence, template, word, component, &mut ways[..n]);
-    let begin = component * SequenceSet::LETTERS;
-    let end = begin + n;
-    set_flags(&ways[..n], &mut flags[begin..end]);
-}
+impl Marks {
+    // Marks a component in a sequence. The ways are those of the components after it, and then its own. The motif's letters are the
+    // last of `word`, each by the bases that it stands for.
+    fn mark_component(
+        &mut self,
+        sequence: Sequence<'_>,
+        motif: Motif,
+        word: &[u8],
+        component: usize,
+    )
+        requires component_lt_count { (component < motif.template.count) × (size motif.template ≤ length word.now) }
+        requires ways_value { component + 1 < motif.template.count → take (length sequence.letters.now) self.old.ways ≡ counts (aligned (drop (component + 1) (components motif.template)) word.now) sequence.letters.now }
+        ensures ways_after { take (length sequence.entry.letters.now) self.new.ways ≡ counts (aligned (drop component (components motif.template)) word.now) sequence.entry.letters.now }
+        ensures flags_after { self.new.flags ≡ take (component * sequence_set_letters) self.old.flags ++ (map (ltb 0) (take (length sequence.entry.letters.now) self.new.ways) ++ drop (component * sequence_set_letters + length sequence.entry.letters.now) self.old.flags) }
+    {
+        let n = sequence.letters.len();
+        step(
+            sequence.letters,
+            motif.template,
+            word,
+            component,
+            &mut self.ways[..n],
+        );
+        let begin = component * SequenceSet::LETTERS;
+        let end = begin + n;
+        set_flags(&self.ways[..n], &mut self.flags[begin..end]);
+    }
 
-// The flags of all components in a sequence, from the last to the first. The ways that are left are those of the first.
-fn mark(
-    sequence: &[u8],
-    template: Template,
-    motif: u64,
-    ways: &mut [u64; SequenceSet::LETTERS],
-    flags: &mut [bool; FLAGS],
-)
-    requires sound_template { SoundTemplate template }
-    requires sequence_len_bound { length sequence.now ≤ sequence_set_letters }
-    ensures flagged { Flagged (parts template (size template) motif) (map value sequence.now) flags.new 0 }
-    ensures ways_after { take (length sequence.now) ways.new ≡ counts (parts template (size template) motif) (map value sequence.now) }
-{
-    let mut word = [0u8; Template::LETTERS as usize];
-    let profile = template.profile;
-    profile.spell(motif, &mut word);
-    for component in (0..template.count as usize).rev() {
-        mark_component(sequence, template, &word, component, ways, flags);
+    // Marks all components in a sequence, from the last to the first. The ways that are left are those of the first.
+    fn mark(&mut self, sequence: Sequence<'_>, motif: Motif)
+        ensures flagged { Flagged (parts motif.template (size motif.template) motif.number) (map value sequence.entry.letters.now) self.new.flags 0 }
+        ensures ways_after { take (length sequence.entry.letters.now) self.new.ways ≡ counts (parts motif.template (size motif.template) motif.number) (map value sequence.entry.letters.now) }
+    {
+        let mut word = [0u8; Template::LETTERS as usize];
+        let profile = motif.template.profile;
+        profile.spell(motif.number, &mut word);
+        for component in (0..motif.template.count as usize).rev() {
+            self.mark_component(sequence, motif, &word, component);
+        }
     }
 }
 
 // The rows of one sequence, and how many there are.
 fn list_sequence(
-    sequence: &[u8],
-    number: SequenceNumber,
-    template: Template,
-    motif: u64,
-    ways: &mut [u64; SequenceSet::LETTERS],
-    flags: &mut [bool; FLAGS],
+    sequence: Sequence<'_>,
+    motif: Motif,
+    marks: &mut Marks,
     page: &mut Page<'_>,
 ) -> u64
-    requires sound_template { SoundTemplate template }
-    requires number_bound { (number.0 ≤ sequence_set_sequences) × (length sequence.now ≤ sequence_set_letters) }
-    requires sequence_len_bound { length (occurrences (parts template (size template) motif) (map value sequence.now)) < 2 ^ 64 }
+    requires sequence_len_bound { length (occurrences (parts motif.template (size motif.template) motif.number) (map value sequence.letters.now)) < 2 ^ 64 }
     ensures same_buffer { page.new.out.ghost_name ≡ page.old.out.ghost_name }
-    ensures page_after { buffer page.new.progress page.new.out.now ≡ emits (suc template.count) (with_front (number.0 ∷ []) (occurrences (parts template (size template) motif) (map value sequence.now))) (buffer page.old.progress page.old.out.now) }
-    ensures length_value { result ≡ length (occurrences (parts template (size template) motif) (map value sequence.now)) }
+    ensures page_after { buffer page.new.progress page.new.out.now ≡ emits (suc motif.template.count) (with_front (sequence.entry.number.0 ∷ []) (occurrences (parts motif.template (size motif.template) motif.number) (map value sequence.entry.letters.now))) (buffer page.old.progress page.old.out.now) }
+    ensures length_value { result ≡ length (occurrences (parts motif.template (size motif.template) motif.number) (map value sequence.entry.letters.now)) }
 {
-    mark(sequence, template, motif, ways, flags);
-    let n = sequence.len();
+    marks.mark(sequence, motif);
+    let n = sequence.letters.len();
     let descent = Descent {
-        template,
+        template: motif.template,
         letters: n,
-        flags,
-        ways,
+        flags: &marks.flags,
+        ways: &marks.ways,
     };
-    descent.list_starts(number, page);
-    sum(&ways[..n])
+    descent.list_starts(sequence.number, page);
+    sum(&marks.ways[..n])
 }
 
 // The rows of all sequences, each by its own part of the letters, and how many there are.
-fn list_sequences(
-    set: &Sequences,
-    template: Template,
-    motif: u64,
-    ways: &mut [u64; SequenceSet::LETTERS],
-    flags: &mut [bool; FLAGS],
-    page: &mut Page<'_>,
-) -> u64
+fn list_sequences(set: &Sequences, motif: Motif, marks: &mut Marks, page: &mut Page<'_>) -> u64
     requires sound_set { SoundSet set.now.letters.now set.now.lengths.now }
-    requires sound_template { SoundTemplate template }
     ensures same_buffer { page.new.out.ghost_name ≡ page.old.out.ghost_name }
-    ensures page_after { buffer page.new.progress page.new.out.now ≡ emits (suc template.count) (occurrence_rows (parts template (size template) motif) (sequences set.now.letters.now set.now.lengths.now)) (buffer page.old.progress page.old.out.now) }
-    ensures length_value { result ≡ length (occurrence_rows (parts template (size template) motif) (sequences set.now.letters.now set.now.lengths.now)) }
+    ensures page_after { buffer page.new.progress page.new.out.now ≡ emits (suc motif.template.count) (occurrence_rows (parts motif.template (size motif.template) motif.number) (sequences set.now.letters.now set.now.lengths.now)) (buffer page.old.progress page.old.out.now) }
+    ensures length_value { result ≡ length (occurrence_rows (parts motif.template (size motif.template) motif.number) (sequences set.now.letters.now set.now.lengths.now)) }
 {
     let mut length: u64 = 0;
     let mut begin: usize = 0;
     for (i, letters_here) in set.lengths.iter().enumerate() {
         let end = begin + *letters_here as usize;
         let number = i + 1;
-        length += list_sequence(
-            SequenceSet::part(set.letters, Offset(begin), Offset(end)),
-            SequenceNumber(number),
-            template,
-            motif,
-            ways,
-            flags,
-            page,
-        );
+        let sequence = Sequence {
+            number: SequenceNumber(number),
+            letters: SequenceSet::part(set.letters, Offset(begin), Offset(end)),
+        };
+        length += list_sequence(sequence, motif, marks, page);
         begin = end;
     }
     length
 }
 
 // 14: a number that is no motif's.
+#[tactic(auto, unfolding(rules::specs::Refusals::check14))]
 fn check_motif(template: Template, motif: u64) -> Result<(), Refusal>
     ensures { told_checked result ≡ check14 template motif }
 {
@@ -162,20 +169,20 @@ fn check_recovery(set: &Sequences, template: Template, motif: u64) -> Result<(),
 // it, all rows are passed over and nothing is written.
 fn recover_rows(
     set: &Sequences,
-    template: Template,
-    motif: u64,
+    motif: Motif,
     first: u64,
     out: &mut [u32],
 ) -> Result<Recovered, Refusal>
     requires sound_set { SoundSet set.now.letters.now set.now.lengths.now }
-    requires sound_template { SoundTemplate template }
-    ensures result_value { told_answer result ≡ (rows_rule set.now.letters.now set.now.lengths.now template motif first out.old).told }
-    ensures out_after { out.new ≡ (rows_rule set.now.letters.now set.now.lengths.now template motif first out.old).out }
+    ensures result_value { told_answer result ≡ (rows_rule set.now.letters.now set.now.lengths.now motif.template motif.number first out.old).told }
+    ensures out_after { out.new ≡ (rows_rule set.now.letters.now set.now.lengths.now motif.template motif.number first out.old).out }
 {
-    let mut ways = [0u64; SequenceSet::LETTERS];
-    let mut flags = [false; FLAGS];
+    let mut marks = Marks {
+        ways: [0; SequenceSet::LETTERS],
+        flags: [false; FLAGS],
+    };
     let mut page = Page::new(first, out);
-    let length = list_sequences(set, template, motif, &mut ways, &mut flags, &mut page);
+    let length = list_sequences(set, motif, &mut marks, &mut page);
     if length < first {
         return Err(Refusal::FirstRow);
     }
@@ -201,5 +208,9 @@ pub fn recover(
     ensures out_after { out.new ≡ (recover_rule set.now.letters.now set.now.lengths.now template motif first out.old).out }
 {
     check_recovery(set, template, motif)?;
-    recover_rows(set, template, motif, first, out)
+    let motif = Motif {
+        template,
+        number: motif,
+    };
+    recover_rows(set, motif, first, out)
 }

@@ -25,6 +25,7 @@ fn stands(word: &[u8], s: &[u8], o: usize) -> bool
 }
 
 // `v` where the letters stand, and else 0. Where `v` is 0, as where nothing can follow, the letters are not looked at.
+#[tactic(auto, using(crate::proofs::LetterByLetter::cell_true, crate::proofs::LetterByLetter::cell_false, crate::proofs::LetterByLetter::cell_none))]
 fn cell(word: &[u8], s: &[u8], o: usize, v: u64) -> u64
     requires { o ≤ length s.now }
     ensures { result ≡ cell word.now s.now (suc o) v }
@@ -36,6 +37,7 @@ fn cell(word: &[u8], s: &[u8], o: usize, v: u64) -> u64
 }
 
 // The number at `i`, and 0 past the end.
+#[tactic(auto, unfolding(crate::specs::Counts::at_position))]
 fn at(a: &[u64], i: usize) -> u64
     ensures { result ≡ at_position a.now (suc i) }
 {
@@ -88,6 +90,7 @@ fn letters(components: &[Component]) -> usize
 }
 
 // Where the letters of a component begin. The motif's letters are the last of `word`, each by the bases that it stands for.
+#[tactic(auto, using(crate::proofs::Aligned::left_components, crate::proofs::Aligned::left_fit))]
 fn begins(template: Template, word: &[u8], component: usize) -> usize
     requires sound_template { SoundTemplate template }
     requires component_le_count { (component ≤ template.count) × (size template ≤ length word.now) }

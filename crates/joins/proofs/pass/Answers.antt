@@ -2,15 +2,12 @@ use mathlib.Core.Path.{refl, sym, ◌∙◌}
 use native.Mathlib.Omega.{arith}
 use borrow.Author.Rules.{rules}
 use Rattle.joins.proofs.Partner.{passed_none, passed_on, first_decides}
-use Rattle.joins.proofs.Table.{kept_none, kept_few, kept_more, kept_all}
+use Rattle.joins.proofs.Table.{kept_none, kept_few, kept_more}
 use Rattle.joins.proofs.pass.Goals.{then-within, else-within}
 use Rattle.joins.proofs.pass.Goals as goal
 
 pub loop-p-init : goal.loop-p-init
 loop-p-init c = (search rules, search rules, kept_none _ _ 0 _, passed_none _ _ _ _)
-
-pub skip-j-requires : goal.skip-j-requires
-skip-j-requires c = let l = c.loop-p in (l.invariant.0, l.invariant.3.before l.p-index (search rules) (search rules))
 
 -- as many as were looked at are kept, and there is room for all
 pub bounds-out-n : goal.bounds-out-n
@@ -33,8 +30,3 @@ loop-p-preserved c =
       | then-within w ↦ (t.inside, search rules, more (rw w.if-within.true w.n-is) (rw w.if-within.true w.out-is), over)
       | else-within w ↦ (t.inside, search rules, more (rw w.if-within.false w.n-is) (rw w.if-within.false w.out-is), over)
     ]
-
-pub returns : goal.returns
-returns c =
-    let k = kept_all _ _ _ _ c.loop-p.invariant.2 (search rules) in
-    record { value = k.0; out_after = k.1 }

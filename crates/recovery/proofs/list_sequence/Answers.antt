@@ -16,22 +16,22 @@ invariant_of-descent c =
     let a = c.args in
     let m = c.mark.ensures in
     record {
-      sound = c.requires.sound_template;
-      short = c.requires.number_bound.1;
-      counted = counted c.requires.sound_template a.motif (map value a.sequence.now) _ m.flagged (length a.sequence.now) (length-map a.sequence.now value) _ m.ways_after;
+      sound = a.motif.sound;
+      short = a.sequence.short;
+      counted = counted a.motif.sound a.motif.number (map value a.sequence.letters.now) _ m.flagged (length a.sequence.letters.now) (length-map a.sequence.letters.now value) _ m.ways_after;
     }
 
 pub sum-requires : goal.sum-requires
 sum-requires c =
     let a = c.args in
-    rw (counts_sum (parts a.template (size a.template) a.motif) (map value a.sequence.now) c.mark.ensures.ways_after) c.requires.sequence_len_bound
+    rw (counts_sum (parts a.motif.template (size a.motif.template) a.motif.number) (map value a.sequence.letters.now) c.mark.ensures.ways_after) c.requires.sequence_len_bound
 
 pub returns-clause-page_after : goal.returns-clause-page_after
 returns-clause-page_after c =
     let a = c.args in
-    listed_are c.requires.sound_template a.motif (map value a.sequence.now) _ c.mark.ensures.flagged a.number.0 (length a.sequence.now) (length-map a.sequence.now value) (buffer a.page.now.progress a.page.now.out.now) c.list_starts.ensures.page_after
+    listed_are a.motif.sound a.motif.number (map value a.sequence.letters.now) _ c.mark.ensures.flagged a.sequence.number.0 (length a.sequence.letters.now) (length-map a.sequence.letters.now value) (buffer a.page.now.progress a.page.now.out.now) c.list_starts.ensures.page_after
 
 pub returns-clause-length_value : goal.returns-clause-length_value
 returns-clause-length_value c =
     let a = c.args in
-    c.sum.ensures ∙ counts_sum (parts a.template (size a.template) a.motif) (map value a.sequence.now) c.mark.ensures.ways_after
+    c.sum.ensures ∙ counts_sum (parts a.motif.template (size a.motif.template) a.motif.number) (map value a.sequence.letters.now) c.mark.ensures.ways_after

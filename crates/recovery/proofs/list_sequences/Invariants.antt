@@ -11,8 +11,8 @@ use Rattle.rules.specs.Template.{size}
 use Rattle.recovery.proofs.list_sequences.Given as goal
 
 abbrev pub invariant-loop-i : goal.invariant-loop-i
-invariant-loop-i l = let cs = parts l.template (size l.template) l.motif in
-    let through = going_through (suc l.template.count) cs l.set.lengths.now l.set.letters.now in record {
+invariant-loop-i l = let cs = parts l.motif.template (size l.motif.template) l.motif.number in
+    let through = going_through (suc l.motif.template.count) cs l.set.lengths.now l.set.letters.now in record {
       same_buffer : l.page.out.ghost_name ≡ l.initial.page.out.ghost_name;
       letters_left : l.begin + sum (drop l.i l.set.lengths.now) ≡ length l.set.letters.now;
       rows_left : through l.i l.begin (buffer l.page.progress l.page.out.now) ≡ through 0 0 (buffer l.initial.page.progress l.initial.page.out.now);

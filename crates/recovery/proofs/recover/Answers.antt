@@ -9,10 +9,11 @@ returns-in_err-check_recovery c =
     let r = rule_refused _ _ _ _ _ _ c.in_err-check_recovery.ensures in
     record { result_value = answer_handed_on _ _ c.from_residual.ensures ∙ r.0; out_after = r.1 }
 
+pub invariant_of-motif : goal.invariant_of-motif
+invariant_of-motif c = record { sound = (first_sound _ _ _ _ c.in_ok-check_recovery.ensures).1 }
+
 pub recover_rows-requires : goal.recover_rows-requires
-recover_rows-requires c =
-    let r = first_sound _ _ _ _ c.in_ok-check_recovery.ensures in
-    record { sound_set = r.0; sound_template = r.1 }
+recover_rows-requires c = record { sound_set = (first_sound _ _ _ _ c.in_ok-check_recovery.ensures).0 }
 
 pub returns : goal.returns
 returns c =

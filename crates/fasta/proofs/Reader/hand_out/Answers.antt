@@ -15,14 +15,6 @@ returns-in-Some-clause-rule c =
     let a = c.args in
     rule_bad a.self.now.file.now a.self.now.at a.letters.now a.used a.lengths.now a.count c.requires c.measure-body.ensures c.no_room.ensures c.if-no_room.false c.in-Some.is
 
-pub overflow_add-end : goal.overflow_add-end
-overflow_add-end c =
-    let a = c.args in
-    let l = c.requires.first in
-    let n = name_fits a.header.text.now l.some c.name_length.ensures in
-    let r = c.ranges.header in
-    omega (arith, l.line.ended, n.1, r)
-
 pub returns-clause-rule : goal.returns-clause-rule
 returns-clause-rule c =
     let a = c.args in

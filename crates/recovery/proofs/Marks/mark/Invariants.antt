@@ -9,11 +9,11 @@ use Rattle.rules.specs.Limits.{sequence_set_letters, template_components}
 use Rattle.rules.specs.Support.{parts}
 use Rattle.rules.specs.Template.{components, size}
 use Rattle.ways.specs.Counts.{counts, aligned}
-use Rattle.recovery.proofs.mark.Given as goal
+use Rattle.recovery.proofs.Marks.mark.Given as goal
 
 abbrev pub invariant-loop-component : goal.invariant-loop-component
 invariant-loop-component l = record {
-  room : length l.flags ≡ template_components * sequence_set_letters;
-  flagged : Flagged (parts l.template (size l.template) l.motif) (map value l.sequence) l.flags l.component;
-  counted : l.component < l.template.count → take (length l.sequence) l.ways ≡ counts (aligned (drop l.component (components l.template)) l.word) l.sequence;
+  room : length l.self.flags ≡ template_components * sequence_set_letters;
+  flagged : Flagged (parts l.motif.template (size l.motif.template) l.motif.number) (map value l.sequence.letters.now) l.self.flags l.component;
+  counted : l.component < l.motif.template.count → take (length l.sequence.letters.now) l.self.ways ≡ counts (aligned (drop l.component (components l.motif.template)) l.word) l.sequence.letters.now;
 }
