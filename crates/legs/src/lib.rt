@@ -37,7 +37,7 @@ pub fn leg(
     let mut work = [0u64; matching::WORDS];
     let mut spare = [0u64; matching::WORDS];
     let mut ways = [0u64; SequenceSet::LETTERS];
-    let made = tables::make(
+    let weighing = tables::make(
         search,
         set,
         &mut inside,
@@ -47,10 +47,11 @@ pub fn leg(
         &mut slots,
         &mut work,
     );
-    match places::check_passes(&made, &mut slots, &mut spare) {
+    match places::check_passes(&weighing.made, &mut slots, &mut spare) {
         Err(why) => Leg::refused(search, why),
         Ok(()) => run::run(
-            &made, budget, motifs, supports, weights, &mut slots, &mut work, &mut spare, &mut ways,
+            &weighing, budget, motifs, supports, weights, &mut slots, &mut work, &mut spare,
+            &mut ways,
         ),
     }
 }

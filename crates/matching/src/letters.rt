@@ -8,7 +8,7 @@ ghost use Rattle.matching.specs.Path.{letter_shifts, row_slot, BaseRows, FromBas
 ghost use Rattle.rows.specs.Bases.{word_of};
 ghost use Rattle.rows.specs.Bits.{held};
 ghost use Rattle.rows.specs.Rows.{lettered};
-ghost use Rattle.rows.specs.Set.{row_words, between, shifted_at, Filled};
+ghost use Rattle.rows.specs.Set.{row_words, between, shifted_at, Filled, Offsets};
 
 use super::made::{Made, Plan};
 use super::{BASES, DIGITS, ROWS};
@@ -48,14 +48,15 @@ fn sequence_slots(sequence: &[u8], from: usize, to: usize, standing: &mut [u64])
 }
 
 // The rows of the four letters of a sequence, in the first slots.
-pub fn letter_slots(plan: &Plan, standing: &mut [u64])
+pub fn letter_slots(plan: &Plan, offsets: &[u32], standing: &mut [u64])
+    requires offsets { Offsets plan.now.layout.lengths.now offsets.now }
     requires in_bounds { letter_bases * row_words ≤ length standing.old }
     ensures standing_len_unchanged { length standing.new ≡ length standing.old }
     ensures base_rows { BaseRows plan.now.layout.lengths.now plan.now.letters.now standing.new }
 {
     for k in 0..plan.layout.lengths.len() {
-        let a = plan.offsets[k] as usize;
-        let e = plan.offsets[k + 1] as usize;
+        let a = offsets[k] as usize;
+        let e = offsets[k + 1] as usize;
         let (from, to) = plan.layout.words(k);
         let sequence = SequenceSet::part(plan.letters, Offset(a), Offset(e));
         sequence_slots(sequence, from, to, standing);

@@ -16,7 +16,7 @@ pub returns-clause-slot : goal.returns-clause-slot
 returns-clause-slot c =
     let a = c.args in
     let m = c.begin-plan.ensures in
-    slot_same a.search.template _ _ 0 0 (sym (slot_is a.slots.now (search rules) _ m.standing_len_unchanged.1)) m.slot
+    slot_same a.search.template _ _ 0 0 (sym (slot_is a.slots.now (search rules) _ m.standing_len_unchanged.2)) m.slot
 
 pub slice_bounds-begin-end-2 : goal.slice_bounds-begin-end-2
 slice_bounds-begin-end-2 c = sym (slot_long c.args.slots.now (search rules))

@@ -22,7 +22,7 @@ later c h e = elim (dec_lt 1 c) [ yes l ↦ l | no l ↦ absurd (eqb-false c 1 e
 pub returns-then-count-eq1-clause-leads : goal.returns-then-count-eq1-clause-leads
 returns-then-count-eq1-clause-leads c =
     let y = c.fill.ensures.after (λ y h. search rules) in
-    let s = c.args.made.now.plan in
+    let s = c.args.weighing.now.made.plan in
     only_led s.letters.now c.args.ways.now c.requires.letters_in_bounds _ y s.search.template s.sound_template _ s.sound_set _ (omega (arith, c.if-count-eq1.true))
 
 pub loop-c-init : goal.loop-c-init
@@ -31,7 +31,7 @@ loop-c-init c =
 
 pub overflow_cast-more : goal.overflow_cast-more
 overflow_cast-more c =
-    let s = c.args.made.now.plan in
+    let s = c.args.weighing.now.made.plan in
     let p = c.requires in
     let l = c.loop-c in
     let t = turn s.sound_template s.depth_value c.components-components.ensures l.auto.c c.loop-c-test.true l.invariant.0 in
@@ -39,7 +39,7 @@ overflow_cast-more c =
 
 pub overflow_add-size : goal.overflow_add-size
 overflow_add-size c =
-    let s = c.args.made.now.plan in
+    let s = c.args.weighing.now.made.plan in
     let p = c.requires in
     let l = c.loop-c in
     let t = turn s.sound_template s.depth_value c.components-components.ensures l.auto.c c.loop-c-test.true l.invariant.0 in
@@ -47,7 +47,7 @@ overflow_add-size c =
 
 pub overflow_sub-left : goal.overflow_sub-left
 overflow_sub-left c =
-    let s = c.args.made.now.plan in
+    let s = c.args.weighing.now.made.plan in
     let p = c.requires in
     let l = c.loop-c in
     let t = turn s.sound_template s.depth_value c.components-components.ensures l.auto.c c.loop-c-test.true l.invariant.0 in
@@ -55,7 +55,7 @@ overflow_sub-left c =
 
 pub support-requires-clause-le_size : goal.support-requires-clause-le_size
 support-requires-clause-le_size c =
-    let s = c.args.made.now.plan in
+    let s = c.args.weighing.now.made.plan in
     let p = c.requires in
     let l = c.loop-c in
     let t = turn s.sound_template s.depth_value c.components-components.ensures l.auto.c c.loop-c-test.true l.invariant.0 in
@@ -63,7 +63,7 @@ support-requires-clause-le_size c =
 
 pub support-requires-clause-path : goal.support-requires-clause-path
 support-requires-clause-path c =
-    let s = c.args.made.now.plan in
+    let s = c.args.weighing.now.made.plan in
     let p = c.requires in
     let l = c.loop-c in
     let t = turn s.sound_template s.depth_value c.components-components.ensures l.auto.c c.loop-c-test.true l.invariant.0 in
@@ -71,7 +71,7 @@ support-requires-clause-path c =
 
 pub slot-opened-requires : goal.slot-opened-requires
 slot-opened-requires c =
-    let s = c.args.made.now.plan in
+    let s = c.args.weighing.now.made.plan in
     let p = c.requires in
     let l = c.loop-c in
     let t = turn s.sound_template s.depth_value c.components-components.ensures l.auto.c c.loop-c-test.true l.invariant.0 in
@@ -79,7 +79,7 @@ slot-opened-requires c =
 
 pub lead_all-requires-clause-le_d : goal.lead_all-requires-clause-le_d
 lead_all-requires-clause-le_d c =
-    let s = c.args.made.now.plan in
+    let s = c.args.weighing.now.made.plan in
     let p = c.requires in
     let l = c.loop-c in
     let t = turn s.sound_template s.depth_value c.components-components.ensures l.auto.c c.loop-c-test.true l.invariant.0 in
@@ -89,14 +89,14 @@ lead_all-requires-clause-le_d c =
 
 pub lead_all-requires-clause-bounded : goal.lead_all-requires-clause-bounded
 lead_all-requires-clause-bounded c =
-    let s = c.args.made.now.plan in
+    let s = c.args.weighing.now.made.plan in
     let p = c.requires in
     let is = c.support.ensures.row (omega arith) in
     row_bounded _ _ s.sound_set.adds s.sound_set.few _ (prefix_long s.search.template _ _) _ is
 
 pub lead_all-requires-clause-lengths_in_bounds : goal.lead_all-requires-clause-lengths_in_bounds
 lead_all-requires-clause-lengths_in_bounds c =
-    let s = c.args.made.now.plan in
+    let s = c.args.weighing.now.made.plan in
     let p = c.requires in
     let l = c.loop-c in
     let i = l.invariant in
@@ -105,7 +105,7 @@ lead_all-requires-clause-lengths_in_bounds c =
 
 pub lead_all-requires-clause-by_index : goal.lead_all-requires-clause-by_index
 lead_all-requires-clause-by_index c =
-    let s = c.args.made.now.plan in
+    let s = c.args.weighing.now.made.plan in
     let p = c.requires in
     let l = c.loop-c in
     let i = l.invariant in
@@ -118,7 +118,7 @@ lead_all-requires-clause-by_index c =
 
 pub lead_all-requires-clause-by_index_2 : goal.lead_all-requires-clause-by_index_2
 lead_all-requires-clause-by_index_2 c =
-    let s = c.args.made.now.plan in
+    let s = c.args.weighing.now.made.plan in
     let p = c.requires in
     let l = c.loop-c in
     let i = l.invariant in
@@ -133,7 +133,7 @@ lead_all-requires-clause-by_index_2 c =
 
 pub loop-c-preserved : goal.loop-c-preserved
 loop-c-preserved c =
-    let s = c.args.made.now.plan in
+    let s = c.args.weighing.now.made.plan in
     let p = c.requires in
     let l = c.loop-c in
     let i = l.invariant in

@@ -28,13 +28,13 @@ lead_between-requires-clause-from_le_to c =
     let l = c.loop-rest in
     let a = c.args in
     let p = c.requires in
-    let s = c.args.plan.now in
+    let s = c.args.weighing.now.made.plan in
     let some : 0 < l.rest = omega (arith, c.loop-rest-test.true) in
     let at : ℕ = a.w * 64 + count_trailing_zeros 64 l.rest in
     let n = next a.row.now a.w l.invariant.rests some s.layout.lengths.now s.layout.firsts.now p.bounded s.layout.laid p.w_bound.0 in
     let q = c.words-from.ensures.place in
-    let begins = s.offsets_laid.same at (omega (arith, n.inside)) in
-    let ends = s.offsets_laid.same (at + 1) (omega (arith, n.inside)) in
+    let begins = a.weighing.now.offsets_laid.same at (omega (arith, n.inside)) in
+    let ends = a.weighing.now.offsets_laid.same (at + 1) (omega (arith, n.inside)) in
     let u = turn_lies s.layout.lengths.now at n.inside q.0 q.1 in
     let v = counts_lie s.layout.lengths.now at n.inside begins ends in
     let m = counts_room s.layout.lengths.now at n.inside begins ends q.0 q.1 in
@@ -47,13 +47,13 @@ lead_between-requires-clause-by_index c =
     let l = c.loop-rest in
     let a = c.args in
     let p = c.requires in
-    let s = c.args.plan.now in
+    let s = c.args.weighing.now.made.plan in
     let some : 0 < l.rest = omega (arith, c.loop-rest-test.true) in
     let at : ℕ = a.w * 64 + count_trailing_zeros 64 l.rest in
     let n = next a.row.now a.w l.invariant.rests some s.layout.lengths.now s.layout.firsts.now p.bounded s.layout.laid p.w_bound.0 in
     let q = c.words-from.ensures.place in
-    let begins = s.offsets_laid.same at (omega (arith, n.inside)) in
-    let ends = s.offsets_laid.same (at + 1) (omega (arith, n.inside)) in
+    let begins = a.weighing.now.offsets_laid.same at (omega (arith, n.inside)) in
+    let ends = a.weighing.now.offsets_laid.same (at + 1) (omega (arith, n.inside)) in
     let k = own a.first s.layout.lengths.now a.row.now a.counts.now l.counts at n.inside begins ends q.0 q.1 (l.invariant.so_far.later at n.later n.inside) in
     let low : a.w * 64 ≤ at = omega arith in
     λ i. rw k (p.by_index at low n.inside n.marked i)
@@ -63,13 +63,13 @@ lead_between-requires-clause-by_index_2 c =
     let l = c.loop-rest in
     let a = c.args in
     let p = c.requires in
-    let s = c.args.plan.now in
+    let s = c.args.weighing.now.made.plan in
     let some : 0 < l.rest = omega (arith, c.loop-rest-test.true) in
     let at : ℕ = a.w * 64 + count_trailing_zeros 64 l.rest in
     let n = next a.row.now a.w l.invariant.rests some s.layout.lengths.now s.layout.firsts.now p.bounded s.layout.laid p.w_bound.0 in
     let q = c.words-from.ensures.place in
-    let begins = s.offsets_laid.same at (omega (arith, n.inside)) in
-    let ends = s.offsets_laid.same (at + 1) (omega (arith, n.inside)) in
+    let begins = a.weighing.now.offsets_laid.same at (omega (arith, n.inside)) in
+    let ends = a.weighing.now.offsets_laid.same (at + 1) (omega (arith, n.inside)) in
     let k = own a.first s.layout.lengths.now a.row.now a.counts.now l.counts at n.inside begins ends q.0 q.1 (l.invariant.so_far.later at n.later n.inside) in
     let low : a.w * 64 ≤ at = omega arith in
     λ i z. rw k (p.by_index_2 at low n.inside n.marked i (sym (ap (λ (ks : List ℕ). get_or ks i 0) (bits_are_at s.layout.lengths.now at n.inside q.0 q.1 a.opened.now)) ∙ z))
@@ -79,13 +79,13 @@ loop-rest-preserved c =
     let l = c.loop-rest in
     let a = c.args in
     let p = c.requires in
-    let s = c.args.plan.now in
+    let s = c.args.weighing.now.made.plan in
     let some : 0 < l.rest = omega (arith, c.loop-rest-test.true) in
     let at : ℕ = a.w * 64 + count_trailing_zeros 64 l.rest in
     let n = next a.row.now a.w l.invariant.rests some s.layout.lengths.now s.layout.firsts.now p.bounded s.layout.laid p.w_bound.0 in
     let q = c.words-from.ensures.place in
-    let begins = s.offsets_laid.same at (omega (arith, n.inside)) in
-    let ends = s.offsets_laid.same (at + 1) (omega (arith, n.inside)) in
+    let begins = a.weighing.now.offsets_laid.same at (omega (arith, n.inside)) in
+    let ends = a.weighing.now.offsets_laid.same (at + 1) (omega (arith, n.inside)) in
     let k = own a.first s.layout.lengths.now a.row.now a.counts.now l.counts at n.inside begins ends q.0 q.1 (l.invariant.so_far.later at n.later n.inside) in
     let g = l.invariant in
     let e = c.lead_between.ensures in
@@ -105,26 +105,26 @@ bounds-offsets-at c =
     let l = c.loop-rest in
     let a = c.args in
     let p = c.requires in
-    let s = c.args.plan.now in
+    let s = c.args.weighing.now.made.plan in
     let some : 0 < l.rest = omega (arith, c.loop-rest-test.true) in
     let n = next a.row.now a.w l.invariant.rests some s.layout.lengths.now s.layout.firsts.now p.bounded s.layout.laid p.w_bound.0 in
-    omega (arith, n.inside, s.offsets_laid.long)
+    omega (arith, n.inside, a.weighing.now.offsets_laid.long)
 
 pub bounds-offsets-at-in-loop-rest : goal.bounds-offsets-at-in-loop-rest
 bounds-offsets-at-in-loop-rest c =
     let l = c.loop-rest in
     let a = c.args in
     let p = c.requires in
-    let s = c.args.plan.now in
+    let s = c.args.weighing.now.made.plan in
     let some : 0 < l.rest = omega (arith, c.loop-rest-test.true) in
     let n = next a.row.now a.w l.invariant.rests some s.layout.lengths.now s.layout.firsts.now p.bounded s.layout.laid p.w_bound.0 in
-    omega (arith, n.inside, s.offsets_laid.long)
+    omega (arith, n.inside, a.weighing.now.offsets_laid.long)
 
 pub words-from-requires : goal.words-from-requires
 words-from-requires c =
     let l = c.loop-rest in
     let a = c.args in
     let p = c.requires in
-    let s = c.args.plan.now in
+    let s = c.args.weighing.now.made.plan in
     let some : 0 < l.rest = omega (arith, c.loop-rest-test.true) in
     (next a.row.now a.w l.invariant.rests some s.layout.lengths.now s.layout.firsts.now p.bounded s.layout.laid p.w_bound.0).inside
