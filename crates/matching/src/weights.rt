@@ -14,6 +14,7 @@ ghost use Rattle.matching.specs.Weights.{counts_at, kept_counts, HoldsCounts, co
 
 use super::made::Weighing;
 use super::{SLOTS, WORDS, path};
+use rows::set_bits::SetBits;
 use rows::{BITS, MARKS, counts};
 use rules::{Distances, Offset, Place};
 
@@ -77,10 +78,8 @@ fn lead_sequences(
     let layout = weighing.made.plan.layout;
     let offsets = weighing.offsets;
     let base = w * BITS;
-    let mut rest = row[w];
-    while rest != 0 {
-        let zeros = u64::trailing_zeros(rest);
-        let at = base + zeros as usize;
+    for place in SetBits(row[w]) {
+        let at = base + place as usize;
         let (from, to) = layout.words(at);
         let a = offsets[at] as usize;
         let e = offsets[at + 1] as usize;
@@ -95,7 +94,6 @@ fn lead_sequences(
             apart,
             counts,
         );
-        rest &= rest - 1;
     }
 }
 
