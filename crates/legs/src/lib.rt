@@ -10,7 +10,7 @@ ghost use Rattle.rules.specs.Calls.{leg_rule};
 ghost use Rattle.rules.specs.Told.{fine, told_leg};
 
 use matching::made::Spot;
-use matching::tables;
+use matching::{WORDS, tables};
 use rules::{Leg, Search, SequenceSet, Sequences};
 
 // A leg of a search, as `search::leg` promises it, of which 13 alone is left to check. The tables that it works in are its own, and
@@ -32,10 +32,10 @@ pub fn leg(
     let mut inside = [Spot::FIRST; matching::LETTERS];
     let mut firsts = [0u32; matching::FIRSTS];
     let mut offsets = [0u32; matching::OFFSETS];
-    let mut standing = [0u64; matching::STANDING];
-    let mut slots = [0u64; matching::SLOTS];
-    let mut work = [0u64; matching::WORDS];
-    let mut spare = [0u64; matching::WORDS];
+    let mut standing = [[0u64; WORDS]; matching::STANDING];
+    let mut slots = [[0u64; WORDS]; matching::SLOTS];
+    let mut work = [0u64; WORDS];
+    let mut spare = [0u64; WORDS];
     let mut ways = [0u64; SequenceSet::LETTERS];
     let weighing = tables::make(
         search,

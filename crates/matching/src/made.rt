@@ -5,6 +5,7 @@ ghost use Rattle.rows.specs.Set.{Offsets};
 ghost use Rattle.rules.specs.Sound.{SoundSet, SoundTemplate};
 ghost use Rattle.rules.specs.Template as templates;
 
+use super::WORDS;
 use rows::layout::Layout;
 use rules::Search;
 
@@ -42,7 +43,7 @@ pub struct Plan<'a> {
 #[derive(Clone, Copy)]
 pub struct Made<'a> {
     pub plan: Plan<'a>,
-    pub standing: &'a [u64],
+    pub standing: &'a [[u64; WORDS]],
     pub ghost rows: { Letters plan.search.template plan.layout.lengths.now plan.letters.now standing.now },
 }
 

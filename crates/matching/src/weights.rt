@@ -36,13 +36,13 @@ fn lead_between(
     to: usize,
     a: Offset,
     e: Offset,
-    row: &[u64],
-    opened: &[u64],
+    row: &[u64; WORDS],
+    opened: &[u64; WORDS],
     first: bool,
     apart: Distances,
     counts: &mut [u64],
 )
-    requires from_le_to { (from ≤ to) × (to ≤ length row.now) × (to ≤ length opened.now) × (a.0 ≤ e.0) × (e.0 ≤ length counts.old) × (e.0 - a.0 ≤ 64 * (to - from)) }
+    requires from_le_to { (from ≤ to) × (to ≤ row_words) × (a.0 ≤ e.0) × (e.0 ≤ length counts.old) × (e.0 - a.0 ≤ 64 * (to - from)) }
     requires le_d { (1 ≤ apart.near) × (apart.near ≤ template_length + template_gap) × (1 ≤ apart.count) × (apart.count ≤ template_gap + 1) }
     requires by_index { (i : ℕ) → get_or (masked (held (between from to row.now)) (counted_from first (between a.0 e.0 counts.old))) i 0 ≤ count_most }
     requires by_index_2 { (i : ℕ) → get_or (held (between from to opened.now)) i 0 ≡ 0 → get_or (added apart.near (apart.near + apart.count - 1) (masked (held (between from to row.now)) (counted_from first (between a.0 e.0 counts.old)))) i 0 ≡ 0 }
@@ -59,15 +59,15 @@ fn lead_between(
 fn lead_sequences(
     weighing: &Weighing,
     w: usize,
-    row: &[u64],
-    opened: &[u64],
+    row: &[u64; WORDS],
+    opened: &[u64; WORDS],
     first: bool,
     apart: Distances,
     counts: &mut [u64],
 )
     requires w_bound { (w < row_marks) × (1 ≤ apart.near) × (apart.near ≤ template_length + template_gap) × (1 ≤ apart.count) × (apart.count ≤ template_gap + 1) }
     requires bounded { Bounded weighing.now.made.plan.layout.lengths.now row.now }
-    requires lengths_in_bounds { (length row.now ≡ row_words) × (length opened.now ≡ length row.now) × (lists.sum weighing.now.made.plan.layout.lengths.now ≤ length counts.old) }
+    requires lengths_in_bounds { lists.sum weighing.now.made.plan.layout.lengths.now ≤ length counts.old }
     requires by_index { (k : ℕ) → w * 64 ≤ k → k < length weighing.now.made.plan.layout.lengths.now → is_marked row.now k ≡ true → (i : ℕ) → get_or (begun_counts first weighing.now.made.plan.layout.lengths.now row.now counts.old k) i 0 ≤ count_most }
     requires by_index_2 { (k : ℕ) → w * 64 ≤ k → k < length weighing.now.made.plan.layout.lengths.now → is_marked row.now k ≡ true → (i : ℕ) → get_or (bits_at weighing.now.made.plan.layout.lengths.now k opened.now) i 0 ≡ 0 → get_or (added apart.near (apart.near + apart.count - 1) (begun_counts first weighing.now.made.plan.layout.lengths.now row.now counts.old k)) i 0 ≡ 0 }
     ensures by_index_3 { (k : ℕ) → w * 64 ≤ k → k < w * 64 + 64 → is_marked row.now k ≡ true → kept_counts weighing.now.made.plan.layout.lengths.now opened.now counts.new k ≡ added apart.near (apart.near + apart.count - 1) (begun_counts first weighing.now.made.plan.layout.lengths.now row.now counts.old k) }
@@ -102,15 +102,15 @@ fn lead_sequences(
 #[inline(never)]
 fn lead_all(
     weighing: &Weighing,
-    row: &[u64],
-    opened: &[u64],
+    row: &[u64; WORDS],
+    opened: &[u64; WORDS],
     first: bool,
     apart: Distances,
     counts: &mut [u64],
 )
     requires le_d { (1 ≤ apart.near) × (apart.near ≤ template_length + template_gap) × (1 ≤ apart.count) × (apart.count ≤ template_gap + 1) }
     requires bounded { Bounded weighing.now.made.plan.layout.lengths.now row.now }
-    requires lengths_in_bounds { (length row.now ≡ row_words) × (length opened.now ≡ length row.now) × (lists.sum weighing.now.made.plan.layout.lengths.now ≤ length counts.old) }
+    requires lengths_in_bounds { lists.sum weighing.now.made.plan.layout.lengths.now ≤ length counts.old }
     requires by_index { (k : ℕ) → k < length weighing.now.made.plan.layout.lengths.now → is_marked row.now k ≡ true → (i : ℕ) → get_or (begun_counts first weighing.now.made.plan.layout.lengths.now row.now counts.old k) i 0 ≤ count_most }
     requires by_index_2 { (k : ℕ) → k < length weighing.now.made.plan.layout.lengths.now → is_marked row.now k ≡ true → (i : ℕ) → get_or (bits_at weighing.now.made.plan.layout.lengths.now k opened.now) i 0 ≡ 0 → get_or (added apart.near (apart.near + apart.count - 1) (begun_counts first weighing.now.made.plan.layout.lengths.now row.now counts.old k)) i 0 ≡ 0 }
     ensures holds_counts { HoldsCounts (is_marked row.now) (λ k. added apart.near (apart.near + apart.count - 1) (begun_counts first weighing.now.made.plan.layout.lengths.now row.now counts.old k)) weighing.now.made.plan.layout.lengths.now opened.now counts.new (length weighing.now.made.plan.layout.lengths.now) }
@@ -122,10 +122,10 @@ fn lead_all(
 }
 
 // The sum of the counts at which a row has a bit, in the sequences of one word of marks, those that have one.
-fn add_sequences(weighing: &Weighing, w: usize, row: &[u64], counts: &[u64]) -> u64
+fn add_sequences(weighing: &Weighing, w: usize, row: &[u64; WORDS], counts: &[u64]) -> u64
     requires w_bound { w < row_marks }
     requires bounded { Bounded weighing.now.made.plan.layout.lengths.now row.now }
-    requires lengths_in_bounds { (length row.now ≡ row_words) × (lists.sum weighing.now.made.plan.layout.lengths.now ≤ length counts.now) }
+    requires lengths_in_bounds { lists.sum weighing.now.made.plan.layout.lengths.now ≤ length counts.now }
     requires by_index { (k : ℕ) → k < length weighing.now.made.plan.layout.lengths.now → is_marked row.now k ≡ true → (p : ℕ) → get_or weighing.now.made.plan.layout.lengths.now k 0 ≤ p → get_or (bits_at weighing.now.made.plan.layout.lengths.now k row.now) p 0 ≡ 0 }
     requires w_bound_2 { lists.sum (map (weight_at weighing.now.made.plan.layout.lengths.now row.now counts.now) (lists.run (w * 64) 64)) < 2 ^ 64 }
     ensures { result ≡ lists.sum (map (weight_at weighing.now.made.plan.layout.lengths.now row.now counts.now) (lists.run (w * 64) 64)) }
@@ -149,9 +149,9 @@ fn add_sequences(weighing: &Weighing, w: usize, row: &[u64], counts: &[u64]) -> 
 }
 
 // The same in all sequences that have a mark.
-fn add_all(weighing: &Weighing, row: &[u64], counts: &[u64]) -> u64
+fn add_all(weighing: &Weighing, row: &[u64; WORDS], counts: &[u64]) -> u64
     requires bounded { Bounded weighing.now.made.plan.layout.lengths.now row.now }
-    requires lengths_in_bounds { (length row.now ≡ row_words) × (lists.sum weighing.now.made.plan.layout.lengths.now ≤ length counts.now) }
+    requires lengths_in_bounds { lists.sum weighing.now.made.plan.layout.lengths.now ≤ length counts.now }
     requires by_index { (k : ℕ) → k < length weighing.now.made.plan.layout.lengths.now → is_marked row.now k ≡ true → (p : ℕ) → get_or weighing.now.made.plan.layout.lengths.now k 0 ≤ p → get_or (bits_at weighing.now.made.plan.layout.lengths.now k row.now) p 0 ≡ 0 }
     requires counts_bound { weight_of weighing.now.made.plan.layout.lengths.now row.now counts.now < 2 ^ 64 }
     ensures { result ≡ weight_of weighing.now.made.plan.layout.lengths.now row.now counts.now }
@@ -169,7 +169,7 @@ fn add_all(weighing: &Weighing, row: &[u64], counts: &[u64]) -> u64
 fn count_ways(
     weighing: &Weighing,
     motif: u64,
-    slots: &[u64; SLOTS],
+    slots: &[[u64; WORDS]; SLOTS],
     spare: &mut [u64; WORDS],
     ways: &mut [u64],
 )
@@ -215,7 +215,7 @@ pub fn weight(
     motif: u64,
     prefix: u64,
     counted: Option<u64>,
-    slots: &[u64; SLOTS],
+    slots: &[[u64; WORDS]; SLOTS],
     row: &[u64; WORDS],
     spare: &mut [u64; WORDS],
     ways: &mut [u64],

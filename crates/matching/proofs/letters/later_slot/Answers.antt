@@ -1,14 +1,8 @@
--- What is shifted into the slot is the row of its letter for the first place, which is copied first.
-use Prim.Native.Nat.{◌/◌}
-use Rattle.matching.specs.Path.{row_slot}
-use Rattle.rows.specs.Set.{between}
-use Rattle.matching.proofs.BaseRows.{shifted_from}
+use native.Mathlib.Omega.{arith}
+use Rattle.matching.proofs.Slots.{enough}
 use Rattle.matching.proofs.letters.later_slot.Goals as goal
 
-pub returns-clause-filled : goal.returns-clause-filled
-unfolding row_slot between
-returns-clause-filled c =
-    let a = c.args in
-    let e = c.copy_from_slice.ensures.after in
-    let o = c.shift_slot.ensures in
-    shifted_from (a.s / 4) a.plan.now.layout.lengths.now e o.filled
+pub shift_all-requires-clause-lengths_in_bounds : goal.shift_all-requires-clause-lengths_in_bounds
+shift_all-requires-clause-lengths_in_bounds c =
+    let s = c.args.plan.now in
+    search (arith, enough s.letters.now s.layout.lengths.now s.sound_set)

@@ -14,9 +14,7 @@ open_all-requires-clause-count_bound c =
 pub open_all-requires-clause-lengths_in_bounds : goal.open_all-requires-clause-lengths_in_bounds
 open_all-requires-clause-lengths_in_bounds c =
     let s = c.args.plan.now in
-    let long = c.requires.slot_len in
-    let most = enough s.letters.now s.layout.lengths.now s.sound_set in
-    (omega (arith, most, long), omega (arith, long))
+    search (arith, enough s.letters.now s.layout.lengths.now s.sound_set)
 
 pub returns-clause-filled : goal.returns-clause-filled
 returns-clause-filled c =

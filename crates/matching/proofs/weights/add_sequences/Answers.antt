@@ -1,3 +1,4 @@
+use borrow.Author.Rules.{rules}
 use mathlib.Core.Path.{ap}
 use Prim.Native.Nat.{ℕ, ◌+◌, ◌*◌, ◌≤◌, ◌<◌}
 use native.Mathlib.Omega.{arith}
@@ -16,7 +17,7 @@ pub loop-rest-init : goal.loop-rest-init
 loop-rest-init c =
     let a = c.args in
     let s = a.weighing.now.made.plan in
-    walk_begin _ _ (c.type_inv.row a.w).fits (omega (arith, weights_word s.layout.lengths.now a.row.now a.counts.now a.w (a.w * 64 + 0) (omega arith)))
+    walk_begin _ _ (search rules) (omega (arith, weights_word s.layout.lengths.now a.row.now a.counts.now a.w (a.w * 64 + 0) (omega arith)))
 
 pub slice_bounds-add-count : goal.slice_bounds-add-count
 slice_bounds-add-count c =

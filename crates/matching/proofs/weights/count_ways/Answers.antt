@@ -101,7 +101,7 @@ lead_all-requires-clause-lengths_in_bounds c =
     let l = c.loop-c in
     let i = l.invariant in
     let room : sum s.layout.lengths.now ≤ length l.ways = omega (arith, s.sound_set.adds, p.letters_in_bounds, l.auto.ways) in
-    (search rules, search rules, room)
+    room
 
 pub lead_all-requires-clause-by_index : goal.lead_all-requires-clause-by_index
 lead_all-requires-clause-by_index c =

@@ -1,3 +1,4 @@
+use borrow.Author.Rules.{rules}
 use mathlib.Core.Bool.{Bool}
 use mathlib.Core.List.{List}
 use mathlib.Core.Path.{◌≡◌, sym, ap, ◌∙◌}
@@ -31,7 +32,7 @@ turn c =
 
 pub loop-place-init : goal.loop-place-init
 loop-place-init c =
-    rw c.into_iter-place-iterator.ensures.into_iter_gives (walk_begin _ _ (omega (arith, c.type_inv.row c.args.w)) (led_none _ _ _ _ _ _ _ (omega arith)))
+    rw c.into_iter-place-iterator.ensures.into_iter_gives (walk_begin _ _ (search rules) (led_none _ _ _ _ _ _ _ (omega arith)))
 
 pub overflow_cast-at : goal.overflow_cast-at
 overflow_cast-at c = omega (arith, (turn (goal.at.overflow_cast-at c).In-Some).in_word)
@@ -56,9 +57,7 @@ lead_between-requires-clause-from_le_to c =
     let u = turn_lies s.layout.lengths.now at n.inside q.0 q.1 in
     let v = counts_lie s.layout.lengths.now at n.inside begins ends in
     let m = counts_room s.layout.lengths.now at n.inside begins ends q.0 q.1 in
-    let o = p.lengths_in_bounds in
-    let r = enough s.letters.now s.layout.lengths.now s.sound_set in
-    (u.0, omega (arith, u.1, o, r), omega (arith, u.1, o, r), v.0, omega (arith, v.1, o, l.auto.counts), m)
+    (u.0, omega (arith, u.1, enough s.letters.now s.layout.lengths.now s.sound_set), v.0, omega (arith, v.1, p.lengths_in_bounds, l.auto.counts), m)
 
 pub lead_between-requires-clause-by_index : goal.lead_between-requires-clause-by_index
 lead_between-requires-clause-by_index c =

@@ -40,7 +40,7 @@ add_all-requires-clause-lengths_in_bounds c =
       | else-stale w ↦ ap length w.ways-is
     ] in
     let o = s.sound_set in
-    (search rules, omega (arith, o.adds, p.letters_in_bounds, ways_long))
+    omega (arith, o.adds, p.letters_in_bounds, ways_long)
 
 pub add_all-requires-clause-by_index : goal.add_all-requires-clause-by_index
 add_all-requires-clause-by_index c =
