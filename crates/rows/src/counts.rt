@@ -1,15 +1,14 @@
 // Counts over the places of one sequence: in how many ways the parts before one can be placed so that it may start there. A row of
 // bits says where those are that go on.
 ghost use Rattle.std.specs.Prelude.{not, [], ◌∷◌, ◌≡◌, ℕ, ◌+◌, ◌-◌, ◌*◌, ◌/◌, ◌%◌, ◌^◌, ◌≤◌, ◌<◌, eqb, length, take, get_or, replicate};
-ghost use Rattle.rules.specs.Limits.{template_length, template_gap};
 ghost use Rattle.rules.specs.Lists.{if, sum};
 ghost use Rattle.rows.specs.Bits.{held};
 ghost use Rattle.rows.specs.Flags.{count_most, ago, recent, around, back, added, has_left, masked};
 ghost use Rattle.rows.specs.Words.{behind_word};
 
+use super::gap::Gap;
 use super::set_bits::SetBits;
 use super::words;
-use rules::Distances;
 
 // The words of a stretch: so many of a long row are looked at together.
 const STRETCH: usize = 16;
@@ -42,14 +41,14 @@ fn held_before(row: &[u64], counts: &[u64], o: usize, d: usize) -> u64
 }
 
 // The sum of the `count` counts that stand `near` places before `o` and further back, those at which the row has a bit.
-fn window(row: &[u64], counts: &[u64], o: usize, apart: Distances) -> u64
-    requires o_in_bounds { (o ≤ length counts.now) × (1 ≤ apart.near) × (apart.near ≤ template_length + template_gap) × (apart.count ≤ template_gap + 1) × (length counts.now ≤ 64 * length row.now) }
+fn window(row: &[u64], counts: &[u64], o: usize, gap: Gap) -> u64
+    requires o_in_bounds { (o ≤ length counts.now) × (length counts.now ≤ 64 * length row.now) }
     requires by_index { (i : ℕ) → get_or (masked (held row.now) counts.now) i 0 ≤ count_most }
-    ensures { result ≡ recent (masked (held row.now) counts.now) o apart.near apart.count }
+    ensures { result ≡ recent (masked (held row.now) counts.now) o gap.apart.near gap.apart.count }
 {
     let mut total: u64 = 0;
-    for k in 0..apart.count {
-        total += held_before(row, counts, o, apart.near + k);
+    for k in 0..gap.apart.count {
+        total += held_before(row, counts, o, gap.apart.near + k);
     }
     total
 }
@@ -68,16 +67,15 @@ fn shifted(row: &[u64], d: usize, q: usize) -> u64
 // a bit, added. It goes from the last place to the first, so that what is still to be read is not written yet, and one sum slides along:
 // `total` is that past the last place, and the answer that at `from`. Most often no place comes into reach in a word and none is gone from
 // it: then the sum stays.
-fn slide(row: &[u64], apart: Distances, from: usize, total: u64, counts: &mut [u64]) -> u64
-    requires le_d { (1 ≤ apart.near) × (apart.near ≤ template_length + template_gap) × (1 ≤ apart.count) × (apart.count ≤ template_gap + 1) }
+fn slide(row: &[u64], gap: Gap, from: usize, total: u64, counts: &mut [u64]) -> u64
     requires from_in_bounds { (from < length counts.old) × (from % 64 ≡ 0) × (length counts.old ≤ from + 64) × (length counts.old ≤ 64 * length row.now) }
-    requires total_value { total ≡ recent (masked (held row.now) counts.old) (length counts.old) apart.near apart.count }
+    requires total_value { total ≡ recent (masked (held row.now) counts.old) (length counts.old) gap.apart.near gap.apart.count }
     requires by_index { (i : ℕ) → get_or (masked (held row.now) counts.old) i 0 ≤ count_most }
-    ensures value { result ≡ recent (masked (held row.now) counts.old) from apart.near apart.count }
-    ensures counts_after { counts.new ≡ back (around (masked (held row.now) counts.old) apart.near apart.count) from counts.old }
+    ensures value { result ≡ recent (masked (held row.now) counts.old) from gap.apart.near gap.apart.count }
+    ensures counts_after { counts.new ≡ back (around (masked (held row.now) counts.old) gap.apart.near gap.apart.count) from counts.old }
 {
-    let far = apart.near + apart.count;
-    let come = shifted(row, apart.near - 1, from / 64);
+    let far = gap.apart.near + gap.apart.count;
+    let come = shifted(row, gap.apart.near - 1, from / 64);
     let gone = shifted(row, far - 1, from / 64);
     if come | gone == 0 {
         counts[from..].fill(total);
@@ -87,7 +85,7 @@ fn slide(row: &[u64], apart: Distances, from: usize, total: u64, counts: &mut [u
     for o in (from..counts.len()).rev() {
         let b = o - from;
         sum = sum + when((gone >> b) & 1, before(counts, o + 1, far))
-            - when((come >> b) & 1, before(counts, o + 1, apart.near));
+            - when((come >> b) & 1, before(counts, o + 1, gap.apart.near));
         counts[o] = sum;
     }
     sum
@@ -98,31 +96,31 @@ fn slide(row: &[u64], apart: Distances, from: usize, total: u64, counts: &mut [u
 fn lead_word(
     row: &[u64],
     opened: &[u64],
-    apart: Distances,
+    gap: Gap,
     from: usize,
     total: u64,
     counts: &mut [u64],
 ) -> u64
-    requires le_d { (1 ≤ apart.near) × (apart.near ≤ template_length + template_gap) × (1 ≤ apart.count) × (apart.count ≤ template_gap + 1) × (length opened.now ≡ length row.now) }
+    requires opened_len { length opened.now ≡ length row.now }
     requires from_in_bounds { (from < length counts.old) × (from % 64 ≡ 0) × (length counts.old ≤ from + 64) × (length counts.old ≤ 64 * length row.now) }
-    requires total_value { 0 < get_or opened.now (from / 64) 0 → total ≡ recent (masked (held row.now) counts.old) (length counts.old) apart.near apart.count }
+    requires total_value { 0 < get_or opened.now (from / 64) 0 → total ≡ recent (masked (held row.now) counts.old) (length counts.old) gap.apart.near gap.apart.count }
     requires by_index { (i : ℕ) → get_or (masked (held row.now) counts.old) i 0 ≤ count_most }
-    requires by_index_2 { (p : ℕ) → p < length counts.old → get_or (held opened.now) p 0 ≡ 0 → recent (masked (held row.now) counts.old) p apart.near apart.count ≡ 0 }
-    ensures value { result ≡ recent (masked (held row.now) counts.old) from apart.near apart.count }
+    requires by_index_2 { (p : ℕ) → p < length counts.old → get_or (held opened.now) p 0 ≡ 0 → recent (masked (held row.now) counts.old) p gap.apart.near gap.apart.count ≡ 0 }
+    ensures value { result ≡ recent (masked (held row.now) counts.old) from gap.apart.near gap.apart.count }
     ensures counts_unchanged { take from counts.new ≡ take from counts.old }
-    ensures counts_after { masked (held opened.now) counts.new ≡ back (around (masked (held row.now) counts.old) apart.near apart.count) from (masked (held opened.now) counts.old) }
+    ensures counts_after { masked (held opened.now) counts.new ≡ back (around (masked (held row.now) counts.old) gap.apart.near gap.apart.count) from (masked (held opened.now) counts.old) }
 {
     if opened[from / 64] == 0 {
         return 0;
     }
-    slide(row, apart, from, total, counts)
+    slide(row, gap, from, total, counts)
 }
 
 // The sum past the last place, if the last word will need it: if the opened row has a bit there.
-fn sum_past(row: &[u64], opened: &[u64], apart: Distances, counts: &[u64]) -> u64
-    requires le_d { (1 ≤ apart.near) × (apart.near ≤ template_length + template_gap) × (apart.count ≤ template_gap + 1) × (length opened.now ≡ length row.now) × (length counts.now ≤ 64 * length row.now) }
+fn sum_past(row: &[u64], opened: &[u64], gap: Gap, counts: &[u64]) -> u64
+    requires opened_len { (length opened.now ≡ length row.now) × (length counts.now ≤ 64 * length row.now) }
     requires by_index { (i : ℕ) → get_or (masked (held row.now) counts.now) i 0 ≤ count_most }
-    ensures { 0 < get_or opened.now ((length counts.now - 1) / 64) 0 → result ≡ recent (masked (held row.now) counts.now) (length counts.now) apart.near apart.count }
+    ensures { 0 < get_or opened.now ((length counts.now - 1) / 64) 0 → result ≡ recent (masked (held row.now) counts.now) (length counts.now) gap.apart.near gap.apart.count }
 {
     let to = counts.len();
     if to == 0 {
@@ -131,24 +129,23 @@ fn sum_past(row: &[u64], opened: &[u64], apart: Distances, counts: &[u64]) -> u6
     if opened[(to - 1) / 64] == 0 {
         return 0;
     }
-    window(row, counts, to, apart)
+    window(row, counts, to, gap)
 }
 
 // Opens a gap after the counts at which a row has a bit. The other row is that row with the gap opened: only where a word of it has a bit
 // are counts written, word by word from the last to the first.
-pub fn lead(row: &[u64], opened: &[u64], apart: Distances, counts: &mut [u64])
-    requires le_d { (1 ≤ apart.near) × (apart.near ≤ template_length + template_gap) × (1 ≤ apart.count) × (apart.count ≤ template_gap + 1) }
+pub fn lead(row: &[u64], opened: &[u64], gap: Gap, counts: &mut [u64])
     requires counts_len_bound { (length counts.old ≤ 64 * length row.now) × (length opened.now ≡ length row.now) }
     requires by_index { (i : ℕ) → get_or (masked (held row.now) counts.old) i 0 ≤ count_most }
-    requires by_index_2 { (p : ℕ) → get_or (held opened.now) p 0 ≡ 0 → get_or (added apart.near (apart.near + apart.count - 1) (masked (held row.now) counts.old)) p 0 ≡ 0 }
-    ensures { masked (held opened.now) counts.new ≡ added apart.near (apart.near + apart.count - 1) (masked (held row.now) counts.old) }
+    requires by_index_2 { (p : ℕ) → get_or (held opened.now) p 0 ≡ 0 → get_or (added gap.apart.near (gap.apart.near + gap.apart.count - 1) (masked (held row.now) counts.old)) p 0 ≡ 0 }
+    ensures { masked (held opened.now) counts.new ≡ added gap.apart.near (gap.apart.near + gap.apart.count - 1) (masked (held row.now) counts.old) }
 {
-    let mut total = sum_past(row, opened, apart, counts);
+    let mut total = sum_past(row, opened, gap, counts);
     let mut to = counts.len();
     // No `for`: one over the words has a value more to hold while the sum slides, and takes 15.6 in 100 more instructions.
     while 0 < to {
         let from = (to - 1) / 64 * 64;
-        total = lead_word(row, opened, apart, from, total, &mut counts[..to]);
+        total = lead_word(row, opened, gap, from, total, &mut counts[..to]);
         to = from;
     }
 }

@@ -13,7 +13,7 @@ pub open_sequences-requires : goal.open_sequences-requires
 open_sequences-requires c =
     let p = c.requires in
     let l = c.loop-w in record {
-      w_bound = (search rules, p.count_bound);
+      w_bound = search rules;
       bounded = same_bounds _ _ _ _ l.invariant.3.walked.kept p.bounded;
       lengths_in_bounds = (search rules, search rules);
     }

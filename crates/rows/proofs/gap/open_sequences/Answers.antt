@@ -24,7 +24,7 @@ loop-place-init c =
 turn : (c : In-Some) → Next c.args.layout.now.lengths.now c.args.layout.now.firsts.now c.args.row.now c.args.w (c.args.w * 64 + c.loop-place.invariant.2.upto) (c.args.w * 64 + c.in-Some.place)
 turn c =
     let p = c.requires in
-    next_taken c.args.row.now c.args.w c.loop-place.invariant.2.rests c.in-Some.ensures.steps c.args.layout.now.lengths.now c.args.layout.now.firsts.now p.bounded c.args.layout.now.laid p.w_bound.0
+    next_taken c.args.row.now c.args.w c.loop-place.invariant.2.rests c.in-Some.ensures.steps c.args.layout.now.lengths.now c.args.layout.now.firsts.now p.bounded c.args.layout.now.laid p.w_bound
 
 pub overflow_cast-at : goal.overflow_cast-at
 overflow_cast-at c = omega (arith, (turn (goal.at.overflow_cast-at c).In-Some).in_word)
@@ -40,7 +40,7 @@ open_sequence-requires c =
     let p = c.requires in
     let l = c.loop-place in
     let t = c.words-from.ensures.inside in
-    (mid_len _ _ l.spare (omega (arith, t.1, p.lengths_in_bounds, l.invariant.0)) ∙ sym (mid_len _ _ l.row (omega (arith, t.1, p.lengths_in_bounds, l.invariant.1))), p.w_bound.1)
+    mid_len _ _ l.spare (omega (arith, t.1, p.lengths_in_bounds, l.invariant.0)) ∙ sym (mid_len _ _ l.row (omega (arith, t.1, p.lengths_in_bounds, l.invariant.1)))
 
 pub loop-place-preserved : goal.loop-place-preserved
 unfolding between
@@ -56,7 +56,7 @@ loop-place-preserved c =
     let inside : c.words-from.result.1 ≤ length l.row = omega (arith, t.1, c.requires.lengths_in_bounds, i.1) in
     let e = part_opened _ _ l.row t.0 inside o.new.row o.auto.row o.ensures in
     let f = drop_put _ _ l.row o.new.row t.0 inside (o.auto.row ∙ mid_len _ _ l.row inside) in
-    let x = window_is_at _ _ n.inside k.0 k.1 a.apart.near a.apart.count l.row ∙ later_window _ _ _ _ g.so_far.later a.apart.near a.apart.count _ n.later in
+    let x = window_is_at _ _ n.inside k.0 k.1 a.gap.apart.near a.gap.apart.count l.row ∙ later_window _ _ _ _ g.so_far.later a.gap.apart.near a.gap.apart.count _ n.later in
     let up : a.w * 64 + c.in-Some.place + 1 ≡ a.w * 64 + (c.in-Some.place + 1) = omega arith in (
       same_len_mid _ _ l.spare o.new.spare o.auto.spare ∙ i.0,
       e.1 ∙ i.1,
