@@ -8,7 +8,7 @@ ghost use Rattle.rows.specs.Words.{behind_word};
 
 use super::gap::Gap;
 use super::set_bits::SetBits;
-use super::words;
+use super::words::{self, Shift};
 
 // The words of a stretch: so many of a long row are looked at together.
 const STRETCH: usize = 16;
@@ -59,12 +59,12 @@ fn shifted(row: &[u64], d: usize, q: usize) -> u64
     ensures { result ≡ behind_word (d / 64) (d % 64) row.now q }
 {
     let e = d / 64;
-    let i = d % 64;
-    words::up(i, before(row, q, e + 1), before(row, q, e))
+    let by = Shift { places: d % 64 };
+    words::up(by, before(row, q, e + 1), before(row, q, e))
 }
 
-// Opens a gap at the places of one word, those from `from` on: each gets the counts of all the places that reach it and at which the row has
-// a bit, added. It goes from the last place to the first, so that what is still to be read is not written yet, and one sum slides along:
+// Opens a gap at the places of one word, those from `from` on: each gets the counts of all the places that reach it and at which the row
+// has a bit, added. It goes from the last place to the first, so that what is still to be read is not written yet, and one sum slides along:
 // `total` is that past the last place, and the answer that at `from`. Most often no place comes into reach in a word and none is gone from
 // it: then the sum stays.
 fn slide(row: &[u64], gap: Gap, from: usize, total: u64, counts: &mut [u64]) -> u64

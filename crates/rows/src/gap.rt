@@ -10,7 +10,7 @@ use super::set_bits::SetBits;
 use super::{BITS, MARKS, words};
 use rules::Distances;
 
-// How far the starts of two neighbouring components of a template may lie apart: as `Component::after` tells it of a template that is sound.
+// How far the starts of two neighbouring components of a template may lie apart: as `Component::after` tells it of a sound template.
 #[derive(Clone, Copy)]
 pub struct Gap {
     pub apart: Distances,

@@ -1,5 +1,4 @@
 -- Where the word is empty nothing reaches its places; else the callee goes over them, and where the opened row has no bit there is 0.
-use borrow.Author.Rules.{rules}
 use mathlib.Core.Path.{refl}
 use native.Mathlib.Omega.{arith}
 use Rattle.rows.proofs.Leading.{none_sum, none_written, front_kept, word_written}

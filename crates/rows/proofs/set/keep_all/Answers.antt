@@ -12,19 +12,17 @@ use Rattle.rows.proofs.set.keep_all.Goals as goal
 pub keep_short-requires : goal.keep_short-requires
 keep_short-requires c =
     record {
-      i_bound = omega arith;
       short = c.if-layout.true;
       bounded = c.requires.bounded;
       lengths_in_bounds = c.requires.lengths_in_bounds;
     }
 
-pub returns-then-i-eq0 : goal.returns-then-i-eq0
-returns-then-i-eq0 c = rw c.if-i-eq0.true c.keep_short.ensures
+pub returns-then-by-eq0 : goal.returns-then-by-eq0
+returns-then-by-eq0 c = rw c.if-by-eq0.true c.keep_short.ensures
 
 pub keep_short-requires-then-layout : goal.keep_short-requires-then-layout
 keep_short-requires-then-layout c =
     record {
-      i_bound = c.requires.i_bound;
       short = c.if-layout.true;
       bounded = c.requires.bounded;
       lengths_in_bounds = c.requires.lengths_in_bounds;
@@ -41,12 +39,12 @@ count-possible-requires c =
 pub loop-w-init : goal.loop-w-init
 loop-w-init c =
     let m = words_marks _ c.args.layout.now.few c.words_of-used.ensures in
-    (omega arith, m.0, refl, possible_begin c.args.i c.args.layout.now.lengths.now c.args.letter.now c.args.row.now c.requires.bounded _ m.1 c.args.quorum c.args.out.now m.0 (omega (arith, m.0, c.requires.lengths_in_bounds.0, first_past c.args.layout.now.lengths.now (length c.args.layout.now.lengths.now))) c.count-possible.ensures)
+    (omega arith, m.0, refl, possible_begin c.args.by.places c.args.layout.now.lengths.now c.args.letter.now c.args.row.now c.requires.bounded _ m.1 c.args.quorum c.args.out.now m.0 (omega (arith, m.0, c.requires.lengths_in_bounds.0, first_past c.args.layout.now.lengths.now (length c.args.layout.now.lengths.now))) c.count-possible.ensures)
 
 pub returns-then-possible-quorum : goal.returns-then-possible-quorum
 returns-then-possible-quorum c =
     let l = c.loop-w in
-    let r = stopped c.args.i c.args.layout.now.lengths.now c.args.letter.now c.args.row.now c.args.quorum l.out l.possible l.w l.invariant.3 (omega (arith, l.invariant.0, l.invariant.1)) c.if-possible-quorum.true l.invariant.2 in
+    let r = stopped c.args.by.places c.args.layout.now.lengths.now c.args.letter.now c.args.row.now c.args.quorum l.out l.possible l.w l.invariant.3 (omega (arith, l.invariant.0, l.invariant.1)) c.if-possible-quorum.true l.invariant.2 in
     record {
       lower_bound = r.0;
       value = r.1.0;
@@ -59,7 +57,7 @@ pub keep_sequences-kept-requires : goal.keep_sequences-kept-requires
 keep_sequences-kept-requires c =
     let l = c.loop-w in
     record {
-      w_bound = (omega (arith, l.invariant.1, c.loop-w-test.true), c.requires.i_bound);
+      w_bound = omega (arith, l.invariant.1, c.loop-w-test.true);
       bounded = c.requires.bounded;
       lengths_in_bounds = (c.requires.lengths_in_bounds.0, c.requires.lengths_in_bounds.1, l.invariant.2 ∙ c.requires.lengths_in_bounds.2);
     }
@@ -77,7 +75,7 @@ overflow_sub-possible-in-loop-w c =
     let e = k.ensures in
     let h = c.if-possible-quorum.false in
     let i = c.loop-w-test.true in
-    omega (arith, lost_most c.args.i c.args.layout.now.lengths.now c.args.letter.now c.args.row.now c.args.quorum l.out l.possible l.w l.invariant.3 (omega (arith, h)) (omega (arith, l.invariant.1, i)) k.result.lost e.lost_bound)
+    omega (arith, lost_most c.args.by.places c.args.layout.now.lengths.now c.args.letter.now c.args.row.now c.args.quorum l.out l.possible l.w l.invariant.3 (omega (arith, h)) (omega (arith, l.invariant.1, i)) k.result.lost e.lost_bound)
 
 pub loop-w-preserved : goal.loop-w-preserved
 loop-w-preserved c =
@@ -90,13 +88,13 @@ loop-w-preserved c =
       search rules,
       l.invariant.1,
       length-set k.new.out l.w k.result.left ∙ e.out_unchanged.1 ∙ l.invariant.2,
-      possible_turn c.args.i c.args.layout.now.lengths.now c.args.letter.now c.args.row.now c.args.quorum l.out l.possible l.w l.invariant.3 (omega (arith, h)) (omega (arith, l.invariant.1, i)) k.result.lost e.lost_bound _ k.result.left e.out_unchanged.0 long e.b_value e.out_after,
+      possible_turn c.args.by.places c.args.layout.now.lengths.now c.args.letter.now c.args.row.now c.args.quorum l.out l.possible l.w l.invariant.3 (omega (arith, h)) (omega (arith, l.invariant.1, i)) k.result.lost e.lost_bound _ k.result.left e.out_unchanged.0 long e.b_value e.out_after,
     )
 
 pub returns-then-possible-quorum-2 : goal.returns-then-possible-quorum-2
 returns-then-possible-quorum-2 c =
     let l = c.loop-w in
-    let r = stopped c.args.i c.args.layout.now.lengths.now c.args.letter.now c.args.row.now c.args.quorum l.out l.possible l.w l.invariant.3 (omega (arith, l.invariant.0, l.invariant.1)) c.if-possible-quorum-2.true l.invariant.2 in
+    let r = stopped c.args.by.places c.args.layout.now.lengths.now c.args.letter.now c.args.row.now c.args.quorum l.out l.possible l.w l.invariant.3 (omega (arith, l.invariant.0, l.invariant.1)) c.if-possible-quorum-2.true l.invariant.2 in
     record {
       lower_bound = r.0;
       value = r.1.0;
@@ -124,7 +122,7 @@ returns c =
     let w : l.w ≡ m.result = omega (arith, l.invariant.0, c.loop-w-test.false) in
     let q : c.args.quorum ≤ l.possible = omega (arith, c.if-possible-quorum-2.false) in
     let wide = marks_in _ _ e.row_unchanged.1 l.invariant.2 c.requires.lengths_in_bounds.2 c.requires.lengths_in_bounds.0 in
-    let r = ended c.args.i c.args.layout.now.lengths.now c.args.letter.now c.args.row.now c.args.quorum l.out l.possible l.w l.invariant.3 c.requires.bounded m.result (words_marks _ c.args.layout.now.few m.ensures).1 l.invariant.1 w q
+    let r = ended c.args.by.places c.args.layout.now.lengths.now c.args.letter.now c.args.row.now c.args.quorum l.out l.possible l.w l.invariant.3 c.requires.bounded m.result (words_marks _ c.args.layout.now.few m.ensures).1 l.invariant.1 w q
     _ e.by_index.0 e.by_index.1 e.row_unchanged.0 (omega (arith, l.invariant.1, wide)) c.count.ensures (e.row_unchanged.1 ∙ l.invariant.2) in
     record {
       lower_bound = r.0;

@@ -17,7 +17,7 @@ bounds-row-w c =
 pub loop-place-init : goal.loop-place-init
 loop-place-init c =
     let a = c.args in
-    (refl, rw c.into_iter-place-iterator.ensures.into_iter_gives (record { lost = 0; going = going_begin a.i a.layout.now.lengths.now a.letter.now a.row.now a.w (c.type_inv.row a.w).fits a.out.now }))
+    (refl, rw c.into_iter-place-iterator.ensures.into_iter_gives (record { lost = 0; going = going_begin a.by.places a.layout.now.lengths.now a.letter.now a.row.now a.w (c.type_inv.row a.w).fits a.out.now }))
 
 -- at a turn there is a next mark, and the word of its sequence
 in_word : (c : In-Some) → c.in-Some.place < 64
@@ -28,7 +28,7 @@ inside c =
     let a = c.args in
     let p = c.requires in
     let l = c.loop-place in
-    word_in a.i a.layout.now.lengths.now a.letter.now a.row.now a.w (c.type_inv.row a.w).fits a.out.now l.out l.place-iterator.0 l.marks l.invariant.1 c.in-Some.ensures.steps a.layout.now.firsts.now c.args.layout.now.laid (a.layout.now.ones p.short) p.bounded p.w_bound.0 p.lengths_in_bounds.0 refl
+    word_in a.by.places a.layout.now.lengths.now a.letter.now a.row.now a.w (c.type_inv.row a.w).fits a.out.now l.out l.place-iterator.0 l.marks l.invariant.1 c.in-Some.ensures.steps a.layout.now.firsts.now c.args.layout.now.laid (a.layout.now.ones p.short) p.bounded p.w_bound p.lengths_in_bounds.0 refl
 
 pub overflow_cast-at : goal.overflow_cast-at
 overflow_cast-at c = omega (arith, in_word (goal.at.overflow_cast-at c).In-Some)
@@ -64,8 +64,8 @@ loop-place-preserved c =
     let l = c.loop-place in
     let at : ℕ = row_marks + a.w * 64 + c.in-Some.place in (
       length-set l.out at _ ∙ l.invariant.0,
-      kept_turn a.i a.layout.now.lengths.now a.letter.now a.row.now a.w (c.type_inv.row a.w).fits a.out.now l.out l.place-iterator.0 l.marks l.invariant.1 c.in-Some.ensures.steps a.layout.now.firsts.now c.args.layout.now.laid (a.layout.now.ones p.short) p.bounded p.w_bound.0 p.lengths_in_bounds.0 refl
-          p.w_bound.1 p.lengths_in_bounds.1 (l.invariant.0 ∙ p.lengths_in_bounds.2)
+      kept_turn a.by.places a.layout.now.lengths.now a.letter.now a.row.now a.w (c.type_inv.row a.w).fits a.out.now l.out l.place-iterator.0 l.marks l.invariant.1 c.in-Some.ensures.steps a.layout.now.firsts.now c.args.layout.now.laid (a.layout.now.ones p.short) p.bounded p.w_bound p.lengths_in_bounds.0 refl
+          a.by.in_word p.lengths_in_bounds.1 (l.invariant.0 ∙ p.lengths_in_bounds.2)
           (c.type_inv.letter at).fits (c.type_inv.row at).fits (bit_from _ c.from.ensures),
     )
 
@@ -77,7 +77,7 @@ returns c =
     let fits = (c.type_inv.row a.w).fits in
     let none = c.in-None.ensures.steps in
     record {
-      by_index = end_left a.i a.layout.now.lengths.now a.letter.now a.row.now a.w fits a.out.now l.out l.place-iterator.0 l.marks _ g none;
+      by_index = end_left a.by.places a.layout.now.lengths.now a.letter.now a.row.now a.w fits a.out.now l.out l.place-iterator.0 l.marks _ g none;
       out_unchanged = (g.so_far.walked.kept, l.invariant.0);
-      by_index_2 = end_walked a.i a.layout.now.lengths.now a.letter.now a.row.now a.w fits a.out.now l.out l.place-iterator.0 l.marks _ g none;
+      by_index_2 = end_walked a.by.places a.layout.now.lengths.now a.letter.now a.row.now a.w fits a.out.now l.out l.place-iterator.0 l.marks _ g none;
     }

@@ -17,12 +17,12 @@ count-able-requires c =
 
 pub loop-w-init : goal.loop-w-init
 loop-w-init c =
-    (omega arith, refl, possible_begin c.args.i c.args.layout.now.lengths.now c.args.letter.now c.args.row.now c.requires.bounded 16 c.args.layout.now.few c.args.quorum c.args.out.now (omega arith) (omega (arith, c.requires.lengths_in_bounds.0, first_past c.args.layout.now.lengths.now (length c.args.layout.now.lengths.now))) c.count-able.ensures)
+    (omega arith, refl, possible_begin c.args.by.places c.args.layout.now.lengths.now c.args.letter.now c.args.row.now c.requires.bounded 16 c.args.layout.now.few c.args.quorum c.args.out.now (omega arith) (omega (arith, c.requires.lengths_in_bounds.0, first_past c.args.layout.now.lengths.now (length c.args.layout.now.lengths.now))) c.count-able.ensures)
 
 pub returns-then-able-quorum : goal.returns-then-able-quorum
 returns-then-able-quorum c =
     let l = c.loop-w in
-    let r = stopped c.args.i c.args.layout.now.lengths.now c.args.letter.now c.args.row.now c.args.quorum l.out l.able l.w l.invariant.2 l.invariant.0 c.if-able-quorum.true l.invariant.1 in
+    let r = stopped c.args.by.places c.args.layout.now.lengths.now c.args.letter.now c.args.row.now c.args.quorum l.out l.able l.w l.invariant.2 l.invariant.0 c.if-able-quorum.true l.invariant.1 in
     record {
       lower_bound = r.0;
       value = r.1.0;
@@ -35,7 +35,7 @@ pub keep_ones-left-requires : goal.keep_ones-left-requires
 keep_ones-left-requires c =
     let l = c.loop-w in
     record {
-      w_bound = (search rules, c.requires.i_bound);
+      w_bound = search rules;
       short = c.requires.short;
       bounded = c.requires.bounded;
       lengths_in_bounds = (c.requires.lengths_in_bounds.0, c.requires.lengths_in_bounds.1, l.invariant.1 ∙ c.requires.lengths_in_bounds.2);
@@ -57,9 +57,9 @@ overflow_sub-able c =
     let i = c.loop-w-test.true in
     let a = c.args in
     let k = c.keep_ones-left in
-    let lost : tally (is_extended_marked a.i a.layout.now.lengths.now a.letter.now a.row.now) (l.w * 64) 64 + ones (bit_xor (get_or a.row.now l.w 0) k.result) ≤ tally (is_marked a.row.now) (l.w * 64) 64 =
-    ones_lost a.i a.layout.now.lengths.now a.letter.now a.row.now l.w k.result (search rules) (c.type_inv.row l.w).fits k.ensures.by_index in
-    lost_most c.args.i c.args.layout.now.lengths.now c.args.letter.now c.args.row.now c.args.quorum l.out l.able l.w l.invariant.2 (omega (arith, h)) i _ lost
+    let lost : tally (is_extended_marked a.by.places a.layout.now.lengths.now a.letter.now a.row.now) (l.w * 64) 64 + ones (bit_xor (get_or a.row.now l.w 0) k.result) ≤ tally (is_marked a.row.now) (l.w * 64) 64 =
+    ones_lost a.by.places a.layout.now.lengths.now a.letter.now a.row.now l.w k.result (search rules) (c.type_inv.row l.w).fits k.ensures.by_index in
+    lost_most c.args.by.places c.args.layout.now.lengths.now c.args.letter.now c.args.row.now c.args.quorum l.out l.able l.w l.invariant.2 (omega (arith, h)) i _ lost
 
 pub loop-w-preserved : goal.loop-w-preserved
 loop-w-preserved c =
@@ -69,18 +69,18 @@ loop-w-preserved c =
     let i = c.loop-w-test.true in
     let a = c.args in
     let k = c.keep_ones-left in
-    let lost : tally (is_extended_marked a.i a.layout.now.lengths.now a.letter.now a.row.now) (l.w * 64) 64 + ones (bit_xor (get_or a.row.now l.w 0) k.result) ≤ tally (is_marked a.row.now) (l.w * 64) 64 =
-    ones_lost a.i a.layout.now.lengths.now a.letter.now a.row.now l.w k.result (search rules) (c.type_inv.row l.w).fits k.ensures.by_index in
+    let lost : tally (is_extended_marked a.by.places a.layout.now.lengths.now a.letter.now a.row.now) (l.w * 64) 64 + ones (bit_xor (get_or a.row.now l.w 0) k.result) ≤ tally (is_marked a.row.now) (l.w * 64) 64 =
+    ones_lost a.by.places a.layout.now.lengths.now a.letter.now a.row.now l.w k.result (search rules) (c.type_inv.row l.w).fits k.ensures.by_index in
     let long = marks_in _ _ e.out_unchanged.1 l.invariant.1 c.requires.lengths_in_bounds.2 c.requires.lengths_in_bounds.0 in (
       search rules,
       length-set k.new.out l.w k.result ∙ e.out_unchanged.1 ∙ l.invariant.1,
-      possible_turn c.args.i c.args.layout.now.lengths.now c.args.letter.now c.args.row.now c.args.quorum l.out l.able l.w l.invariant.2 (omega (arith, h)) i _ lost _ k.result e.out_unchanged.0 long (λ _. e.by_index) (λ _. e.by_index_2),
+      possible_turn c.args.by.places c.args.layout.now.lengths.now c.args.letter.now c.args.row.now c.args.quorum l.out l.able l.w l.invariant.2 (omega (arith, h)) i _ lost _ k.result e.out_unchanged.0 long (λ _. e.by_index) (λ _. e.by_index_2),
     )
 
 pub returns-then-able-quorum-2 : goal.returns-then-able-quorum-2
 returns-then-able-quorum-2 c =
     let l = c.loop-w in
-    let r = stopped c.args.i c.args.layout.now.lengths.now c.args.letter.now c.args.row.now c.args.quorum l.out l.able l.w l.invariant.2 l.invariant.0 c.if-able-quorum-2.true l.invariant.1 in
+    let r = stopped c.args.by.places c.args.layout.now.lengths.now c.args.letter.now c.args.row.now c.args.quorum l.out l.able l.w l.invariant.2 l.invariant.0 c.if-able-quorum-2.true l.invariant.1 in
     record {
       lower_bound = r.0;
       value = r.1.0;
@@ -100,7 +100,7 @@ returns c =
     let w : l.w ≡ row_marks = omega (arith, l.invariant.0, c.loop-w-test.false) in
     let q : c.args.quorum ≤ l.able = omega (arith, c.if-able-quorum-2.false) in
     let wide = marks_in _ _ refl l.invariant.1 c.requires.lengths_in_bounds.2 c.requires.lengths_in_bounds.0 in
-    let r = ended c.args.i c.args.layout.now.lengths.now c.args.letter.now c.args.row.now c.args.quorum l.out l.able l.w l.invariant.2 c.requires.bounded 16 c.args.layout.now.few (omega arith) w q l.out (λ _ _. refl) (λ _ h g. absurd (omega (arith, h, g))) refl wide c.count.ensures l.invariant.1 in
+    let r = ended c.args.by.places c.args.layout.now.lengths.now c.args.letter.now c.args.row.now c.args.quorum l.out l.able l.w l.invariant.2 c.requires.bounded 16 c.args.layout.now.few (omega arith) w q l.out (λ _ _. refl) (λ _ h g. absurd (omega (arith, h, g))) refl wide c.count.ensures l.invariant.1 in
     record {
       lower_bound = r.0;
       value = r.1.0;
