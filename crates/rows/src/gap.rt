@@ -7,7 +7,7 @@ ghost use Rattle.rows.specs.Set.{row_marks, first_word, bits_at, is_marked, wind
 
 use super::layout::Layout;
 use super::set_bits::SetBits;
-use super::{BITS, MARKS, words};
+use super::{BITS, MARKS, WORDS, words};
 use rules::Distances;
 
 // How far the starts of two neighbouring components of a template may lie apart: as `Component::after` tells it of a sound template.
@@ -53,13 +53,17 @@ fn open_sequence(gap: Gap, spare: &mut [u64], row: &mut [u64])
 }
 
 // Opens a gap in the sequences of one word of marks, those that have one.
-fn open_sequences(layout: &Layout, w: usize, gap: Gap, spare: &mut [u64], row: &mut [u64])
+fn open_sequences(
+    layout: &Layout,
+    w: usize,
+    gap: Gap,
+    spare: &mut [u64; WORDS],
+    row: &mut [u64; WORDS],
+)
     requires w_bound { w < row_marks }
     requires bounded { Bounded layout.now.lengths.now row.old }
-    requires lengths_in_bounds { (first_word layout.now.lengths.now (length layout.now.lengths.now) ≤ length row.old) × (length spare.old ≡ length row.old) }
     ensures row_unchanged { take (first_word layout.now.lengths.now (min (w * 64) (length layout.now.lengths.now))) row.new ≡ take (first_word layout.now.lengths.now (min (w * 64) (length layout.now.lengths.now))) row.old }
     ensures row_unchanged_2 { drop (first_word layout.now.lengths.now (w * 64 + 64)) row.new ≡ drop (first_word layout.now.lengths.now (w * 64 + 64)) row.old }
-    ensures row_len_unchanged { (length row.new ≡ length row.old) × (length spare.new ≡ length spare.old) }
     ensures by_index { (k : ℕ) → w * 64 ≤ k → k < w * 64 + 64 → is_marked row.old k ≡ true → bits_at layout.now.lengths.now k row.new ≡ window_at gap.apart.near gap.apart.count layout.now.lengths.now row.old k }
 {
     let layout = *layout;
@@ -72,12 +76,10 @@ fn open_sequences(layout: &Layout, w: usize, gap: Gap, spare: &mut [u64], row: &
 }
 
 // Opens a gap in every sequence that has a mark, each in its own words; the marks stay.
-pub fn open_all(layout: &Layout, gap: Gap, spare: &mut [u64], row: &mut [u64])
+pub fn open_all(layout: &Layout, gap: Gap, spare: &mut [u64; WORDS], row: &mut [u64; WORDS])
     requires bounded { Bounded layout.now.lengths.now row.old }
-    requires lengths_in_bounds { (first_word layout.now.lengths.now (length layout.now.lengths.now) ≤ length row.old) × (length spare.old ≡ length row.old) }
     ensures marked { Marked (is_marked row.old) row.new sequence_set_sequences }
     ensures filled { Filled (is_marked row.old) (window_at gap.apart.near gap.apart.count layout.now.lengths.now row.old) layout.now.lengths.now row.new (length layout.now.lengths.now) }
-    ensures row_len_unchanged { (length row.new ≡ length row.old) × (length spare.new ≡ length spare.old) }
 {
     for w in 0..MARKS {
         open_sequences(layout, w, gap, spare, row);
