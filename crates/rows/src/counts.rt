@@ -192,13 +192,23 @@ fn add_word(word: u64, counts: &[u64]) -> u64
     total
 }
 
+// Words of a row that are side by side, and the counts of their places. Only the last word may have fewer than 64, and no bit past them.
+#[derive(Clone, Copy)]
+struct Part<'a> {
+    row: &'a [u64],
+    counts: &'a [u64],
+    ghost most: { 64 * length row.now ≤ length counts.now + 63 },
+    ghost least: { length counts.now ≤ 64 * length row.now },
+    ghost dark: { (p : ℕ) → length counts.now ≤ p → get_or (held row.now) p 0 ≡ 0 },
+    ghost small: { sum (masked (held row.now) counts.now) < 2 ^ 64 },
+}
+
 // The sum of the counts of the places at which some words of a row have a bit, word by word.
-fn add_words(row: &[u64], counts: &[u64]) -> u64
-    requires row_in_bounds { (64 * length row.now ≤ length counts.now + 63) × (length counts.now ≤ 64 * length row.now) }
-    requires by_index { (p : ℕ) → length counts.now ≤ p → get_or (held row.now) p 0 ≡ 0 }
-    requires counts_bound { sum (masked (held row.now) counts.now) < 2 ^ 64 }
-    ensures { result ≡ sum (masked (held row.now) counts.now) }
+fn add_words(part: Part) -> u64
+    ensures { result ≡ sum (masked (held part.entry.row.now) part.entry.counts.now) }
 {
+    let row = part.row;
+    let counts = part.counts;
     let mut total: u64 = 0;
     // By index: a `zip` with `chunks` takes twice the instructions for a word that is empty, as most are.
     for q in 0..row.len() {
@@ -210,16 +220,13 @@ fn add_words(row: &[u64], counts: &[u64]) -> u64
 }
 
 // The same, at once where all the words are empty.
-fn add_stretch(row: &[u64], counts: &[u64]) -> u64
-    requires row_in_bounds { (64 * length row.now ≤ length counts.now + 63) × (length counts.now ≤ 64 * length row.now) }
-    requires by_index { (p : ℕ) → length counts.now ≤ p → get_or (held row.now) p 0 ≡ 0 }
-    requires counts_bound { sum (masked (held row.now) counts.now) < 2 ^ 64 }
-    ensures { result ≡ sum (masked (held row.now) counts.now) }
+fn add_stretch(part: Part) -> u64
+    ensures { result ≡ sum (masked (held part.entry.row.now) part.entry.counts.now) }
 {
-    if empty(row) {
+    if empty(part.row) {
         return 0;
     }
-    add_words(row, counts)
+    add_words(part)
 }
 
 // The sum of the counts of the places at which a row has a bit. In a long sequence most words are empty, and so are most stretches of
@@ -236,9 +243,12 @@ pub fn add(row: &[u64], counts: &[u64]) -> u64
     // No `for`: it goes from stretch to stretch, and what is left of the row and of the counts is cut as it goes.
     while let Some((stretch, others)) = row.split_first_chunk::<STRETCH>() {
         let (near, far) = counts.split_at(counts.len().min(64 * STRETCH));
-        total += add_stretch(stretch, near);
+        total += add_stretch(Part {
+            row: stretch,
+            counts: near,
+        });
         row = others;
         counts = far;
     }
-    total + add_words(row, counts)
+    total + add_words(Part { row, counts })
 }
