@@ -28,27 +28,35 @@ fn before(list: &[u64], o: usize, d: usize) -> u64
     if d <= o { list[o - d] } else { 0 }
 }
 
+// A row, and counts that have its words: where it has a bit, none is so large that those of a gap could not be added.
+#[derive(Clone, Copy)]
+struct Ways<'a> {
+    row: &'a [u64],
+    counts: &'a [u64],
+    ghost inside: { length counts.now ≤ 64 * length row.now },
+    ghost few: { (i : ℕ) → get_or (masked (held row.now) counts.now) i 0 ≤ count_most },
+}
+
 // The count that stands `d` places before `o`, if the row has a bit there, and else 0.
-fn held_before(row: &[u64], counts: &[u64], o: usize, d: usize) -> u64
-    requires { (o ≤ length counts.now) × (1 ≤ d) × (length counts.now ≤ 64 * length row.now) }
-    ensures { result ≡ ago (masked (held row.now) counts.now) o d }
+fn held_before(ways: Ways, o: usize, d: usize) -> u64
+    requires { (o ≤ length ways.counts.now) × (1 ≤ d) }
+    ensures { result ≡ ago (masked (held ways.entry.row.now) ways.entry.counts.now) o d }
 {
     if o < d {
         return 0;
     }
     let p = o - d;
-    when((row[p / 64] >> (p % 64)) & 1, counts[p])
+    when((ways.row[p / 64] >> (p % 64)) & 1, ways.counts[p])
 }
 
 // The sum of the `count` counts that stand `near` places before `o` and further back, those at which the row has a bit.
-fn window(row: &[u64], counts: &[u64], o: usize, gap: Gap) -> u64
-    requires o_in_bounds { (o ≤ length counts.now) × (length counts.now ≤ 64 * length row.now) }
-    requires by_index { (i : ℕ) → get_or (masked (held row.now) counts.now) i 0 ≤ count_most }
-    ensures { result ≡ recent (masked (held row.now) counts.now) o gap.apart.near gap.apart.count }
+fn window(ways: Ways, o: usize, gap: Gap) -> u64
+    requires { o ≤ length ways.counts.now }
+    ensures { result ≡ recent (masked (held ways.entry.row.now) ways.entry.counts.now) o gap.apart.near gap.apart.count }
 {
     let mut total: u64 = 0;
     for k in 0..gap.apart.count {
-        total += held_before(row, counts, o, gap.apart.near + k);
+        total += held_before(ways, o, gap.apart.near + k);
     }
     total
 }
@@ -129,7 +137,7 @@ fn sum_past(row: &[u64], opened: &[u64], gap: Gap, counts: &[u64]) -> u64
     if opened[(to - 1) / 64] == 0 {
         return 0;
     }
-    window(row, counts, to, gap)
+    window(Ways { row, counts }, to, gap)
 }
 
 // Opens a gap after the counts at which a row has a bit. The other row is that row with the gap opened: only where a word of it has a bit
