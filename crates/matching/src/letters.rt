@@ -12,7 +12,7 @@ ghost use Rattle.rows.specs.Set.{row_words, between, shifted_at, Filled, Offsets
 
 use super::made::{Made, Plan};
 use super::{BASES, DIGITS, WORDS};
-use rows::words::Bases;
+use rows::words::{Bases, Shift};
 use rows::{BITS, shift, words};
 use rules::{Letter, Offset, Place, Profile, SequenceSet};
 
@@ -94,7 +94,8 @@ fn later_slot(plan: &Plan, s: usize, work: &mut [u64; WORDS], standing: &mut [[u
     ensures filled { Filled (λ _. true) (shifted_at (s / letter_bases) plan.now.layout.lengths.now (row_slot (s % letter_bases) standing.old)) plan.now.layout.lengths.now (row_slot s standing.new) (length plan.now.layout.lengths.now) }
 {
     *work = standing[s % BASES];
-    shift::shift_all(&plan.layout, s / BASES, work, &mut standing[s]);
+    let by = Shift { places: s / BASES };
+    shift::shift_all(&plan.layout, by, work, &mut standing[s]);
 }
 
 // Slot `s` of a mixed search, past those of the four letters of a sequence: the row of letter `s`. `work` is lent for it.
@@ -150,14 +151,13 @@ pub fn letter_rows(plan: &Plan, work: &mut [u64; WORDS], standing: &mut [[u64; W
 #[derive(Clone, Copy)]
 pub struct Test<'a> {
     pub row: &'a [u64; WORDS],
-    pub by: usize,
+    pub by: Shift,
 }
 
 // The row of the letter shifted so far, where it is kept, and else the row as it is.
 pub fn test_for<'a>(made: &Made<'a>, place: Place) -> Test<'a>
     requires le_letters { (1 ≤ place.letters) × (place.letters ≤ made.now.plan.depth) }
-    ensures by_bound { result.by < 16 }
-    ensures tests_last { TestsLast made.now.plan.search.template made.now.plan.layout.lengths.now made.now.plan.letters.now place.letters place.number result.row.now result.by }
+    ensures tests_last { TestsLast made.now.plan.search.template made.now.plan.layout.lengths.now made.now.plan.letters.now place.letters place.number result.row.now result.by.places }
 {
     let standing = made.standing;
     let below = place.letters as usize - 1;
@@ -169,12 +169,12 @@ pub fn test_for<'a>(made: &Made<'a>, place: Place) -> Test<'a>
     if kept {
         Test {
             row: &standing[i * base + x],
-            by: 0,
+            by: Shift { places: 0 },
         }
     } else {
         Test {
             row: &standing[x],
-            by: i,
+            by: Shift { places: i },
         }
     }
 }

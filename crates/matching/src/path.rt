@@ -12,7 +12,9 @@ ghost use Rattle.rows.specs.Set.{is_marked, window_at, Filled, Marked, Bounded, 
 use super::letters::{Test, letter_row, test_for};
 use super::made::{Made, Plan};
 use super::{SLOTS, WORDS};
-use rows::{gap, set};
+use rows::gap::{self, Gap};
+use rows::set;
+use rows::words::Shift;
 use rules::Place;
 
 // The slot of the prefix of so many letters.
@@ -33,15 +35,14 @@ fn extend(
     quorum: u32,
     work: &mut [u64; WORDS],
 ) -> u32
-    requires le_size { (1 ≤ place.letters) × (place.letters ≤ templates.size plan.now.search.template) × (test.by < 16) }
-    requires tests_last { TestsLast plan.now.search.template plan.now.layout.lengths.now plan.now.letters.now place.letters place.number test.row.now test.by }
+    requires le_size { (1 ≤ place.letters) × (place.letters ≤ templates.size plan.now.search.template) }
+    requires tests_last { TestsLast plan.now.search.template plan.now.layout.lengths.now plan.now.letters.now place.letters place.number test.row.now test.by.places }
     requires slot { Slot plan.now.search.template plan.now.layout.lengths.now plan.now.letters.now slot.now (place.letters - 1) (place.number / base_of plan.now.search.template) }
     ensures lower_bound { support (parts plan.now.search.template place.letters place.number) (sequences plan.now.letters.now plan.now.layout.lengths.now) ≤ result }
     ensures value { quorum ≤ result → result ≡ support (parts plan.now.search.template place.letters place.number) (sequences plan.now.letters.now plan.now.layout.lengths.now) }
     ensures row { quorum ≤ result → Row (prefix_starts plan.now.search.template place.letters place.number) plan.now.layout.lengths.now plan.now.letters.now work.new }
 {
-    let row = test.row;
-    set::keep_all(&plan.layout, slot, row, test.by, quorum, work)
+    set::keep_all(&plan.layout, slot, test.row, test.by, quorum, work)
 }
 
 // The same for a candidate whose path stands in the slots.
@@ -79,8 +80,10 @@ fn open_slot(plan: &Plan, component: usize, spare: &mut [u64; WORDS], slot: &mut
     let components = plan.search.template.components();
     let before = components[component - 1];
     let here = components[component];
-    let apart = here.after(before);
-    gap::open_all(&plan.layout, apart, spare, slot);
+    let gap = Gap {
+        apart: here.after(before),
+    };
+    gap::open_all(&plan.layout, gap, spare, slot);
 }
 
 // Makes a slot that has the row of a prefix what a further letter is added to: where that stands inside a component the row as it is, and
@@ -109,8 +112,8 @@ fn fill_slot(
     spare: &mut [u64; WORDS],
     slot: &mut [u64; WORDS],
 ) -> u32
-    requires le_size { (1 ≤ place.letters) × (place.letters < templates.size plan.now.search.template) × (test.by < 16) }
-    requires tests_last { TestsLast plan.now.search.template plan.now.layout.lengths.now plan.now.letters.now place.letters place.number test.row.now test.by }
+    requires le_size { (1 ≤ place.letters) × (place.letters < templates.size plan.now.search.template) }
+    requires tests_last { TestsLast plan.now.search.template plan.now.layout.lengths.now plan.now.letters.now place.letters place.number test.row.now test.by.places }
     requires slot { Slot plan.now.search.template plan.now.layout.lengths.now plan.now.letters.now before.now (place.letters - 1) (place.number / base_of plan.now.search.template) }
     ensures lower_bound { support (parts plan.now.search.template place.letters place.number) (sequences plan.now.letters.now plan.now.layout.lengths.now) ≤ result }
     ensures value { quorum ≤ result → result ≡ support (parts plan.now.search.template place.letters place.number) (sequences plan.now.letters.now plan.now.layout.lengths.now) }
@@ -221,7 +224,9 @@ fn take_turn(
     ensures slot_2 { Slot plan.now.search.template plan.now.layout.lengths.now plan.now.letters.now slot.new place.letters place.number }
 {
     let below = place.letters as usize - 1;
-    let by = plan.inside[below].letter as usize;
+    let by = Shift {
+        places: plan.inside[below].letter as usize,
+    };
     let profile = plan.search.template.profile;
     letter_row(profile.last(place.number), bases, letter);
     let found = extend(plan, place, Test { row: letter, by }, before, 0, slot);

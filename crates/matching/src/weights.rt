@@ -1,7 +1,6 @@
 // Weighted supports: the counts of ways before a motif's last component, made once for all motifs of one prefix, and added where the
 // motif's row has a bit.
 ghost use Rattle.std.specs.Prelude.{true, map, ◌≡◌, ℕ, ◌+◌, ◌-◌, ◌*◌, ◌^◌, ◌≤◌, ◌<◌, length, take, drop, get_or};
-ghost use Rattle.rules.specs.Limits.{template_length, template_gap};
 ghost use Rattle.rules.specs.Profile.{base_of};
 ghost use Rattle.rules.specs.Lists as lists;
 ghost use Rattle.rules.specs.Sequences.{sequences};
@@ -14,9 +13,10 @@ ghost use Rattle.matching.specs.Weights.{counts_at, kept_counts, HoldsCounts, co
 
 use super::made::Weighing;
 use super::{SLOTS, WORDS, path};
+use rows::gap::Gap;
 use rows::set_bits::SetBits;
 use rows::{BITS, MARKS, counts};
-use rules::{Distances, Offset, Place};
+use rules::{Offset, Place};
 
 // What a component's ways are counted from in one sequence, where the row has a bit: for the first one way, and else what there is.
 fn begin(first: bool, row: &[u64], counts: &mut [u64])
@@ -39,20 +39,19 @@ fn lead_between(
     row: &[u64; WORDS],
     opened: &[u64; WORDS],
     first: bool,
-    apart: Distances,
+    gap: Gap,
     counts: &mut [u64],
 )
     requires from_le_to { (from ≤ to) × (to ≤ row_words) × (a.0 ≤ e.0) × (e.0 ≤ length counts.old) × (e.0 - a.0 ≤ 64 * (to - from)) }
-    requires le_d { (1 ≤ apart.near) × (apart.near ≤ template_length + template_gap) × (1 ≤ apart.count) × (apart.count ≤ template_gap + 1) }
     requires by_index { (i : ℕ) → get_or (masked (held (between from to row.now)) (counted_from first (between a.0 e.0 counts.old))) i 0 ≤ count_most }
-    requires by_index_2 { (i : ℕ) → get_or (held (between from to opened.now)) i 0 ≡ 0 → get_or (added apart.near (apart.near + apart.count - 1) (masked (held (between from to row.now)) (counted_from first (between a.0 e.0 counts.old)))) i 0 ≡ 0 }
+    requires by_index_2 { (i : ℕ) → get_or (held (between from to opened.now)) i 0 ≡ 0 → get_or (added gap.apart.near (gap.apart.near + gap.apart.count - 1) (masked (held (between from to row.now)) (counted_from first (between a.0 e.0 counts.old)))) i 0 ≡ 0 }
     ensures counts_unchanged { (take a.0 counts.new ≡ take a.0 counts.old) × (drop e.0 counts.new ≡ drop e.0 counts.old) × (length counts.new ≡ length counts.old) }
-    ensures counts_after { masked (held (between from to opened.now)) (between a.0 e.0 counts.new) ≡ added apart.near (apart.near + apart.count - 1) (masked (held (between from to row.now)) (counted_from first (between a.0 e.0 counts.old))) }
+    ensures counts_after { masked (held (between from to opened.now)) (between a.0 e.0 counts.new) ≡ added gap.apart.near (gap.apart.near + gap.apart.count - 1) (masked (held (between from to row.now)) (counted_from first (between a.0 e.0 counts.old))) }
 {
     let x = a.0;
     let y = e.0;
     begin(first, &row[from..to], &mut counts[x..y]);
-    counts::lead(&row[from..to], &opened[from..to], apart, &mut counts[x..y]);
+    counts::lead(&row[from..to], &opened[from..to], gap, &mut counts[x..y]);
 }
 
 // The same in the sequences of one word of marks, those that have one.
@@ -62,15 +61,15 @@ fn lead_sequences(
     row: &[u64; WORDS],
     opened: &[u64; WORDS],
     first: bool,
-    apart: Distances,
+    gap: Gap,
     counts: &mut [u64],
 )
-    requires w_bound { (w < row_marks) × (1 ≤ apart.near) × (apart.near ≤ template_length + template_gap) × (1 ≤ apart.count) × (apart.count ≤ template_gap + 1) }
+    requires w_bound { w < row_marks }
     requires bounded { Bounded weighing.now.made.plan.layout.lengths.now row.now }
     requires lengths_in_bounds { lists.sum weighing.now.made.plan.layout.lengths.now ≤ length counts.old }
     requires by_index { (k : ℕ) → w * 64 ≤ k → k < length weighing.now.made.plan.layout.lengths.now → is_marked row.now k ≡ true → (i : ℕ) → get_or (begun_counts first weighing.now.made.plan.layout.lengths.now row.now counts.old k) i 0 ≤ count_most }
-    requires by_index_2 { (k : ℕ) → w * 64 ≤ k → k < length weighing.now.made.plan.layout.lengths.now → is_marked row.now k ≡ true → (i : ℕ) → get_or (bits_at weighing.now.made.plan.layout.lengths.now k opened.now) i 0 ≡ 0 → get_or (added apart.near (apart.near + apart.count - 1) (begun_counts first weighing.now.made.plan.layout.lengths.now row.now counts.old k)) i 0 ≡ 0 }
-    ensures by_index_3 { (k : ℕ) → w * 64 ≤ k → k < w * 64 + 64 → is_marked row.now k ≡ true → kept_counts weighing.now.made.plan.layout.lengths.now opened.now counts.new k ≡ added apart.near (apart.near + apart.count - 1) (begun_counts first weighing.now.made.plan.layout.lengths.now row.now counts.old k) }
+    requires by_index_2 { (k : ℕ) → w * 64 ≤ k → k < length weighing.now.made.plan.layout.lengths.now → is_marked row.now k ≡ true → (i : ℕ) → get_or (bits_at weighing.now.made.plan.layout.lengths.now k opened.now) i 0 ≡ 0 → get_or (added gap.apart.near (gap.apart.near + gap.apart.count - 1) (begun_counts first weighing.now.made.plan.layout.lengths.now row.now counts.old k)) i 0 ≡ 0 }
+    ensures by_index_3 { (k : ℕ) → w * 64 ≤ k → k < w * 64 + 64 → is_marked row.now k ≡ true → kept_counts weighing.now.made.plan.layout.lengths.now opened.now counts.new k ≡ added gap.apart.near (gap.apart.near + gap.apart.count - 1) (begun_counts first weighing.now.made.plan.layout.lengths.now row.now counts.old k) }
     ensures by_index_4 { (k : ℕ) → k < w * 64 → k < length weighing.now.made.plan.layout.lengths.now → counts_at weighing.now.made.plan.layout.lengths.now k counts.new ≡ counts_at weighing.now.made.plan.layout.lengths.now k counts.old }
     ensures by_index_5 { (k : ℕ) → w * 64 + 64 ≤ k → k < length weighing.now.made.plan.layout.lengths.now → counts_at weighing.now.made.plan.layout.lengths.now k counts.new ≡ counts_at weighing.now.made.plan.layout.lengths.now k counts.old }
     ensures counts_len_unchanged { length counts.new ≡ length counts.old }
@@ -91,7 +90,7 @@ fn lead_sequences(
             row,
             opened,
             first,
-            apart,
+            gap,
             counts,
         );
     }
@@ -105,19 +104,18 @@ fn lead_all(
     row: &[u64; WORDS],
     opened: &[u64; WORDS],
     first: bool,
-    apart: Distances,
+    gap: Gap,
     counts: &mut [u64],
 )
-    requires le_d { (1 ≤ apart.near) × (apart.near ≤ template_length + template_gap) × (1 ≤ apart.count) × (apart.count ≤ template_gap + 1) }
     requires bounded { Bounded weighing.now.made.plan.layout.lengths.now row.now }
     requires lengths_in_bounds { lists.sum weighing.now.made.plan.layout.lengths.now ≤ length counts.old }
     requires by_index { (k : ℕ) → k < length weighing.now.made.plan.layout.lengths.now → is_marked row.now k ≡ true → (i : ℕ) → get_or (begun_counts first weighing.now.made.plan.layout.lengths.now row.now counts.old k) i 0 ≤ count_most }
-    requires by_index_2 { (k : ℕ) → k < length weighing.now.made.plan.layout.lengths.now → is_marked row.now k ≡ true → (i : ℕ) → get_or (bits_at weighing.now.made.plan.layout.lengths.now k opened.now) i 0 ≡ 0 → get_or (added apart.near (apart.near + apart.count - 1) (begun_counts first weighing.now.made.plan.layout.lengths.now row.now counts.old k)) i 0 ≡ 0 }
-    ensures holds_counts { HoldsCounts (is_marked row.now) (λ k. added apart.near (apart.near + apart.count - 1) (begun_counts first weighing.now.made.plan.layout.lengths.now row.now counts.old k)) weighing.now.made.plan.layout.lengths.now opened.now counts.new (length weighing.now.made.plan.layout.lengths.now) }
+    requires by_index_2 { (k : ℕ) → k < length weighing.now.made.plan.layout.lengths.now → is_marked row.now k ≡ true → (i : ℕ) → get_or (bits_at weighing.now.made.plan.layout.lengths.now k opened.now) i 0 ≡ 0 → get_or (added gap.apart.near (gap.apart.near + gap.apart.count - 1) (begun_counts first weighing.now.made.plan.layout.lengths.now row.now counts.old k)) i 0 ≡ 0 }
+    ensures holds_counts { HoldsCounts (is_marked row.now) (λ k. added gap.apart.near (gap.apart.near + gap.apart.count - 1) (begun_counts first weighing.now.made.plan.layout.lengths.now row.now counts.old k)) weighing.now.made.plan.layout.lengths.now opened.now counts.new (length weighing.now.made.plan.layout.lengths.now) }
     ensures counts_len_unchanged { length counts.new ≡ length counts.old }
 {
     for w in 0..MARKS {
-        lead_sequences(weighing, w, row, opened, first, apart, counts);
+        lead_sequences(weighing, w, row, opened, first, gap, counts);
     }
 }
 
@@ -193,7 +191,9 @@ fn count_ways(
     for c in 1..count {
         let before = components[c - 1];
         let here = components[c];
-        let apart = here.after(before);
+        let gap = Gap {
+            apart: here.after(before),
+        };
         let more = before.length as u8;
         size += more;
         let left = (plan.depth - size) as u32;
@@ -204,7 +204,7 @@ fn count_ways(
         };
         path::support(&weighing.made, prefix, slots, 0, spare);
         let opened = path::slot(size as usize, slots);
-        lead_all(weighing, spare, opened, c == 1, apart, ways);
+        lead_all(weighing, spare, opened, c == 1, gap, ways);
     }
 }
 

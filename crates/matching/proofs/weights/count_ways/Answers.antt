@@ -77,15 +77,14 @@ slot-opened-requires c =
     let t = turn s.sound_template s.depth_value c.components-components.ensures l.auto.c c.loop-c-test.true l.invariant.0 in
     omega (arith, next_less t, t.whole, t.sound.deep)
 
-pub lead_all-requires-clause-le_d : goal.lead_all-requires-clause-le_d
-lead_all-requires-clause-le_d c =
+pub invariant_of-gap : goal.invariant_of-gap
+invariant_of-gap c =
     let s = c.args.weighing.now.made.plan in
     let p = c.requires in
     let l = c.loop-c in
     let t = turn s.sound_template s.depth_value c.components-components.ensures l.auto.c c.loop-c-test.true l.invariant.0 in
-    let apart = c.after-apart.ensures in
-    let z = turn_apart t apart in
-    (z.some, z.near, z.any, z.few)
+    let z = turn_apart t c.after.ensures in
+    record { near_bound = (z.some, z.near); count_bound = (z.any, z.few) }
 
 pub lead_all-requires-clause-bounded : goal.lead_all-requires-clause-bounded
 lead_all-requires-clause-bounded c =
@@ -127,7 +126,7 @@ lead_all-requires-clause-by_index_2 c =
     let goes : eqb l.c 1 ≡ false → LeadsTo s.search.template s.layout.lengths.now s.letters.now (l.c - 1) (c.args.motif / base_of s.search.template ^ (s.depth - l.size)) l.ways = λ e. i.1 (later l.c l.auto.c e) in
     let room : sum s.layout.lengths.now ≤ length l.ways = omega (arith, s.sound_set.adds, p.letters_in_bounds, l.auto.ways) in
     let is = c.support.ensures.row (omega arith) in
-    let apart = c.after-apart.ensures in
+    let apart = c.after.ensures in
     let opened = c.slot-opened.ensures in
     rw opened.slot (next_dark t _ _ s.sound_set c.args.motif _ _ (eqb l.c 1) begins goes room _ c.prefix-number.ensures is apart _ p.path)
 
@@ -143,4 +142,4 @@ loop-c-preserved c =
     let room : sum s.layout.lengths.now ≤ length l.ways = omega (arith, s.sound_set.adds, p.letters_in_bounds, l.auto.ways) in
     let is = c.support.ensures.row (omega arith) in
     let z : l.c + 1 - 1 ≡ l.c = omega arith in
-    (rw z (next_letters t), (λ _. rw z (next_led t _ _ s.sound_set c.args.motif _ _ (eqb l.c 1) begins goes room _ c.prefix-number.ensures is c.after-apart.ensures _ _ c.lead_all.ensures.holds_counts)))
+    (rw z (next_letters t), (λ _. rw z (next_led t _ _ s.sound_set c.args.motif _ _ (eqb l.c 1) begins goes room _ c.prefix-number.ensures is c.after.ensures _ _ c.lead_all.ensures.holds_counts)))

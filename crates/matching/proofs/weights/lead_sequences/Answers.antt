@@ -28,7 +28,7 @@ own first ns row x y at h begins ends starts stops q = begun_are_at ns at h begi
 turn : (c : In-Some) → Next c.args.weighing.now.made.plan.layout.lengths.now c.args.weighing.now.made.plan.layout.firsts.now c.args.row.now c.args.w (c.args.w * 64 + c.loop-place.invariant.upto) (c.args.w * 64 + c.in-Some.place)
 turn c =
     let s = c.args.weighing.now.made.plan in
-    next_taken c.args.row.now c.args.w c.loop-place.invariant.rests c.in-Some.ensures.steps s.layout.lengths.now s.layout.firsts.now c.requires.bounded s.layout.laid c.requires.w_bound.0
+    next_taken c.args.row.now c.args.w c.loop-place.invariant.rests c.in-Some.ensures.steps s.layout.lengths.now s.layout.firsts.now c.requires.bounded s.layout.laid c.requires.w_bound
 
 pub loop-place-init : goal.loop-place-init
 loop-place-init c =
