@@ -16,7 +16,7 @@ use Rattle.matching.specs.Path.{Path}
 use Rattle.legs.proofs.Kind.{next_down, next_last, next_bad}
 use Rattle.legs.specs.Kind.{walk_by}
 
-module _ (t : Template) (ns l slots : List ℕ) (good : ℕ → ℕ → Bool) (depth j m : ℕ) (here : Path t ns l slots j m) where
+module _ (t : Template) (ns l : List ℕ) (slots : List (List ℕ)) (good : ℕ → ℕ → Bool) (depth j m : ℕ) (here : Path t ns l slots j m) where
   goes_up : {q : Place} → next (walk_by t good depth) (place j m) ≡ q → next (walk_by t good depth) (place j m) ≡ up (walk_by t good depth) j m → Path t ns l slots q.letters q.number
   goes_up e u = rw (← e, u) (path_up_in t ns l slots (walk_by t good depth) refl j m here)
 

@@ -34,7 +34,7 @@ module _ (t : Template) (sound : SoundTemplate t) where
   last_prefix m = ap (λ (n : ℕ). m / base_of t ^ n) last_letters
 
 -- THE PATH to each candidate of one letter more is one to the first of them
-pub path_first : {t : Template} {ns l slots : List ℕ} {j : ℕ} (m : ℕ) → ((x : ℕ) → x < base_of t → Path t ns l slots j (m * base_of t + x))
+pub path_first : {t : Template} {ns l : List ℕ} {slots : List (List ℕ)} {j : ℕ} (m : ℕ) → ((x : ℕ) → x < base_of t → Path t ns l slots j (m * base_of t + x))
     → Path t ns l slots j (m * base_of t)
 path_first {t} m f =
     let z : m * base_of t + 0 ≡ m * base_of t = omega arith in

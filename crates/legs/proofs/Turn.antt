@@ -37,7 +37,7 @@ pub below_whole : (base j m : ℕ) {depth : ℕ} → j ≡ depth → m < base ^ 
 below_whole base j m e h = rw (← e) h
 
 -- and it goes on to the next place
-pub path_on : (t : Template) (ns l : List ℕ) (p : Place) {slots : List ℕ} (depth : ℕ) (good : ℕ → ℕ → Bool) {q : Place}
+pub path_on : (t : Template) (ns l : List ℕ) (p : Place) {slots : List (List ℕ)} (depth : ℕ) (good : ℕ → ℕ → Bool) {q : Place}
     → depth ≡ size t → valid t p.letters p.number ≡ true → Path t ns l slots p.letters p.number → (good p.letters p.number ≡ true → p.letters < depth → Path t ns l slots (p.letters + 1) (p.number * base_of t))
     → next (walk_by t good depth) p ≡ q → Path t ns l slots q.letters q.number
 path_on t ns l p {slots = slots} depth good d v path m e = path_next t ns l slots good depth p.letters p.number path d v m e

@@ -10,7 +10,7 @@ ghost use Rattle.rules.specs.Calls.{leg_rule};
 ghost use Rattle.rules.specs.Told.{fine, told_leg};
 
 use matching::made::Spot;
-use matching::tables;
+use matching::{WORDS, tables};
 use rules::{Leg, Search, SequenceSet, Sequences};
 
 // A leg of a search, as `search::leg` promises it, of which 13 alone is left to check. The tables that it works in are its own, and
@@ -32,12 +32,12 @@ pub fn leg(
     let mut inside = [Spot::FIRST; matching::LETTERS];
     let mut firsts = [0u32; matching::FIRSTS];
     let mut offsets = [0u32; matching::OFFSETS];
-    let mut standing = [0u64; matching::STANDING];
-    let mut slots = [0u64; matching::SLOTS];
-    let mut work = [0u64; matching::WORDS];
-    let mut spare = [0u64; matching::WORDS];
+    let mut standing = [[0u64; WORDS]; matching::STANDING];
+    let mut slots = [[0u64; WORDS]; matching::SLOTS];
+    let mut work = [0u64; WORDS];
+    let mut spare = [0u64; WORDS];
     let mut ways = [0u64; SequenceSet::LETTERS];
-    let made = tables::make(
+    let weighing = tables::make(
         search,
         set,
         &mut inside,
@@ -47,10 +47,11 @@ pub fn leg(
         &mut slots,
         &mut work,
     );
-    match places::check_passes(&made, &mut slots, &mut spare) {
+    match places::check_passes(&weighing.made, &mut slots, &mut spare) {
         Err(why) => Leg::refused(search, why),
         Ok(()) => run::run(
-            &made, budget, motifs, supports, weights, &mut slots, &mut work, &mut spare, &mut ways,
+            &weighing, budget, motifs, supports, weights, &mut slots, &mut work, &mut spare,
+            &mut ways,
         ),
     }
 }

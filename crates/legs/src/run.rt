@@ -16,7 +16,7 @@ ghost use Rattle.matching.specs.Weights.{prefix_of, Counted};
 ghost use Rattle.legs.specs.AcceptedLeg.{room_of, told_of};
 
 use super::step;
-use matching::made::Made;
+use matching::made::Weighing;
 use matching::{SLOTS, WORDS, path, weights};
 use rules::{Leg, Place, Search, Stop, Template};
 
@@ -47,7 +47,7 @@ fn last_letters(template: Template) -> u32
 // It answers how many rows there are then.
 fn list(
     hit: bool,
-    made: &Made,
+    weighing: &Weighing,
     motif: u64,
     prefix: u64,
     counted: Option<u64>,
@@ -56,26 +56,26 @@ fn list(
     motifs: &mut [u64],
     supports: &mut [u32],
     weights: &mut [u64],
-    slots: &[u64; SLOTS],
+    slots: &[[u64; WORDS]; SLOTS],
     work: &[u64; WORDS],
     spare: &mut [u64; WORDS],
     ways: &mut [u64],
 ) -> usize
-    requires letters_in_bounds { length made.now.plan.letters.now ≤ length ways.old }
+    requires letters_in_bounds { length weighing.now.made.plan.letters.now ≤ length ways.old }
     requires rows_in_bounds { hit ≡ true → (rows < length motifs.old) × (rows < length supports.old) × (rows < length weights.old) }
-    requires motif_bound { hit ≡ true → (motif < base_of made.now.plan.search.template ^ made.now.plan.depth) × (prefix ≡ prefix_of made.now.plan.search.template motif) }
-    requires path { hit ≡ true → Path made.now.plan.search.template made.now.plan.layout.lengths.now made.now.plan.letters.now slots.now made.now.plan.depth motif }
-    requires row { hit ≡ true → Row (prefix_starts made.now.plan.search.template made.now.plan.depth motif) made.now.plan.layout.lengths.now made.now.plan.letters.now work.now }
-    requires counted { Counted made.now.plan.search.template made.now.plan.layout.lengths.now made.now.plan.letters.now counted ways.old }
+    requires motif_bound { hit ≡ true → (motif < base_of weighing.now.made.plan.search.template ^ weighing.now.made.plan.depth) × (prefix ≡ prefix_of weighing.now.made.plan.search.template motif) }
+    requires path { hit ≡ true → Path weighing.now.made.plan.search.template weighing.now.made.plan.layout.lengths.now weighing.now.made.plan.letters.now slots.now weighing.now.made.plan.depth motif }
+    requires row { hit ≡ true → Row (prefix_starts weighing.now.made.plan.search.template weighing.now.made.plan.depth motif) weighing.now.made.plan.layout.lengths.now weighing.now.made.plan.letters.now work.now }
+    requires counted { Counted weighing.now.made.plan.search.template weighing.now.made.plan.layout.lengths.now weighing.now.made.plan.letters.now counted ways.old }
     ensures value { result ≡ if hit (rows + 1) rows }
     ensures motifs_after { motifs.new ≡ if hit (set motifs.old rows motif) motifs.old }
     ensures supports_after { supports.new ≡ if hit (set supports.old rows found) supports.old }
-    ensures weights_after { weights.new ≡ if hit (set weights.old rows (weight (parts made.now.plan.search.template (templates.size made.now.plan.search.template) motif) (sequences made.now.plan.letters.now made.now.plan.layout.lengths.now))) weights.old }
-    ensures counted_2 { Counted made.now.plan.search.template made.now.plan.layout.lengths.now made.now.plan.letters.now (if hit (Some prefix) counted) ways.new }
+    ensures weights_after { weights.new ≡ if hit (set weights.old rows (weight (parts weighing.now.made.plan.search.template (templates.size weighing.now.made.plan.search.template) motif) (sequences weighing.now.made.plan.letters.now weighing.now.made.plan.layout.lengths.now))) weights.old }
+    ensures counted_2 { Counted weighing.now.made.plan.search.template weighing.now.made.plan.layout.lengths.now weighing.now.made.plan.letters.now (if hit (Some prefix) counted) ways.new }
     ensures ways_len_unchanged { length ways.new ≡ length ways.old }
 {
     if hit {
-        let weight = weights::weight(made, motif, prefix, counted, slots, work, spare, ways);
+        let weight = weights::weight(weighing, motif, prefix, counted, slots, work, spare, ways);
         motifs[rows] = motif;
         supports[rows] = found;
         weights[rows] = weight;
@@ -89,25 +89,25 @@ fn list(
 // motif and the tables full, full, and it is not counted. Otherwise a step, with a row if the candidate is a motif. The slots have the path
 // of the search's place; they and the tables after them are for the work.
 pub fn run(
-    made: &Made,
+    weighing: &Weighing,
     budget: u64,
     motifs: &mut [u64],
     supports: &mut [u32],
     weights: &mut [u64],
-    slots: &mut [u64; SLOTS],
+    slots: &mut [[u64; WORDS]; SLOTS],
     work: &mut [u64; WORDS],
     spare: &mut [u64; WORDS],
     ways: &mut [u64],
 ) -> Leg
-    requires s_value { first (search_checks made.now.plan.letters.now made.now.plan.layout.lengths.now made.now.plan.search) ≡ fine }
+    requires s_value { first (search_checks weighing.now.made.plan.letters.now weighing.now.made.plan.layout.lengths.now weighing.now.made.plan.search) ≡ fine }
     requires in_bounds { sequence_set_letters ≤ length ways.old }
-    requires path { 1 ≤ made.now.plan.search.place.letters → Path made.now.plan.search.template made.now.plan.layout.lengths.now made.now.plan.letters.now slots.old made.now.plan.search.place.letters made.now.plan.search.place.number }
-    ensures result_value { told_leg result ≡ told_of made.now.plan.search (stretch made.now.plan.letters.now made.now.plan.layout.lengths.now made.now.plan.search budget (room_of motifs.old supports.old weights.old)) }
-    ensures motifs_after { motifs.new ≡ put (stretch made.now.plan.letters.now made.now.plan.layout.lengths.now made.now.plan.search budget (room_of motifs.old supports.old weights.old)).motifs motifs.old }
-    ensures supports_after { supports.new ≡ put (supports_of made.now.plan.letters.now made.now.plan.layout.lengths.now made.now.plan.search (stretch made.now.plan.letters.now made.now.plan.layout.lengths.now made.now.plan.search budget (room_of motifs.old supports.old weights.old)).motifs) supports.old }
-    ensures weights_after { weights.new ≡ put (weights_of made.now.plan.letters.now made.now.plan.layout.lengths.now made.now.plan.search (stretch made.now.plan.letters.now made.now.plan.layout.lengths.now made.now.plan.search budget (room_of motifs.old supports.old weights.old)).motifs) weights.old }
+    requires path { 1 ≤ weighing.now.made.plan.search.place.letters → Path weighing.now.made.plan.search.template weighing.now.made.plan.layout.lengths.now weighing.now.made.plan.letters.now slots.old weighing.now.made.plan.search.place.letters weighing.now.made.plan.search.place.number }
+    ensures result_value { told_leg result ≡ told_of weighing.now.made.plan.search (stretch weighing.now.made.plan.letters.now weighing.now.made.plan.layout.lengths.now weighing.now.made.plan.search budget (room_of motifs.old supports.old weights.old)) }
+    ensures motifs_after { motifs.new ≡ put (stretch weighing.now.made.plan.letters.now weighing.now.made.plan.layout.lengths.now weighing.now.made.plan.search budget (room_of motifs.old supports.old weights.old)).motifs motifs.old }
+    ensures supports_after { supports.new ≡ put (supports_of weighing.now.made.plan.letters.now weighing.now.made.plan.layout.lengths.now weighing.now.made.plan.search (stretch weighing.now.made.plan.letters.now weighing.now.made.plan.layout.lengths.now weighing.now.made.plan.search budget (room_of motifs.old supports.old weights.old)).motifs) supports.old }
+    ensures weights_after { weights.new ≡ put (weights_of weighing.now.made.plan.letters.now weighing.now.made.plan.layout.lengths.now weighing.now.made.plan.search (stretch weighing.now.made.plan.letters.now weighing.now.made.plan.layout.lengths.now weighing.now.made.plan.search budget (room_of motifs.old supports.old weights.old)).motifs) weights.old }
 {
-    let plan = made.plan;
+    let plan = weighing.made.plan;
     let s = plan.search;
     let quorum = s.quorum;
     let room = motifs.len().min(supports.len()).min(weights.len());
@@ -121,7 +121,7 @@ pub fn run(
         if steps == budget {
             return stopped(Stop::Spent, steps, rows, s, place);
         }
-        let found = path::examine(made, place, quorum as u32, slots, work, spare);
+        let found = path::examine(&weighing.made, place, quorum as u32, slots, work, spare);
         let frequent = quorum <= found as u64;
         let hit = (place.letters == plan.depth) & frequent;
         if hit & (rows == room) {
@@ -130,8 +130,8 @@ pub fn run(
         let motif = place.number;
         let prefix = profile.prefix(motif, last);
         rows = list(
-            hit, made, motif, prefix, counted, found, rows, motifs, supports, weights, slots, work,
-            spare, ways,
+            hit, weighing, motif, prefix, counted, found, rows, motifs, supports, weights, slots,
+            work, spare, ways,
         );
         counted = if hit { Some(prefix) } else { counted };
         steps += 1;

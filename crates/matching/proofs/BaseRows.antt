@@ -8,7 +8,9 @@ use native.Mathlib.Omega.{arith}
 use lib.Dec.{eqb}
 use lib.ListN.{length, take, drop, get_or, set, length-take, length-drop}
 use lib.Seq.{get_or-take, get_or-drop, take-set-le}
-use borrow.Rule.Slice.PartMut.{mid_of, put_mid, mid_len}
+use Rattle.std.specs.Prelude.{◌≢◌}
+use Rattle.std.proofs.lemmas.List.{length-set, get_or-set_same, get_or-set_other}
+use borrow.Rule.Slice.PartMut.{mid_len}
 use Rattle.rules.proofs.Bytes.{stands_bytes}
 use Rattle.rules.proofs.Tables.{map_same, map_take, map_drop}
 use Rattle.rules.specs.Letters.{letter, is_letter, value}
@@ -23,9 +25,8 @@ use Rattle.rows.specs.Set.{row_words, words_of, first_word, between, shifted_at,
 use Rattle.rows.specs.declared.words.Bases.{Bases}
 use Rattle.rows.proofs.Lettered.{Made, made_more, made_all}
 use Rattle.rows.proofs.Offsets.{offset_of, lettered_turn}
-use Rattle.rows.proofs.Sets.{between_set, between_set_past, between_set_before}
+use Rattle.rows.proofs.Sets.{between_set}
 use Rattle.rows.proofs.Sets.{filled_turn}
-use Rattle.matching.proofs.Slots.{slot_written, row_slot_long}
 
 -- ONE LETTER
 letter_bytes : (x : ℕ) → x < 4 → (s : List ℕ) (p : ℕ) → letter_at eqb (letter x) s p ≡ letter_at eqb x (map value s) p
@@ -52,65 +53,53 @@ pub at_bytes : (ns l : List ℕ) (x : ℕ) → x < 4 → (k : ℕ) → lettered_
 unfolding lettered_at
 at_bytes ns l x h k = rw (split_values ns l k) (lettered_bytes x h (get_or (split ns l) k []) (64 * words_of (get_or ns k 0)))
 
--- A part of a slot is as long as it should be
-between_long : (a e x : ℕ) (standing : List ℕ) → e ≤ row_words → x * row_words + row_words ≤ length standing
-    → length (between a e (row_slot x standing)) ≡ e - a
+-- A part of a row is as long as it should be
+between_long : (a e : ℕ) (row : List ℕ) → e ≤ row_words → length row ≡ row_words → length (between a e row) ≡ e - a
 unfolding between
-between_long a e x standing m h = let n = row_slot_long x standing h in mid_len a e (row_slot x standing) (omega arith)
+between_long a e row m n = mid_len a e row (omega arith)
 
--- A SLOT, written by a callee
-pub slot_filled : (s : ℕ) (g : ℕ → List ℕ) (ns standing : List ℕ) → s * row_words + row_words ≤ length standing → (ys : List ℕ)
-    → length ys ≡ length (mid_of (s * row_words) (s * row_words + row_words - s * row_words) standing)
-    → Filled (λ _. true) g ns ys (length ns)
-    → (let out = put_mid (s * row_words) (s * row_words + row_words - s * row_words) standing ys in
-    ((take (s * row_words) out ≡ take (s * row_words) standing) × (length out ≡ length standing))
-    × Filled (λ _. true) g ns (row_slot s out) (length ns))
-slot_filled s g ns standing h ys n f = let r = slot_written s standing h ys n in ((r.0, r.1), rw r.2 f)
+-- A WORD WRITTEN in the row of each letter
+abbrev put_word : ℕ → ℕ → ℕ → List (List ℕ) → List (List ℕ)
+put_word y q v rows = set rows y (set (row_slot y rows) q v)
 
-pub slot_copied : (s : ℕ) (standing : List ℕ) → s * row_words + row_words ≤ length standing → {ys row : List ℕ} → ys ≡ row → length row ≡ row_words
-    → (let out = put_mid (s * row_words) (s * row_words + row_words - s * row_words) standing ys in
-    (take (s * row_words) out ≡ take (s * row_words) standing) × (length out ≡ length standing) × (row_slot s out ≡ row))
-slot_copied s standing h {ys} e n =
-    let r = slot_written s standing h ys (omega (arith, ap length e, mid_len (s * 2072) (s * 2072 + 2072) standing h)) in
-    (r.0, r.1, r.2 ∙ e)
+word_here : (y q v : ℕ) (rows : List (List ℕ)) → y < length rows → row_slot y (put_word y q v rows) ≡ set (row_slot y rows) q v
+word_here y q v rows h = get_or-set_same rows y (set (row_slot y rows) q v) [] h
 
--- THE SLOTS FOR THE FIRST PLACE. A word written in slot y, and what it makes of slot x
-module _ (q : ℕ) (h : q < row_words) (l : List ℕ) where
-  slot_set : (x v : ℕ) {i : ℕ} → i ≡ x * row_words + q → row_slot x (set l i v) ≡ set (row_slot x l) q v
-  unfolding row_slot
-  slot_set x v e = rw e (between_set (x * 2072) (x * 2072 + 2072) q v l (omega arith))
+word_there : (x y q v : ℕ) (rows : List (List ℕ)) → x ≢ y → row_slot x (put_word y q v rows) ≡ row_slot x rows
+word_there x y q v rows h = get_or-set_other rows y x (set (row_slot y rows) q v) [] h
 
-  slot_before : (x y v : ℕ) {i : ℕ} → i ≡ y * row_words + q → y < x → row_slot x (set l i v) ≡ row_slot x l
-  unfolding row_slot
-  slot_before x y v {i} e o = between_set_before (x * 2072) (x * 2072 + 2072) i v l (omega arith)
+put_long : (y q v : ℕ) (rows : List (List ℕ)) → 4 ≤ length rows → 4 ≤ length (put_word y q v rows)
+put_long y q v rows h = rw (length-set rows y (set (row_slot y rows) q v)) h
 
-  slot_past : (x y v : ℕ) {i : ℕ} → i ≡ y * row_words + q → x < y → row_slot x (set l i v) ≡ row_slot x l
-  unfolding row_slot
-  slot_past x y v {i} e o = between_set_past (x * 2072) (x * 2072 + 2072) i v l (omega arith) (omega arith)
+module _ (q : ℕ) (w : Bases) (rows : List (List ℕ)) (long : 4 ≤ length rows) where
+  abbrev with_a : List (List ℕ)
+  with_a = put_word 0 q w.a rows
 
--- a word in each
-module _ (q : ℕ) (h : q < row_words) (w : Bases) (l : List ℕ) where
-  abbrev put : List ℕ
-  put = set (set (set (set l q w.a) (row_words + q) w.c) (2 * row_words + q) w.g) (3 * row_words + q) w.t
+  abbrev with_c : List (List ℕ)
+  with_c = put_word 1 q w.c with_a
 
-  pub slots_put : (x : ℕ) → x < 4 → row_slot x put ≡ set (row_slot x l) q (word_of w x)
+  abbrev with_g : List (List ℕ)
+  with_g = put_word 2 q w.g with_c
+
+  long_c : 4 ≤ length with_c
+  long_c = put_long 1 q w.c with_a (put_long 0 q w.a rows long)
+
+  pub words_put : (x : ℕ) → x < 4 → row_slot x (put_word 3 q w.t with_g) ≡ set (row_slot x rows) q (word_of w x)
   unfolding word_of
-  slots_put zero o =
-      slot_past q h _ 0 3 w.t refl (omega arith) ∙ slot_past q h _ 0 2 w.g refl (omega arith)
-      ∙ slot_past q h _ 0 1 w.c (omega arith) (omega arith) ∙ slot_set q h l 0 w.a (omega arith)
-  slots_put (suc zero) o =
-      slot_past q h _ 1 3 w.t refl (omega arith) ∙ slot_past q h _ 1 2 w.g refl (omega arith) ∙ slot_set q h _ 1 w.c (omega arith)
-      ∙ ap (λ (r : List ℕ). set r q w.c) (slot_before q h l 1 0 w.a (omega arith) (omega arith))
-  slots_put (suc (suc zero)) o =
-      slot_past q h _ 2 3 w.t refl (omega arith) ∙ slot_set q h _ 2 w.g refl
-      ∙ ap (λ (r : List ℕ). set r q w.g)
-      (slot_before q h _ 2 1 w.c (omega arith) (omega arith) ∙ slot_before q h l 2 0 w.a (omega arith) (omega arith))
-  slots_put (suc (suc (suc zero))) o =
-      slot_set q h _ 3 w.t refl
+  words_put zero o =
+      word_there 0 3 q w.t with_g (omega arith) ∙ word_there 0 2 q w.g with_c (omega arith) ∙ word_there 0 1 q w.c with_a (omega arith)
+      ∙ word_here 0 q w.a rows (omega arith)
+  words_put (suc zero) o =
+      word_there 1 3 q w.t with_g (omega arith) ∙ word_there 1 2 q w.g with_c (omega arith) ∙ word_here 1 q w.c with_a (omega (arith, put_long 0 q w.a rows long))
+      ∙ ap (λ (r : List ℕ). set r q w.c) (word_there 1 0 q w.a rows (omega arith))
+  words_put (suc (suc zero)) o =
+      word_there 2 3 q w.t with_g (omega arith) ∙ word_here 2 q w.g with_c (omega (arith, long_c))
+      ∙ ap (λ (r : List ℕ). set r q w.g) (word_there 2 1 q w.c with_a (omega arith) ∙ word_there 2 0 q w.a rows (omega arith))
+  words_put (suc (suc (suc zero))) o =
+      word_here 3 q w.t with_g (omega (arith, put_long 2 q w.g with_c long_c))
       ∙ ap (λ (r : List ℕ). set r q w.t)
-      (slot_before q h _ 3 2 w.g refl (omega arith) ∙ slot_before q h _ 3 1 w.c (omega arith) (omega arith)
-      ∙ slot_before q h l 3 0 w.a (omega arith) (omega arith))
-  slots_put (suc (suc (suc (suc x)))) o = absurd (omega arith)
+      (word_there 3 2 q w.g with_c (omega arith) ∙ word_there 3 1 q w.c with_a (omega arith) ∙ word_there 3 0 q w.a rows (omega arith))
+  words_put (suc (suc (suc (suc x)))) o = absurd (omega arith)
 
 -- a part of letters is of letters
 pub spelt_part : (l : List ℕ) → ((i : ℕ) → i < length l → is_letter (get_or l i 0) ≡ true) → (a e i : ℕ)
@@ -120,18 +109,20 @@ spelt_part l spelt a e i h =
     ap is_letter (get_or-take (e - a) (drop a l) i 0 (omega arith) ∙ get_or-drop a l i 0) ∙ spelt (a + i) (omega arith)
 
 -- ONE SEQUENCE s, whose words are those from a up to e: of each letter's row the first q of them are made
-module _ (a e : ℕ) (s old : List ℕ) where
-  pub record Begun (q : ℕ) (standing : List ℕ) : Type 0 where
+module _ (a e : ℕ) (s : List ℕ) (old : List (List ℕ)) where
+  pub record Begun (q : ℕ) (standing : List (List ℕ)) : Type 0 where
+    pub long : (x : ℕ) → x < 4 → length (row_slot x standing) ≡ row_words
     pub kept : (x : ℕ) → x < 4 → take a (row_slot x standing) ≡ take a (row_slot x old)
     pub made : (x : ℕ) → x < 4 → Made eqb (letter x) s q (between a e (row_slot x standing))
 
   -- a turn makes a word in each
-  pub begun_more : (q to : ℕ) (standing standing' : List ℕ) (w : Bases) → to ≡ min (64 * q + 64) (length s)
-      → a + q < e → e ≤ row_words → 4 * row_words ≤ length standing
+  pub begun_more : (q to : ℕ) (standing standing' : List (List ℕ)) (w : Bases) → to ≡ min (64 * q + 64) (length s)
+      → a + q < e → e ≤ row_words
       → ((x : ℕ) → x < 4 → held (word_of w x ∷ []) ≡ lettered eqb (letter x) (take (to - 64 * q) (drop (64 * q) s)) 64)
       → ((x : ℕ) → x < 4 → row_slot x standing' ≡ set (row_slot x standing) (a + q) (word_of w x))
       → Begun q standing → Begun (q + 1) standing'
-  begun_more q to standing standing' w ends h m long words put before = record {
+  begun_more q to standing standing' w ends h m words put before = record {
+    long = λ x o. ap length (put x o) ∙ length-set (row_slot x standing) (a + q) (word_of w x) ∙ before.long x o;
     kept = λ x o. ap (take a) (put x o) ∙ take-set-le a (row_slot x standing) (a + q) (word_of w x) (omega arith) ∙ before.kept x o;
     made = λ x o.
         let e' : between a e (row_slot x standing') ≡ set (between a e (row_slot x standing)) q (word_of w x) =
@@ -142,22 +133,22 @@ module _ (a e : ℕ) (s old : List ℕ) where
   }
     where
       inside : (x : ℕ) → x < 4 → q < length (between a e (row_slot x standing))
-      inside x o = omega (arith, between_long a e x standing m (omega arith))
+      inside x o = omega (arith, between_long a e (row_slot x standing) m (before.long x o))
 
-  pub begun_all : (q : ℕ) (standing : List ℕ) → a ≤ e → q ≡ e - a → e ≤ row_words → 4 * row_words ≤ length standing → Begun q standing
+  pub begun_all : (q : ℕ) (standing : List (List ℕ)) → a ≤ e → q ≡ e - a → e ≤ row_words → Begun q standing
       → (x : ℕ) → x < 4 → held (between a e (row_slot x standing)) ≡ lettered eqb (letter x) s (64 * (e - a))
-  begun_all q standing h z m long all x o =
-      made_all eqb (letter x) s q (e - a) (between a e (row_slot x standing)) (between_long a e x standing m (omega arith)) z
+  begun_all q standing h z m all x o =
+      made_all eqb (letter x) s q (e - a) (between a e (row_slot x standing)) (between_long a e (row_slot x standing) m (all.long x o)) z
       (all.made x o)
 
 -- ALL SEQUENCES: those of the first n are in each letter's row
-pub record Whole (ns l : List ℕ) (n : ℕ) (standing : List ℕ) : Type 0 where
+pub record Whole (ns l : List ℕ) (n : ℕ) (standing : List (List ℕ)) : Type 0 where
   pub rows : (x : ℕ) → x < 4 → Filled (λ _. true) (lettered_at eqb (letter x) ns l) ns (row_slot x standing) n
 
 pub whole_more : (ns l : List ℕ) (k : ℕ) → k < length ns → {a e from to : ℕ}
     → a ≡ offset_of ns k → e ≡ offset_of ns (k + 1) → from ≡ first_word ns k → to ≡ first_word ns (k + 1)
     → {s : List ℕ} → s ≡ take (e - a) (drop a l)
-    → (standing standing' : List ℕ) → ((x : ℕ) → x < 4 → take from (row_slot x standing') ≡ take from (row_slot x standing))
+    → (standing standing' : List (List ℕ)) → ((x : ℕ) → x < 4 → take from (row_slot x standing') ≡ take from (row_slot x standing))
     → ((x : ℕ) → x < 4 → held (between from to (row_slot x standing')) ≡ lettered eqb (letter x) s (64 * (to - from)))
     → Whole ns l k standing → Whole ns l (k + 1) standing'
 unfolding between

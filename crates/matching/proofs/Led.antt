@@ -119,7 +119,7 @@ module _ (t : Template) (m : ℕ) where
   number_less a b = div-div-eq-div-mul m (base_of t ^ a) (base_of t ^ b) ∙ ap (λ (x : ℕ). m / x) (sym (pow-add (base_of t) a b))
 
   -- its path
-  pub prefix_path : (ns l slots : List ℕ) (j i : ℕ) → Path t ns l slots j m → i ≤ j → Path t ns l slots i (m / base_of t ^ (j - i))
+  pub prefix_path : (ns l : List ℕ) (slots : List (List ℕ)) (j i : ℕ) → Path t ns l slots j m → i ≤ j → Path t ns l slots i (m / base_of t ^ (j - i))
   prefix_path ns l slots j i p h =
       shortened t ns l slots j m i (m / base_of t ^ (j - i)) p h
       (λ q u. number_less (j - i) (i - q) ∙ ap (λ (x : ℕ). m / base_of t ^ x) (omega arith))

@@ -15,7 +15,7 @@ use Rattle.rules.specs.declared.Profile as declared
 use Rattle.rules.specs.declared.Profile.TheVariants.{Exact, Mixed}
 use Rattle.rules.specs.declared.Template.{Template}
 use Rattle.rows.specs.Rows.{ahead}
-use Rattle.rows.specs.Set.{row_words, bits_at, lettered_at, lettered_on, Filled}
+use Rattle.rows.specs.Set.{bits_at, lettered_at, lettered_on, Filled}
 use Rattle.rows.proofs.Shifted.{ahead_none, lettered_first}
 use Rattle.matching.specs.declared.made.Spot.{Spot}
 use Rattle.matching.specs.Path.{spot, row_slot, kept_places, Inside, BaseRows, FromBases, Letters, Tests, TestsLast}
@@ -24,29 +24,29 @@ use Rattle.matching.proofs.Fits.{stood_row}
 use Rattle.matching.proofs.Slots.{some_base}
 
 -- THE SLOT of letter x for place i stands in the table
-slot_inside : (t : Template) (standing : List ℕ) (x i : ℕ) → x < base_of t → i < kept_places t standing → (i * base_of t + x) * row_words + row_words ≤ length standing
+slot_inside : (t : Template) (standing : List (List ℕ)) (x i : ℕ) → x < base_of t → i < kept_places t standing → i * base_of t + x < length standing
 unfolding profile_by exactly mixed
 slot_inside t standing x i = go t.profile
   where
-    go : (p : declared.Profile) → x < (profile_by p).base → i < length standing / ((profile_by p).base * row_words) → (i * (profile_by p).base + x) * row_words + row_words ≤ length standing
+    go : (p : declared.Profile) → x < (profile_by p).base → i < length standing / (profile_by p).base → i * (profile_by p).base + x < length standing
     go Exact h u = omega arith
     go Mixed h u = omega arith
 
 -- and the rows are kept for one place at least
-kept_some : (t : Template) (standing : List ℕ) → base_of t * row_words ≤ length standing → 0 < kept_places t standing
+kept_some : (t : Template) (standing : List (List ℕ)) → base_of t ≤ length standing → 0 < kept_places t standing
 unfolding profile_by exactly mixed
 kept_some t standing = go t.profile
   where
-    go : (p : declared.Profile) → (profile_by p).base * row_words ≤ length standing → 0 < length standing / ((profile_by p).base * row_words)
+    go : (p : declared.Profile) → (profile_by p).base ≤ length standing → 0 < length standing / (profile_by p).base
     go Exact h = omega arith
     go Mixed h = omega arith
 
 -- place i is among them where the table has room for its rows
-pub kept_there : (t : Template) (standing : List ℕ) (i : ℕ) {b : ℕ} → b ≡ base_of t → (i + 1) * b * row_words ≤ length standing → i < kept_places t standing
+pub kept_there : (t : Template) (standing : List (List ℕ)) (i : ℕ) {b : ℕ} → b ≡ base_of t → (i + 1) * b ≤ length standing → i < kept_places t standing
 unfolding profile_by exactly mixed
 kept_there t standing i e h = go t.profile (rw e at h)
   where
-    go : (p : declared.Profile) → (i + 1) * (profile_by p).base * row_words ≤ length standing → i < length standing / ((profile_by p).base * row_words)
+    go : (p : declared.Profile) → (i + 1) * (profile_by p).base ≤ length standing → i < length standing / (profile_by p).base
     go Exact u = omega arith
     go Mixed u = omega arith
 
@@ -57,11 +57,11 @@ module _ (t : Template) (ns l : List ℕ) (x : ℕ) where
   own_tests i row q = record { same = λ k h. ap (ahead i) (q.same k h refl) }
 
   -- made from the rows of the four letters
-  made_tests : (bases row : List ℕ) → SoundSet l ns → BaseRows ns l bases → x < base_of t → FromBases bases x row → (i : ℕ) → Tests t ns l x i row i
+  made_tests : (bases : List (List ℕ)) (row : List ℕ) → SoundSet l ns → BaseRows ns l bases → x < base_of t → FromBases bases x row → (i : ℕ) → Tests t ns l x i row i
   made_tests bases row set is small q i = own_tests i row (stood_row t ns l x small row (q ns l set is))
 
   -- THE TABLE of a leg
-  module _ (standing : List ℕ) (letters : Letters t ns l standing) (small : x < base_of t) where
+  module _ (standing : List (List ℕ)) (letters : Letters t ns l standing) (small : x < base_of t) where
     near_tests : (i : ℕ) → i < kept_places t standing → Tests t ns l x i (row_slot (i * base_of t + x) standing) 0
     near_tests i u = record { same = λ k h. ahead_none (bits_at ns k (row_slot (i * base_of t + x) standing)) ∙ (letters.rows x i small u).same k h refl }
 
@@ -86,13 +86,13 @@ module _ (t : Template) (sound : SoundTemplate t) (inside : List Spot) (placed :
   last_tests : (ns l letter : List ℕ) (by : ℕ) → Tests t ns l last place letter by → TestsLast t ns l j m letter by
   last_tests ns l letter by q k i a = rw (inside_letter t inside placed (j - 1) k i a) at q
 
-  pub made_last : (ns l bases row : List ℕ) → SoundSet l ns → BaseRows ns l bases → FromBases bases last row → TestsLast t ns l j m row place
+  pub made_last : (ns l : List ℕ) (bases : List (List ℕ)) (row : List ℕ) → SoundSet l ns → BaseRows ns l bases → FromBases bases last row → TestsLast t ns l j m row place
   made_last ns l bases row set is q = last_tests ns l row place (made_tests t ns l last bases row set is last_small q place)
 
-  module _ (standing : List ℕ) where
+  module _ (standing : List (List ℕ)) where
     -- shifted already
     module _ (u : place < kept_places t standing) {x b : ℕ} (e : x ≡ last) (f : b ≡ base_of t) where
-      pub near_inside : (place * b + x) * row_words + row_words ≤ length standing
+      pub near_inside : place * b + x < length standing
       near_inside = rw (e, f) (slot_inside t standing last place last_small u)
 
       pub near_last : (ns l : List ℕ) → Letters t ns l standing → TestsLast t ns l j m (row_slot (place * b + x) standing) 0

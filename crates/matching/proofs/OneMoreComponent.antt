@@ -92,7 +92,7 @@ module _ {t : Template} {depth : ℕ} {cs : List Component} {c n : ℕ} (turn : 
   next_deep = omega (arith, next_letters, letters_size t turn.sound c)
 
   -- the path to the prefix
-  pub next_path : (m : ℕ) {p : ℕ} → p ≡ m / base_of t ^ (depth - next) → (ns l slots : List ℕ) → Path t ns l slots depth m → Path t ns l slots next p
+  pub next_path : (m : ℕ) {p : ℕ} → p ≡ m / base_of t ^ (depth - next) → (ns l : List ℕ) (slots : List (List ℕ)) → Path t ns l slots depth m → Path t ns l slots next p
   next_path m e ns l slots p = rw e (prefix_path t m ns l slots depth next p next_deep)
 
   -- whose slot is among the others
@@ -141,7 +141,7 @@ module _ {t : Template} {depth : ℕ} {cs : List Component} {c n : ℕ} (turn : 
       wide = ap (λ x. x.count) same
 
       -- where the prefix's slot has no bit there is none
-      pub next_dark : (slots : List ℕ) → Path t ns l slots depth m → (k : ℕ) → k < length ns → is_marked row k ≡ true
+      pub next_dark : (slots : List (List ℕ)) → Path t ns l slots depth m → (k : ℕ) → k < length ns → is_marked row k ≡ true
           → (i : ℕ) → get_or (bits_at ns k (row_slot next slots)) i 0 ≡ 0 → get_or (added d (d + w - 1) (begun_counts first ns row counts k)) i 0 ≡ 0
       next_dark slots path =
           let z : suc (c - 1) ≡ c = omega arith in

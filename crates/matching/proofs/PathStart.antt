@@ -1,22 +1,21 @@
 -- Where a path begins: every sequence has a mark, and every bit of its words is set, so the first letter may come anywhere.
 use mathlib.Core.Bool.{false, false≢true}
-use mathlib.Core.List.{List, ◌++◌}
+use mathlib.Core.List.{List}
 use mathlib.Core.Path.{◌≡◌, refl, sym, ap, ◌∙◌}
 use Prim.Native.Nat.{ℕ, suc, ◌+◌, ◌-◌, ◌*◌, ◌/◌, ◌%◌, ◌^◌, ◌≤◌, ◌<◌}
 use native.Mathlib.Decide.{dec_lt}
 use native.Mathlib.Nat.{pow-suc}
 use native.Mathlib.Omega.{arith}
 use lib.Dec.{ltb}
-use lib.ListN.{length, take, drop, get_or, replicate, get_or-replicate}
+use lib.ListN.{length, get_or, replicate, get_or-replicate}
 use lib.Pow.{pow_pos, ones_lt, ones_split, high}
-use lib.Seq.{take_at, length-take-le}
 use borrow.Author.Tests.{lt-ltb, le-ltb}
 use Rattle.rules.proofs.Components.{components_length, components_some}
 use Rattle.rules.specs.Sound.{SoundSet, SoundTemplate}
 use Rattle.rules.specs.declared.Template.{Template}
 use Rattle.rows.specs.Bits.{held}
 use Rattle.rows.specs.Flags.{reached}
-use Rattle.matching.specs.Path.{row_slot, before_next, Slot}
+use Rattle.matching.specs.Path.{before_next, Slot}
 use Rattle.rows.specs.NextLetter.{letters_before, before_letter}
 use Rattle.rows.specs.Set.{row_marks, row_words, words_of, first_word, between, bits_at, is_marked, Marked, sequence, Source}
 use Rattle.rows.proofs.Bits.{held_at}
@@ -86,13 +85,3 @@ module _ (l ns : List ℕ) (sound : SoundSet l ns) (row : List ℕ) (marks : Mar
   first_slot t good =
       let n = components_length t good.few in
       slot_at t ns l row 0 0 0 0 (record { there = omega (arith, n, good.some); inside = components_some good 0 (omega (arith, n, good.some)); counted = refl }) (first_source t)
-
--- IN A TABLE it is made of the first words
-module _ (rows : List ℕ) (room : row_words ≤ length rows) where
-  pub slot_long : length (take row_words rows) ≡ row_words
-  slot_long = length-take-le row_words rows room
-
-  module _ (ys : List ℕ) (same : length ys ≡ length (take row_words rows)) where
-    pub slot_is : row_slot 0 (ys ++ drop row_words rows) ≡ ys
-    unfolding row_slot between
-    slot_is = take_at ys (drop row_words rows) 2072 (same ∙ slot_long)

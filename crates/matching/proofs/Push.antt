@@ -1,11 +1,12 @@
 -- A slot more of the path: the row of a prefix, or that row with the gap opened, is what the next letter is added to.
-use mathlib.Core.List.{List, ◌++◌}
-use mathlib.Core.Path.{◌≡◌, refl, sym, ap, ◌∙◌}
+use mathlib.Core.List.{List, [], ◌++◌}
+use mathlib.Core.Path.{◌≡◌, refl, sym, ◌∙◌}
 use Prim.Native.Nat.{ℕ, zero, suc, ◌+◌, ◌-◌, ◌*◌, ◌/◌, ◌≤◌, ◌<◌}
 use native.Mathlib.Omega.{arith}
-use lib.ListN.{length, take, get_or}
-use lib.Seq.{take-length}
-use Rattle.std.proofs.Common.{take_at, drop_at}
+use lib.ListN.{length, take, get_or, set}
+use lib.Seq.{get_or-take}
+use Rattle.std.proofs.Common.{take_at}
+use Rattle.std.proofs.lemmas.List.{get_or-append_right, get_or-set_same}
 use Rattle.rules.proofs.Components.{components_length}
 use Rattle.rules.specs.Profile.{base_of}
 use Rattle.rules.specs.Sound.{SoundSet, SoundTemplate}
@@ -17,10 +18,10 @@ use Rattle.rows.specs.Flags.{reached}
 use Rattle.matching.specs.declared.made.Spot.{Spot}
 use Rattle.matching.specs.Path.{spot, row_slot, prefix_starts, before_next, gap_near, gap_far, Slot, Path, Inside}
 use Rattle.rows.specs.NextLetter.{letters_before, At, before_letter}
-use Rattle.rows.specs.Set.{between, is_marked, window_at, Filled, Marked, Row}
+use Rattle.rows.specs.Set.{is_marked, window_at, Filled, Marked, Row}
 use Rattle.rows.proofs.ByFlags.{row_source, gap_source, source_same}
 use Rattle.matching.proofs.Extend.{Somewhere, letter_at, inside_letter, inside_component}
-use Rattle.matching.proofs.Slots.{slot_kept, parent, stayed, pushed, slot_at}
+use Rattle.matching.proofs.Slots.{parent, stayed, pushed, slot_at}
 use Rattle.matching.proofs.Steps.{prefix_long}
 
 -- WHICH LETTER COMES NEXT. Past the first letter of all, the first of a component follows another component
@@ -77,28 +78,24 @@ module _ (t : Template) (sound : SoundTemplate t) (j : ℕ) (some : 1 ≤ j) (de
         (gap_source ns l set.adds set.few (prefix_starts t j m) (prefix_long t j m) row is (gap_near t k) (gap_far t k) slot q f)
         (first_is k (component_there z).0))
 
--- THE SLOT IN ITS TABLE, which is cut after the slot before: that slot, and the path once the next one is filled
-module _ (t : Template) (ns l slots : List ℕ) (j m : ℕ) (path : Path t ns l slots j m) (some : 1 ≤ j) (x : List ℕ) (front : x ≡ take ((j - 1) * 2072 + 2072) slots)
-    (long : length x ≡ (j - 1) * 2072 + 2072) where
-  cut : (j - 1) * 2072 + 2072 ≡ j * 2072
-  cut = omega arith
+-- THE SLOT IN ITS TABLE, of which the part before it is cut off: that slot, and the path once the next one is filled
+module _ (t : Template) (ns l : List ℕ) (slots : List (List ℕ)) (j m : ℕ) (path : Path t ns l slots j m) (x : List (List ℕ)) (front : x ≡ take j slots) where
+  pub before_cut : 1 ≤ j → Slot t ns l (row_slot (j - 1) x) (j - 1) (m / base_of t)
+  before_cut some = rw (front, get_or-take j slots (j - 1) [] (omega arith)) (parent t ns l slots j m path some)
 
-  pub before_cut : Slot t ns l (row_slot (j - 1) x) (j - 1) (m / base_of t)
-  before_cut =
-      let left : take (j * 2072) x ≡ take (j * 2072) slots = ap (λ (n : ℕ). take n x) (sym (long ∙ cut)) ∙ take-length x ∙ front ∙ ap (λ (n : ℕ). take n slots) cut in
-      rw (slot_kept j (j - 1) slots x (omega arith) left) (parent t ns l slots j m path some)
+  module _ (z : List (List ℕ)) (s : List ℕ) (long : length x ≡ j) (room : 0 < length z) where
+    abbrev filled : List (List ℕ)
+    filled = x ++ set z 0 s
 
-  module _ (s z : List ℕ) (full : length s ≡ 2072) where
-    pub path_stays : Path t ns l (x ++ (s ++ z)) j m
-    path_stays = stayed t ns l slots (x ++ (s ++ z)) j m path (take_at x (s ++ z) (j * 2072) (long ∙ cut) ∙ front ∙ ap (λ (n : ℕ). take n slots) cut)
+    pub path_stays : Path t ns l filled j m
+    path_stays = stayed t ns l slots filled j m path (take_at x (set z 0 s) j long ∙ front)
 
-    filled_here : row_slot j (x ++ (s ++ z)) ≡ s
-    unfolding row_slot between
+    filled_here : row_slot j filled ≡ s
     filled_here =
-        let n : j * 2072 + 2072 - j * 2072 ≡ 2072 = omega arith in
-        rw (n, drop_at x (s ++ z) (j * 2072) (long ∙ cut)) (take_at s z 2072 full)
+        let e : j - j ≡ 0 = omega arith in
+        get_or-append_right x (set z 0 s) j j [] long (omega arith) ∙ rw e (get_or-set_same z 0 s [] room)
 
-    pub path_goes_on : (whole : Type 0) → (whole → Slot t ns l s j m) → whole → (c : ℕ) → c < base_of t → Path t ns l (x ++ (s ++ z)) (j + 1) (m * base_of t + c)
-    path_goes_on whole is w c h =
+    pub path_goes_on : Slot t ns l s j m → (c : ℕ) → c < base_of t → Path t ns l filled (j + 1) (m * base_of t + c)
+    path_goes_on is c h =
         let e : j + 1 ≡ suc j = omega arith in
-        rw e (pushed t ns l (x ++ (s ++ z)) j m c h path_stays (rw filled_here (is w)))
+        rw e (pushed t ns l filled j m c h path_stays (rw filled_here is))

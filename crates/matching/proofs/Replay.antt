@@ -35,7 +35,7 @@ module _ (t : Template) (j m : ℕ) where
   split : (q : ℕ) {p : ℕ} → q / base_of t ≡ p → p * base_of t + q % base_of t ≡ q
   split q e = rw (← e) (div-add-mod' q (base_of t))
 
-  module _ (ns l slots : List ℕ) where
+  module _ (ns l : List ℕ) (slots : List (List ℕ)) where
     pub replay_begin : 1 ≤ j → m < base_of t ^ j → Slot t ns l (row_slot 0 slots) 0 0 → Path t ns l slots 1 (prefix 1)
     replay_begin some h s =
         let e : prefix 1 % base_of t ≡ prefix 1 = omega (arith, split (prefix 1) (begin_none some h)) in

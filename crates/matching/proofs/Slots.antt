@@ -8,7 +8,6 @@ use native.Mathlib.Nat.{pow-suc, div-div-eq-div-mul, div-one, mul_comm, div-add-
 use native.Mathlib.Omega.{arith}
 use lib.ListN.{length, take, drop, get_or}
 use lib.Seq.{get_or-take, get_or-drop}
-use borrow.Rule.Slice.PartMut.{mid_of, put_mid, mid_len}
 use Rattle.rules.specs.Lists.{if, run, keep, sum}
 use Rattle.rules.specs.Profile.{base_of}
 use Rattle.rules.specs.Template.{components}
@@ -23,7 +22,6 @@ use Rattle.rows.specs.Flags.{reached}
 use Rattle.matching.specs.Path.{row_slot, before_next, Slot, Path}
 use Rattle.rows.specs.NextLetter.{At, letters_before}
 use Rattle.rows.specs.Set.{words_of, first_word, between, Source}
-use Rattle.rows.proofs.Sets.{between_kept, part_written}
 
 -- there are letters
 pub some_base : (t : Template) → 1 ≤ base_of t
@@ -38,19 +36,11 @@ many (n ∷ ns) = omega (arith, many ns)
 pub enough : (l ns : List ℕ) → SoundSet l ns → first_word ns (length ns) ≤ 2072
 enough l ns set = omega (arith, many ns, set.short, set.adds, set.few)
 
--- A SLOT WRITTEN by a callee: it has what was written, and what lies below it is left
-pub slot_written : (s : ℕ) (rows : List ℕ) → s * 2072 + 2072 ≤ length rows → (ys : List ℕ)
-    → length ys ≡ length (mid_of (s * 2072) (s * 2072 + 2072 - s * 2072) rows)
-    → (let out = put_mid (s * 2072) (s * 2072 + 2072 - s * 2072) rows ys in
-    (take (s * 2072) out ≡ take (s * 2072) rows) × (length out ≡ length rows) × (row_slot s out ≡ ys))
-unfolding row_slot
-slot_written s rows h ys n = part_written (s * 2072) (s * 2072 + 2072) rows (omega arith) h ys n
+-- A SLOT WRITTEN leaves those below it
+pub slot_kept : (n k : ℕ) (x y : List (List ℕ)) → k < n → take n y ≡ take n x → row_slot k y ≡ row_slot k x
+slot_kept n k x y h left = sym (get_or-take n y k [] h) ∙ ap (λ (r : List (List ℕ)). get_or r k []) left ∙ get_or-take n x k [] h
 
-pub slot_kept : (n k : ℕ) (x y : List ℕ) → k < n → take (n * 2072) y ≡ take (n * 2072) x → row_slot k y ≡ row_slot k x
-unfolding row_slot
-slot_kept n k x y h left = between_kept (n * 2072) (k * 2072) (k * 2072 + 2072) x y (omega arith) (omega arith) left
-
-module _ (t : Template) (ns l slots : List ℕ) where
+module _ (t : Template) (ns l : List ℕ) (slots : List (List ℕ)) where
   -- what the last letter is added to stands in the slot below
   pub parent : (j m : ℕ) → Path t ns l slots j m → 1 ≤ j → Slot t ns l (row_slot (j - 1) slots) (j - 1) (m / base_of t)
   parent j m p h =
@@ -59,7 +49,7 @@ module _ (t : Template) (ns l slots : List ℕ) where
       record { held = λ k o a. rw z at (p.held_at (j - 1) k o (omega arith) a) }
 
   -- the path stays where its slots do
-  pub stayed : (slots' : List ℕ) (j m : ℕ) → Path t ns l slots j m → take (j * 2072) slots' ≡ take (j * 2072) slots → Path t ns l slots' j m
+  pub stayed : (slots' : List (List ℕ)) (j m : ℕ) → Path t ns l slots j m → take j slots' ≡ take j slots → Path t ns l slots' j m
   stayed slots' j m p left = record { held_at = λ i k o h a. rw (slot_kept j i slots slots' h left) (p.held_at i k o h a) }
 
   above : (m x d : ℕ) → x < base_of t → (m * base_of t + x) / base_of t ^ suc d ≡ m / base_of t ^ d
@@ -99,15 +89,6 @@ pub between_at : (a e : ℕ) (l : List ℕ) (q : ℕ) → q < e - a → get_or (
 unfolding between
 between_at a e l q h = get_or-take (e - a) (drop a l) q 0 h ∙ get_or-drop a l q 0
 
--- a slot is as long as it should be
-pub row_cut : (a : ℕ) (rows : List ℕ) → a + 2072 ≤ length rows → length (between a (a + 2072) rows) ≡ 2072
-unfolding between
-row_cut a rows h = mid_len a (a + 2072) rows h ∙ omega arith
-
-pub row_slot_long : (i : ℕ) (rows : List ℕ) → i * 2072 + 2072 ≤ length rows → length (row_slot i rows) ≡ 2072
-unfolding row_slot
-row_slot_long i rows h = row_cut (i * 2072) rows h
-
 -- WHERE A LETTER STANDS is one place
 pub at_one : (cs : List Component) (j k o k' o' : ℕ) → At cs j k o → At cs j k' o' → (k ≡ k') × (o ≡ o')
 unfolding letters_before
@@ -128,7 +109,7 @@ pub slot_at : (t : Template) (ns l slot : List ℕ) (j m k o : ℕ) → At (comp
 slot_at t ns l slot j m k o at s = record { held = λ k' o' b. let u = at_one (components t) j k o k' o' at b in rw (← u.0, ← u.1) s }
 
 -- THE WAY UP keeps the path: the place after a candidate whose children are not visited has the same letters above its last
-module _ (t : Template) (ns l slots : List ℕ) where
+module _ (t : Template) (ns l : List ℕ) (slots : List (List ℕ)) where
   sibling : (m n i j : ℕ) → n / base_of t ≡ m / base_of t → i < suc j → n / base_of t ^ (suc j - i) ≡ m / base_of t ^ (suc j - i)
   sibling m n i j e u =
       let d : suc j - i ≡ suc (j - i) = omega arith in

@@ -7,6 +7,7 @@ use Prim.Native.Nat.{ℕ, zero, suc, ◌+◌, ◌-◌, ◌*◌, ◌/◌, ◌%◌
 use native.Mathlib.Decide.{dec_lt}
 use native.Mathlib.Nat.{zero-add}
 use native.Mathlib.Omega.{arith}
+use Rattle.std.proofs.lemmas.List.{take-take}
 use lib.Bits.{bit_or}
 use lib.Dec.{eqb}
 use lib.ListN.{length, take, get_or}
@@ -24,12 +25,12 @@ use Rattle.rules.specs.declared.Profile.TheVariants.{Exact, Mixed}
 use Rattle.rules.specs.declared.Template.{Template}
 use Rattle.rows.specs.Flags.{bit}
 use Rattle.rows.specs.Rows.{letter_at, lettered}
-use Rattle.rows.specs.Set.{row_words, words_of, first_word, between, bits_at, shifted_at, lettered_at, lettered_on, Filled}
+use Rattle.rows.specs.Set.{words_of, first_word, between, bits_at, shifted_at, lettered_at, lettered_on, Filled}
 use Rattle.rows.proofs.Bits.{digit_none, getd_held}
 use Rattle.rows.proofs.Digits.{digit, digit_or}
 use Rattle.rows.proofs.Lettered.{made_all}
 use Rattle.rows.proofs.LetterRow.{letter_in, letter_out}
-use Rattle.rows.proofs.Sets.{first_most, take_less}
+use Rattle.rows.proofs.Sets.{first_most}
 use Rattle.rows.proofs.Shifted.{lettered_first, lettered_shifted}
 use Rattle.matching.specs.Path.{row_slot, BaseRows, FromBases, Letters}
 use Rattle.matching.proofs.BaseRows.{split_values, at_bytes}
@@ -39,16 +40,16 @@ use Rattle.matching.proofs.Slots.{enough, between_at, slot_kept}
 -- ---- ONE LETTER'S ROW, word by word
 
 -- word q of it
-unfoldable pub letter_word : ℕ → List ℕ → ℕ → ℕ
+unfoldable pub letter_word : ℕ → List (List ℕ) → ℕ → ℕ
 letter_word x bases q =
     let set = get_or base_sets x 0 in
-    bit_or (bit_or (if (has_base set 0) (get_or bases q 0) 0) (if (has_base set 1) (get_or bases (row_words + q) 0) 0))
-    (bit_or (if (has_base set 2) (get_or bases (2 * row_words + q) 0) 0) (if (has_base set 3) (get_or bases (3 * row_words + q) 0) 0))
+    bit_or (bit_or (if (has_base set 0) (get_or (row_slot 0 bases) q 0) 0) (if (has_base set 1) (get_or (row_slot 1 bases) q 0) 0))
+    (bit_or (if (has_base set 2) (get_or (row_slot 2 bases) q 0) 0) (if (has_base set 3) (get_or (row_slot 3 bases) q 0) 0))
 
-pub letter_word_is : (x : ℕ) (bases : List ℕ) (q : ℕ) {set i j k n : ℕ} {a c g t : Bool} → set ≡ get_or base_sets x 0
+pub letter_word_is : (x : ℕ) (bases : List (List ℕ)) (q : ℕ) {set i j k n : ℕ} {a c g t : Bool} → set ≡ get_or base_sets x 0
     → a ≡ has_base set 0 → c ≡ has_base set 1 → g ≡ has_base set 2 → t ≡ has_base set 3
-    → i ≡ if a (get_or bases q 0) 0 → j ≡ if c (get_or bases (row_words + q) 0) 0
-    → k ≡ if g (get_or bases (2 * row_words + q) 0) 0 → n ≡ if t (get_or bases (3 * row_words + q) 0) 0
+    → i ≡ if a (get_or (row_slot 0 bases) q 0) 0 → j ≡ if c (get_or (row_slot 1 bases) q 0) 0
+    → k ≡ if g (get_or (row_slot 2 bases) q 0) 0 → n ≡ if t (get_or (row_slot 3 bases) q 0) 0
     → bit_or (bit_or i j) (bit_or k n) ≡ letter_word x bases q
 unfolding letter_word
 letter_word_is x bases q es ea ec eg et ei ej ek en = rw (ei, ej, ek, en, ea, ec, eg, et, es)
@@ -97,11 +98,11 @@ module _ (x : ℕ) where
             letter_out stands_for x s p o ∙ sym (rw (letter_out eqb 0 s p o, letter_out eqb 1 s p o, letter_out eqb 2 s p o, letter_out eqb 3 s p o) (simp if_none)))
       ]
 
-  word_digit : (bases : List ℕ) (q b : ℕ) (f : ℕ → ℕ) → ((y i : ℕ) → y < 4 → i ≡ y * row_words + q → digit (get_or bases i 0) b ≡ f y) → digit (letter_word x bases q) b ≡ most has f
+  word_digit : (bases : List (List ℕ)) (q b : ℕ) (f : ℕ → ℕ) → ((y : ℕ) → y < 4 → digit (get_or (row_slot y bases) q 0) b ≡ f y) → digit (letter_word x bases q) b ≡ most has f
   unfolding letter_word
   word_digit bases q b f is =
-      digit_four (has 0) (has 1) (has 2) (has 3) (get_or bases q 0) (get_or bases (2072 + q) 0) (get_or bases (2 * 2072 + q) 0) (get_or bases (3 * 2072 + q) 0) b
-      ∙ rw (is 0 q (omega arith) (omega arith), is 1 (2072 + q) (omega arith) (omega arith), is 2 (2 * 2072 + q) (omega arith) (omega arith), is 3 (3 * 2072 + q) (omega arith) (omega arith))
+      digit_four (has 0) (has 1) (has 2) (has 3) (get_or (row_slot 0 bases) q 0) (get_or (row_slot 1 bases) q 0) (get_or (row_slot 2 bases) q 0) (get_or (row_slot 3 bases) q 0) b
+      ∙ rw (is 0 (omega arith), is 1 (omega arith), is 2 (omega arith), is 3 (omega arith))
 
 values_small : (s : List ℕ) (i : ℕ) → get_or (map value s) i 0 ≤ 4
 values_small [] i = omega arith
@@ -109,7 +110,7 @@ values_small (b ∷ s) zero = value_most b
 values_small (b ∷ s) (suc i) = values_small s i
 
 -- all words of it
-module _ (x : ℕ) (bases row : List ℕ) (all : row ≡ map (letter_word x bases) (run 0 2072)) (ns l : List ℕ) (set : SoundSet l ns) (is : BaseRows ns l bases) (k : ℕ) (u : k < length ns) where
+module _ (x : ℕ) (bases : List (List ℕ)) (row : List ℕ) (all : row ≡ map (letter_word x bases) (run 0 2072)) (ns l : List ℕ) (set : SoundSet l ns) (is : BaseRows ns l bases) (k : ℕ) (u : k < length ns) where
   abbrev at : ℕ
   at = first_word ns k
 
@@ -122,12 +123,11 @@ module _ (x : ℕ) (bases row : List ℕ) (all : row ≡ map (letter_word x base
   inside : at + n ≤ 2072
   inside = omega (arith, first_most ns k (length ns) u u, enough l ns set)
 
-  base_digit : (q b : ℕ) → q < n → b < 64 → (y i : ℕ) → y < 4 → i ≡ y * row_words + (at + q) → digit (get_or bases i 0) b ≡ letter_at eqb y s (q * 64 + b)
-  unfolding row_slot bits_at lettered_at lettered
-  base_digit q b v w y i h e =
+  base_digit : (q b : ℕ) → q < n → b < 64 → (y : ℕ) → y < 4 → digit (get_or (row_slot y bases) (at + q) 0) b ≡ letter_at eqb y s (q * 64 + b)
+  unfolding bits_at lettered_at lettered
+  base_digit q b v w y h =
       let o = inside in
-      ap (λ (p : ℕ). digit (get_or bases p 0) b) e
-      ∙ ap (λ (d : ℕ). digit d b) (sym (between_at at (at + n) (row_slot y bases) q (omega arith) ∙ between_at (y * 2072) (y * 2072 + 2072) bases (at + q) (omega arith)))
+      ap (λ (d : ℕ). digit d b) (sym (between_at at (at + n) (row_slot y bases) q (omega arith)))
       ∙ sym (getd_held (between at (at + n) (row_slot y bases)) q b w)
       ∙ ap (λ (ks : List ℕ). get_or ks (q * 64 + b) 0) ((is.rows y h).same k u refl ∙ at_bytes ns l y h k)
       ∙ getd_map_run (letter_at eqb y s) 0 0 (64 * n) (q * 64 + b) (omega arith)
@@ -150,27 +150,27 @@ module _ (x : ℕ) (bases row : List ℕ) (all : row ≡ map (letter_word x base
       let long : length row ≡ 2072 = ap length all ∙ length_map_run (letter_word x bases) 0 2072 in
       made_all stands_for x s n n (between at (at + n) row) (mid_len at (at + n) row (omega arith) ∙ z) refl joined_digit
 
-pub joined_row : (x : ℕ) (bases row : List ℕ) → row ≡ map (letter_word x bases) (run 0 2072) → FromBases bases x row
+pub joined_row : (x : ℕ) (bases : List (List ℕ)) (row : List ℕ) → row ≡ map (letter_word x bases) (run 0 2072) → FromBases bases x row
 joined_row x bases row all ns l set is = record { same = λ k u e. joined_bits x bases row all ns l set is k u }
 
 -- the same letter by another number, and the same words in another place
-pub from_letter : (bases : List ℕ) {x y : ℕ} {row : List ℕ} → x ≡ y → FromBases bases x row → FromBases bases y row
+pub from_letter : (bases : List (List ℕ)) {x y : ℕ} {row : List ℕ} → x ≡ y → FromBases bases x row → FromBases bases y row
 from_letter bases e q ns l set is = rw e at (q ns l set is)
 
-pub from_row : (bases : List ℕ) (x : ℕ) {row out : List ℕ} → out ≡ row → FromBases bases x row → FromBases bases x out
+pub from_row : (bases : List (List ℕ)) (x : ℕ) {row out : List ℕ} → out ≡ row → FromBases bases x row → FromBases bases x out
 from_row bases x e q ns l set is = rw e (q ns l set is)
 
 -- ---- ALL LETTERS' ROWS, in slots after those of the four: the slots up to n are written, of each of which P holds
-pub record Written (P : ℕ → List ℕ → Type 0) (old : List ℕ) (n : ℕ) (standing : List ℕ) : Type 0 where
+pub record Written (P : ℕ → List ℕ → Type 0) (old : List (List ℕ)) (n : ℕ) (standing : List (List ℕ)) : Type 0 where
   pub some : 4 ≤ n
-  pub kept : take (4 * row_words) standing ≡ take (4 * row_words) old
+  pub kept : take 4 standing ≡ take 4 old
   pub made : (s : ℕ) → 4 ≤ s → s < n → P s (row_slot s standing)
 
-module _ (P : ℕ → List ℕ → Type 0) (old : List ℕ) where
-  pub written_more : (n : ℕ) (x y : List ℕ) → Written P old n x → take (n * row_words) y ≡ take (n * row_words) x → P n (row_slot n y) → Written P old (n + 1) y
+module _ (P : ℕ → List ℕ → Type 0) (old : List (List ℕ)) where
+  pub written_more : (n : ℕ) (x y : List (List ℕ)) → Written P old n x → take n y ≡ take n x → P n (row_slot n y) → Written P old (n + 1) y
   written_more n x y q left here = record {
     some = omega (arith, q.some);
-    kept = take_less (4 * 2072) (n * 2072) x y (omega (arith, q.some)) left ∙ q.kept;
+    kept = sym (take-take 4 n y q.some) ∙ ap (take 4) left ∙ take-take 4 n x q.some ∙ q.kept;
     made = λ s h v.
         elim (dec_lt s n) [
           | yes u ↦ rw (slot_kept n s x y u left) (q.made s h u)
@@ -179,18 +179,18 @@ module _ (P : ℕ → List ℕ → Type 0) (old : List ℕ) where
   }
 
 -- the slots of the four are as they were
-bases_same : (ns l old new : List ℕ) → take (4 * row_words) new ≡ take (4 * row_words) old → 4 * row_words ≤ length new → BaseRows ns l old → BaseRows ns l new
+bases_same : (ns l : List ℕ) (old new : List (List ℕ)) → take 4 new ≡ take 4 old → 4 ≤ length new → BaseRows ns l old → BaseRows ns l new
 bases_same ns l old new left long is = record { long = long; rows = λ x h. rw (slot_kept 4 x old new h left) (is.rows x h) }
 
 -- in an exact search each slot has the row of its letter for the first place, shifted
-abbrev pub Shifted : List ℕ → List ℕ → ℕ → List ℕ → Type 0
+abbrev pub Shifted : List ℕ → List (List ℕ) → ℕ → List ℕ → Type 0
 Shifted ns old s row = Filled (λ _. true) (shifted_at (s / 4) ns (row_slot (s % 4) old)) ns row (length ns)
 
-pub shifted_same : (ns old x : List ℕ) (s : ℕ) (row : List ℕ) → take (4 * row_words) x ≡ take (4 * row_words) old → Shifted ns x s row → Shifted ns old s row
+pub shifted_same : (ns : List ℕ) (old x : List (List ℕ)) (s : ℕ) (row : List ℕ) → take 4 x ≡ take 4 old → Shifted ns x s row → Shifted ns old s row
 shifted_same ns old x s row left q = rw (slot_kept 4 (s % 4) old x (omega arith) left) at q
 
 -- in a mixed one that of the letter with its number
-pub from_same : (old x : List ℕ) (s : ℕ) (row : List ℕ) → take (4 * row_words) x ≡ take (4 * row_words) old → 4 * row_words ≤ length x → FromBases x s row → FromBases old s row
+pub from_same : (old x : List (List ℕ)) (s : ℕ) (row : List ℕ) → take 4 x ≡ take 4 old → 4 ≤ length x → FromBases x s row → FromBases old s row
 from_same old x s row left long q ns l set is = q ns l set (bases_same ns l old x left long is)
 
 -- how many letters each kind has
@@ -200,7 +200,7 @@ exact_four t e = exact_base t (exact_search t e)
 pub mixed_sixteen : (t : Template) → t.profile ≡ Mixed → base_of t ≡ 16
 mixed_sixteen = mixed_base
 
-module _ (t : Template) (ns l old new : List ℕ) (is : BaseRows ns l old) (left : take (4 * row_words) new ≡ take (4 * row_words) old) where
+module _ (t : Template) (ns l : List ℕ) (old new : List (List ℕ)) (is : BaseRows ns l old) (left : take 4 new ≡ take 4 old) where
   abbrev fits : ℕ → ℕ → Bool
   fits = (profile_of t).reading.fits
 
@@ -215,7 +215,7 @@ module _ (t : Template) (ns l old new : List ℕ) (is : BaseRows ns l old) (left
       → Filled (λ _. true) (lettered_on i fits x ns (map value l)) ns (row_slot s new) (length ns)
   at_first x e z q = rw (e, z) (record { same = λ k u o. q.same k u o ∙ sym (lettered_first fits x ns (map value l) k) })
 
-  pub exact_letters : t.profile ≡ Exact → 4 * row_words ≤ length new → (n : ℕ) → length new / (4 * row_words) * 4 ≤ n
+  pub exact_letters : t.profile ≡ Exact → 4 ≤ length new → (n : ℕ) → length new / 4 * 4 ≤ n
       → ((s : ℕ) → 4 ≤ s → s < n → Shifted ns old s (row_slot s new)) → Letters t ns l new
   exact_letters kind long n all made = record {
     long = rw four long;
@@ -233,7 +233,7 @@ module _ (t : Template) (ns l old new : List ℕ) (is : BaseRows ns l old) (left
       four : base_of t ≡ 4
       four = exact_four t kind
 
-  pub mixed_letters : t.profile ≡ Mixed → SoundSet l ns → 16 * row_words ≤ length new → length new ≤ 16 * row_words
+  pub mixed_letters : t.profile ≡ Mixed → SoundSet l ns → 16 ≤ length new → length new ≤ 16
       → ((s : ℕ) → 4 ≤ s → s < 16 → FromBases old s (row_slot s new)) → Letters t ns l new
   mixed_letters kind set long short made = record {
     long = rw sixteen long;

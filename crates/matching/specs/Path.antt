@@ -1,6 +1,6 @@
 -- The path of a search: for each prefix of the place that has fewer letters what the next letter is added to, its row or that row with
--- the gap opened. They are kept from step to step in one table, a slot of as many words as a row has for each number of letters.
-use Rattle.std.specs.Prelude.{true, List, map, ◌≡◌, ℕ, ◌+◌, ◌-◌, ◌*◌, ◌/◌, ◌%◌, ◌^◌, ◌≤◌, ◌<◌, eqb, length, get_or}
+-- the gap opened. They are kept from step to step in one table of rows, a slot for each number of letters.
+use Rattle.std.specs.Prelude.{true, List, [], map, ◌≡◌, ℕ, ◌+◌, ◌-◌, ◌*◌, ◌/◌, ◌%◌, ◌^◌, ◌≤◌, ◌<◌, eqb, length, get_or}
 use Rattle.rules.specs.Letters.{letter, value}
 use Rattle.rules.specs.Limits.{letter_bases}
 use Rattle.rules.specs.Motif.{spell}
@@ -13,11 +13,11 @@ use Rattle.matching.specs.declared.made.Spot.{Spot}
 use Rattle.rows.specs.Flags.{reached, last_starts}
 use Rattle.rows.specs.NextLetter.{At, before_letter}
 use Rattle.rows.specs.Rows.{ahead}
-use Rattle.rows.specs.Set.{row_words, between, bits_at, lettered_at, lettered_on, Filled, Source}
+use Rattle.rows.specs.Set.{bits_at, lettered_at, lettered_on, Filled, Source}
 
 -- slot i of a table of rows
-unfoldable pub row_slot : ℕ → List ℕ → List ℕ
-row_slot i rows = between (i * row_words) (i * row_words + row_words) rows
+abbrev pub row_slot : ℕ → List (List ℕ) → List ℕ
+row_slot i rows = get_or rows i []
 
 -- BY A TEMPLATE'S PROFILE. Where the last part of the prefix of j letters with the number m can start
 abbrev pub prefix_starts : Template → ℕ → ℕ → List ℕ → List ℕ
@@ -32,7 +32,7 @@ pub record Slot (t : Template) (ns l slot : List ℕ) (d p : ℕ) : Type 0 where
   pub held : (k o : ℕ) → At (components t) d k o → Source (before_next reached t k o d p) ns l slot
 
 -- THE PATH to the candidate of j letters with the number m: in slot i what a letter is added to after the first i of them
-pub record Path (t : Template) (ns l slots : List ℕ) (j m : ℕ) : Type 0 where
+pub record Path (t : Template) (ns l : List ℕ) (slots : List (List ℕ)) (j m : ℕ) : Type 0 where
   pub held_at : (i k o : ℕ) → i < j → At (components t) i k o → Source (before_next reached t k o i (m / base_of t ^ (j - i))) ns l (row_slot i slots)
 
 -- WHAT IT IS MADE WITH, once in a leg. For each letter of a motif which component it belongs to, and its place there
@@ -44,26 +44,26 @@ pub record Inside (t : Template) (inside : List Spot) : Type 0 where
   pub same : (d k i : ℕ) → At (components t) d k i → get_or inside d (spot 0 0) ≡ spot k i
 
 -- the rows of the four letters of a sequence, by their bytes
-pub record BaseRows (ns l bases : List ℕ) : Type 0 where
-  pub long : letter_bases * row_words ≤ length bases
+pub record BaseRows (ns l : List ℕ) (bases : List (List ℕ)) : Type 0 where
+  pub long : letter_bases ≤ length bases
   pub rows : (x : ℕ) → x < letter_bases → Filled (λ _. true) (lettered_at eqb (letter x) ns l) ns (row_slot x bases) (length ns)
 
 -- a row made from them has a bit where a letter stands that x stands for, whatever sequences they are of
-abbrev pub FromBases : List ℕ → ℕ → List ℕ → Type 0
+abbrev pub FromBases : List (List ℕ) → ℕ → List ℕ → Type 0
 FromBases bases x row = (ns l : List ℕ) → SoundSet l ns → BaseRows ns l bases → Filled (λ _. true) (lettered_at stands_for x ns (map value l)) ns row (length ns)
 
 -- the rows of a motif's letters, kept shifted for the first places of a component, a slot for each digit and each of these places, place
 -- by place: a candidate then costs one AND for each word. For a later place a letter's row is shifted as it is used. They are kept for as
 -- many places as the table has room for, at least one
-abbrev pub kept_places : Template → List ℕ → ℕ
-kept_places t standing = length standing / (base_of t * row_words)
+abbrev pub kept_places : Template → List (List ℕ) → ℕ
+kept_places t standing = length standing / base_of t
 
 -- and of four letters for at most four, as in a leg. The code has the number as `SHIFTS`
 abbrev pub letter_shifts : ℕ
 letter_shifts = 4
 
-pub record Letters (t : Template) (ns l standing : List ℕ) : Type 0 where
-  pub long : base_of t * row_words ≤ length standing
+pub record Letters (t : Template) (ns l : List ℕ) (standing : List (List ℕ)) : Type 0 where
+  pub long : base_of t ≤ length standing
   pub rows : (x i : ℕ) → x < base_of t → i < kept_places t standing → Filled (λ _. true) (lettered_on i (profile_of t).reading.fits x ns (map value l)) ns (row_slot (i * base_of t + x) standing) (length ns)
 
 -- a row that tests letter x for place i of its component, if it is shifted down by so many bits as it is used

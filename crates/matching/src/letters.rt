@@ -8,31 +8,31 @@ ghost use Rattle.matching.specs.Path.{letter_shifts, row_slot, BaseRows, FromBas
 ghost use Rattle.rows.specs.Bases.{word_of};
 ghost use Rattle.rows.specs.Bits.{held};
 ghost use Rattle.rows.specs.Rows.{lettered};
-ghost use Rattle.rows.specs.Set.{row_words, between, shifted_at, Filled};
+ghost use Rattle.rows.specs.Set.{row_words, between, shifted_at, Filled, Offsets};
 
 use super::made::{Made, Plan};
-use super::{BASES, DIGITS, ROWS};
-use rows::words::Bases;
-use rows::{BITS, WORDS, shift, words};
+use super::{BASES, DIGITS, WORDS};
+use rows::words::{Bases, Shift};
+use rows::{BITS, shift, words};
 use rules::{Letter, Offset, Place, Profile, SequenceSet};
 
 // Word `q` of each letter's row, in its slot for the first place of a component.
-fn put_words(q: usize, bases: Bases, standing: &mut [u64])
-    requires { (q < row_words) × (letter_bases * row_words ≤ length standing.old) }
+fn put_words(q: usize, bases: Bases, standing: &mut [[u64; WORDS]])
+    requires { (q < row_words) × (letter_bases ≤ length standing.old) }
     ensures by_index { (x : ℕ) → x < letter_bases → row_slot x standing.new ≡ set (row_slot x standing.old) q (word_of bases x) }
     ensures standing_len_unchanged { length standing.new ≡ length standing.old }
 {
-    standing[q] = bases.a;
-    standing[WORDS + q] = bases.c;
-    standing[2 * WORDS + q] = bases.g;
-    standing[3 * WORDS + q] = bases.t;
+    standing[0][q] = bases.a;
+    standing[1][q] = bases.c;
+    standing[2][q] = bases.g;
+    standing[3][q] = bases.t;
 }
 
 // The words of one sequence, from `from` up to `to`, of all letters' rows: 64 of its letters at a time, for all four at once.
-fn sequence_slots(sequence: &[u8], from: usize, to: usize, standing: &mut [u64])
+fn sequence_slots(sequence: &[u8], from: usize, to: usize, standing: &mut [[u64; WORDS]])
     requires by_index { (i : ℕ) → i < length sequence.now → is_letter (get_or sequence.now i 0) ≡ true }
     requires from_le_to { (from ≤ to) × (to ≤ row_words) × (length sequence.now ≤ 64 * (to - from)) × (64 * (to - from) ≤ length sequence.now + 63) }
-    requires in_bounds { letter_bases * row_words ≤ length standing.old }
+    requires in_bounds { letter_bases ≤ length standing.old }
     ensures by_index_2 { (x : ℕ) → x < letter_bases → take from (row_slot x standing.new) ≡ take from (row_slot x standing.old) }
     ensures by_index_3 { (x : ℕ) → x < letter_bases → held (between from to (row_slot x standing.new)) ≡ lettered eqb (letter x) sequence.now (64 * (to - from)) }
     ensures standing_len_unchanged { length standing.new ≡ length standing.old }
@@ -48,30 +48,19 @@ fn sequence_slots(sequence: &[u8], from: usize, to: usize, standing: &mut [u64])
 }
 
 // The rows of the four letters of a sequence, in the first slots.
-pub fn letter_slots(plan: &Plan, standing: &mut [u64])
-    requires in_bounds { letter_bases * row_words ≤ length standing.old }
+pub fn letter_slots(plan: &Plan, offsets: &[u32], standing: &mut [[u64; WORDS]])
+    requires offsets { Offsets plan.now.layout.lengths.now offsets.now }
+    requires in_bounds { letter_bases ≤ length standing.old }
     ensures standing_len_unchanged { length standing.new ≡ length standing.old }
     ensures base_rows { BaseRows plan.now.layout.lengths.now plan.now.letters.now standing.new }
 {
     for k in 0..plan.layout.lengths.len() {
-        let a = plan.offsets[k] as usize;
-        let e = plan.offsets[k + 1] as usize;
+        let a = offsets[k] as usize;
+        let e = offsets[k + 1] as usize;
         let (from, to) = plan.layout.words(k);
         let sequence = SequenceSet::part(plan.letters, Offset(a), Offset(e));
         sequence_slots(sequence, from, to, standing);
     }
-}
-
-// A letter's row shifted for place `i` of a component, in slot `s`.
-fn shift_slot(plan: &Plan, s: usize, i: usize, row: &[u64], standing: &mut [u64])
-    requires row_len { length row.now ≡ row_words }
-    requires i_bound { (i < letter_shifts) × (s * row_words + row_words ≤ length standing.old) }
-    ensures standing_unchanged { (take (s * row_words) standing.new ≡ take (s * row_words) standing.old) × (length standing.new ≡ length standing.old) }
-    ensures filled { Filled (λ _. true) (shifted_at i plan.now.layout.lengths.now row.now) plan.now.layout.lengths.now (row_slot s standing.new) (length plan.now.layout.lengths.now) }
-{
-    let a = s * WORDS;
-    let e = a + WORDS;
-    shift::shift_all(&plan.layout, i, row, &mut standing[a..e]);
 }
 
 // A word where a base set has a base, and else none.
@@ -82,10 +71,9 @@ fn pick(on: bool, word: u64) -> u64
 }
 
 // The row of a motif's letter, from those of the four letters of a sequence: where one stands that the letter fits.
-pub fn letter_row(x: u64, bases: &[u64], row: &mut [u64])
-    requires { (letter_bases * row_words ≤ length bases.now) × (length row.old ≡ row_words) }
+pub fn letter_row(x: u64, bases: &[[u64; WORDS]], row: &mut [u64; WORDS])
+    requires { letter_bases ≤ length bases.now }
     ensures from_bases { FromBases bases.now x row.new }
-    ensures row_len_unchanged { length row.new ≡ length row.old }
 {
     let set = Letter::base_set(x);
     let a = Letter::has_base(set, 0);
@@ -93,43 +81,37 @@ pub fn letter_row(x: u64, bases: &[u64], row: &mut [u64])
     let g = Letter::has_base(set, 2);
     let t = Letter::has_base(set, 3);
     for q in 0..WORDS {
-        let one = pick(a, bases[q]) | pick(c, bases[WORDS + q]);
-        let other = pick(g, bases[2 * WORDS + q]) | pick(t, bases[3 * WORDS + q]);
+        let one = pick(a, bases[0][q]) | pick(c, bases[1][q]);
+        let other = pick(g, bases[2][q]) | pick(t, bases[3][q]);
         row[q] = one | other;
     }
 }
 
-// Slot `s` of an exact search, past those for the first place, from that of its letter for the first place. `work` is lent for the
-// letter's row.
-fn later_slot(plan: &Plan, s: usize, work: &mut [u64], standing: &mut [u64])
-    requires work_len { length work.old ≡ row_words }
-    requires le_s { (letter_bases ≤ s) × (s < letter_shifts * letter_bases) × (s * row_words + row_words ≤ length standing.old) }
-    ensures standing_unchanged { (take (s * row_words) standing.new ≡ take (s * row_words) standing.old) × (length standing.new ≡ length standing.old) × (length work.new ≡ length work.old) }
+// Slot `s` of an exact search, past those for the first place: the row of its letter for the first place, shifted. `work` is lent for that.
+fn later_slot(plan: &Plan, s: usize, work: &mut [u64; WORDS], standing: &mut [[u64; WORDS]])
+    requires { (letter_bases ≤ s) × (s < letter_shifts * letter_bases) × (s < length standing.old) }
+    ensures standing_unchanged { (take s standing.new ≡ take s standing.old) × (length standing.new ≡ length standing.old) }
     ensures filled { Filled (λ _. true) (shifted_at (s / letter_bases) plan.now.layout.lengths.now (row_slot (s % letter_bases) standing.old)) plan.now.layout.lengths.now (row_slot s standing.new) (length plan.now.layout.lengths.now) }
 {
-    let a = s % BASES * WORDS;
-    let e = a + WORDS;
-    work.copy_from_slice(&standing[a..e]);
-    shift_slot(plan, s, s / BASES, work, standing);
+    *work = standing[s % BASES];
+    let by = Shift { places: s / BASES };
+    shift::shift_all(&plan.layout, by, work, &mut standing[s]);
 }
 
 // Slot `s` of a mixed search, past those of the four letters of a sequence: the row of letter `s`. `work` is lent for it.
-fn mixed_slot(s: usize, work: &mut [u64], standing: &mut [u64])
-    requires { (letter_bases ≤ s) × (s * row_words + row_words ≤ length standing.old) × (length work.old ≡ row_words) }
-    ensures standing_unchanged { (take (s * row_words) standing.new ≡ take (s * row_words) standing.old) × (length standing.new ≡ length standing.old) × (length work.new ≡ length work.old) }
+fn mixed_slot(s: usize, work: &mut [u64; WORDS], standing: &mut [[u64; WORDS]])
+    requires { (letter_bases ≤ s) × (s < length standing.old) }
+    ensures standing_unchanged { (take s standing.new ≡ take s standing.old) × (length standing.new ≡ length standing.old) }
     ensures from_bases { FromBases standing.old s (row_slot s standing.new) }
 {
-    let a = s * WORDS;
-    let e = a + WORDS;
     letter_row(s as u64, standing, work);
-    standing[a..e].copy_from_slice(work);
+    standing[s] = *work;
 }
 
 // The rows of an exact search past those for the first place, for as many places as the table has room for, place by place.
-fn exact_rows(plan: &Plan, end: usize, work: &mut [u64], standing: &mut [u64])
-    requires work_len { length work.old ≡ row_words }
-    requires end_bound { (end ≤ letter_shifts * letter_bases) × (end * row_words ≤ length standing.old) × (letter_bases * row_words ≤ length standing.old) }
-    ensures standing_unchanged { (take (letter_bases * row_words) standing.new ≡ take (letter_bases * row_words) standing.old) × (length standing.new ≡ length standing.old) × (length work.new ≡ length work.old) }
+fn exact_rows(plan: &Plan, end: usize, work: &mut [u64; WORDS], standing: &mut [[u64; WORDS]])
+    requires end_bound { (end ≤ letter_shifts * letter_bases) × (end ≤ length standing.old) }
+    ensures standing_unchanged { (take letter_bases standing.new ≡ take letter_bases standing.old) × (length standing.new ≡ length standing.old) }
     ensures by_index { (s : ℕ) → letter_bases ≤ s → s < end → Filled (λ _. true) (shifted_at (s / letter_bases) plan.now.layout.lengths.now (row_slot (s % letter_bases) standing.old)) plan.now.layout.lengths.now (row_slot s standing.new) (length plan.now.layout.lengths.now) }
 {
     for s in BASES..end {
@@ -138,9 +120,9 @@ fn exact_rows(plan: &Plan, end: usize, work: &mut [u64], standing: &mut [u64])
 }
 
 // The rows of a mixed search past those of the four letters.
-fn mixed_rows(work: &mut [u64], standing: &mut [u64])
-    requires { (letter_digits * row_words ≤ length standing.old) × (length work.old ≡ row_words) }
-    ensures standing_unchanged { (take (letter_bases * row_words) standing.new ≡ take (letter_bases * row_words) standing.old) × (length standing.new ≡ length standing.old) × (length work.new ≡ length work.old) }
+fn mixed_rows(work: &mut [u64; WORDS], standing: &mut [[u64; WORDS]])
+    requires { letter_digits ≤ length standing.old }
+    ensures standing_unchanged { (take letter_bases standing.new ≡ take letter_bases standing.old) × (length standing.new ≡ length standing.old) }
     ensures by_index { (s : ℕ) → letter_bases ≤ s → s < letter_digits → FromBases standing.old s (row_slot s standing.new) }
 {
     for s in BASES..DIGITS {
@@ -149,16 +131,16 @@ fn mixed_rows(work: &mut [u64], standing: &mut [u64])
 }
 
 // The rows of all letters that a template's motifs may have, from those of the four letters of a sequence. `work` is lent for a row.
-pub fn letter_rows(plan: &Plan, work: &mut [u64], standing: &mut [u64])
+pub fn letter_rows(plan: &Plan, work: &mut [u64; WORDS], standing: &mut [[u64; WORDS]])
     requires base_rows { BaseRows plan.now.layout.lengths.now plan.now.letters.now standing.old }
-    requires work_len { (length work.old ≡ row_words) × (base_of plan.now.search.template * row_words ≤ length standing.old) × (length standing.old ≤ letter_shifts * letter_bases * row_words) }
+    requires standing_len { (base_of plan.now.search.template ≤ length standing.old) × (length standing.old ≤ letter_shifts * letter_bases) }
     ensures letters { Letters plan.now.search.template plan.now.layout.lengths.now plan.now.letters.now standing.new }
-    ensures standing_len_unchanged { (length standing.new ≡ length standing.old) × (length work.new ≡ length work.old) }
+    ensures standing_len_unchanged { length standing.new ≡ length standing.old }
 {
     let profile = plan.search.template.profile;
     match profile {
         Profile::Exact => {
-            let n = standing.len() / ROWS;
+            let n = standing.len() / BASES;
             exact_rows(plan, n * BASES, work, standing);
         }
         Profile::Mixed => mixed_rows(work, standing),
@@ -168,16 +150,14 @@ pub fn letter_rows(plan: &Plan, work: &mut [u64], standing: &mut [u64])
 // The row that the last letter of a candidate is tested by, and how far it is shifted as it is used.
 #[derive(Clone, Copy)]
 pub struct Test<'a> {
-    pub row: &'a [u64],
-    pub by: usize,
+    pub row: &'a [u64; WORDS],
+    pub by: Shift,
 }
 
 // The row of the letter shifted so far, where it is kept, and else the row as it is.
 pub fn test_for<'a>(made: &Made<'a>, place: Place) -> Test<'a>
     requires le_letters { (1 ≤ place.letters) × (place.letters ≤ made.now.plan.depth) }
-    ensures row_len { length result.row.now ≡ row_words }
-    ensures by_bound { result.by < 16 }
-    ensures tests_last { TestsLast made.now.plan.search.template made.now.plan.layout.lengths.now made.now.plan.letters.now place.letters place.number result.row.now result.by }
+    ensures tests_last { TestsLast made.now.plan.search.template made.now.plan.layout.lengths.now made.now.plan.letters.now place.letters place.number result.row.now result.by.places }
 {
     let standing = made.standing;
     let below = place.letters as usize - 1;
@@ -185,20 +165,16 @@ pub fn test_for<'a>(made: &Made<'a>, place: Place) -> Test<'a>
     let x = profile.last(place.number) as usize;
     let i = made.plan.inside[below].letter as usize;
     let base = profile.base() as usize;
-    let kept = (i + 1) * base * WORDS <= standing.len();
+    let kept = (i + 1) * base <= standing.len();
     if kept {
-        let a = (i * base + x) * WORDS;
-        let e = a + WORDS;
         Test {
-            row: &standing[a..e],
-            by: 0,
+            row: &standing[i * base + x],
+            by: Shift { places: 0 },
         }
     } else {
-        let a = x * WORDS;
-        let e = a + WORDS;
         Test {
-            row: &standing[a..e],
-            by: i,
+            row: &standing[x],
+            by: Shift { places: i },
         }
     }
 }

@@ -10,11 +10,11 @@ pub mod weights;
 
 use rules::{Letter, SequenceSet, Template};
 
-// The words of a row, and how long the tables are that a caller lends: a place for each letter of a motif; where each sequence's words
-// begin, and where the last one's end; where its letters begin; from one to SHIFTS rows for each letter; and a slot
-// for each prefix of a path.
-pub const WORDS: usize = rows::WORDS;
+// The words of a row.
+pub use rows::WORDS;
 
+// How long the tables are that a caller lends: a place for each letter of a motif; where each sequence's words begin, and where the last
+// one's end; where its letters begin; from one to SHIFTS rows for each letter; and a slot for each prefix of a path, which has a row.
 pub const LETTERS: usize = Template::LETTERS as usize;
 
 pub const FIRSTS: usize = SequenceSet::SEQUENCES + 1;
@@ -24,8 +24,6 @@ pub const OFFSETS: usize = SequenceSet::SEQUENCES + 1;
 // A row for each of the four letters of a sequence, and one for each digit of a mixed motif's number.
 pub const BASES: usize = Letter::BASES as usize;
 
-pub const ROWS: usize = BASES * WORDS;
-
 pub const DIGITS: usize = Letter::DIGITS as usize;
 
 // A letter's row is kept shifted for each of the first places of a component: a candidate that ends there costs one AND for each word.
@@ -34,7 +32,6 @@ pub const DIGITS: usize = Letter::DIGITS as usize;
 // may use, and of a mixed one, whose digits take up a row each of the same sixteen, for the first.
 pub const SHIFTS: usize = 4;
 
-pub const STANDING: usize = SHIFTS * ROWS;
+pub const STANDING: usize = SHIFTS * BASES;
 
-// The words of the table of slots.
-pub const SLOTS: usize = LETTERS * WORDS;
+pub const SLOTS: usize = LETTERS;

@@ -5,6 +5,7 @@ ghost use Rattle.rows.specs.Set.{Offsets};
 ghost use Rattle.rules.specs.Sound.{SoundSet, SoundTemplate};
 ghost use Rattle.rules.specs.Template as templates;
 
+use super::WORDS;
 use rows::layout::Layout;
 use rules::Search;
 
@@ -23,8 +24,8 @@ impl Spot {
     };
 }
 
-// A search whose motifs have `depth` letters, and its set of sequences; where each letter of a motif stands, and where the words and the
-// letters of each sequence begin.
+// A search whose motifs have `depth` letters, and its set of sequences; where each letter of a motif stands, and where the words of each
+// sequence begin.
 #[derive(Clone, Copy)]
 pub struct Plan<'a> {
     pub search: Search,
@@ -32,18 +33,24 @@ pub struct Plan<'a> {
     pub letters: &'a [u8],
     pub layout: Layout<'a>,
     pub inside: &'a [Spot],
-    pub offsets: &'a [u32],
     pub ghost sound_template: { SoundTemplate search.template },
     pub ghost depth_value: { depth ≡ templates.size search.template },
     pub ghost sound_set: { SoundSet letters.now layout.lengths.now },
     pub ghost placed: { Inside search.template inside.now },
-    pub ghost offsets_laid: { Offsets layout.lengths.now offsets.now },
 }
 
 // A plan, and the rows of the letters that a motif may have.
 #[derive(Clone, Copy)]
 pub struct Made<'a> {
     pub plan: Plan<'a>,
-    pub standing: &'a [u64],
+    pub standing: &'a [[u64; WORDS]],
     pub ghost rows: { Letters plan.search.template plan.layout.lengths.now plan.letters.now standing.now },
+}
+
+// What listed motifs are weighed with: what candidates are examined with, and where the letters of each sequence begin.
+#[derive(Clone, Copy)]
+pub struct Weighing<'a> {
+    pub made: Made<'a>,
+    pub offsets: &'a [u32],
+    pub ghost offsets_laid: { Offsets made.plan.layout.lengths.now offsets.now },
 }

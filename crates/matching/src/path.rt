@@ -7,36 +7,40 @@ ghost use Rattle.rules.specs.Sound.{SoundSet};
 ghost use Rattle.rules.specs.Support.{support, parts};
 ghost use Rattle.rules.specs.Template as templates;
 ghost use Rattle.matching.specs.Path.{row_slot, prefix_starts, gap_near, gap_far, Slot, Path, BaseRows, TestsLast};
-ghost use Rattle.rows.specs.Set.{row_words, is_marked, window_at, Filled, Marked, Bounded, Row};
+ghost use Rattle.rows.specs.Set.{is_marked, window_at, Filled, Marked, Bounded, Row};
 
 use super::letters::{Test, letter_row, test_for};
 use super::made::{Made, Plan};
 use super::{SLOTS, WORDS};
-use rows::{gap, set};
+use rows::gap::{self, Gap};
+use rows::set;
+use rows::words::Shift;
 use rules::Place;
 
 // The slot of the prefix of so many letters.
-pub fn slot<'a>(size: usize, slots: &'a [u64; SLOTS]) -> &'a [u64]
+pub fn slot<'a>(size: usize, slots: &'a [[u64; WORDS]; SLOTS]) -> &'a [u64; WORDS]
     requires { size < template_letters }
     ensures slot { result.now ≡ row_slot size slots.now }
-    ensures slot_len { length result.now ≡ row_words }
 {
-    let a = size * WORDS;
-    let e = a + WORDS;
-    &slots[a..e]
+    &slots[size]
 }
 
 // The support of a candidate, and its row, from the slot of the prefix that is one letter shorter. Where the support is below `quorum`, a
 // number may be answered that is below it too, and the row may not be whole.
-fn extend(plan: &Plan, place: Place, test: Test, slot: &[u64], quorum: u32, work: &mut [u64]) -> u32
-    requires le_size { (1 ≤ place.letters) × (place.letters ≤ templates.size plan.now.search.template) × (test.by < 16) }
-    requires tests_last { TestsLast plan.now.search.template plan.now.layout.lengths.now plan.now.letters.now place.letters place.number test.row.now test.by }
+fn extend(
+    plan: &Plan,
+    place: Place,
+    test: Test,
+    slot: &[u64; WORDS],
+    quorum: u32,
+    work: &mut [u64; WORDS],
+) -> u32
+    requires le_size { (1 ≤ place.letters) × (place.letters ≤ templates.size plan.now.search.template) }
+    requires tests_last { TestsLast plan.now.search.template plan.now.layout.lengths.now plan.now.letters.now place.letters place.number test.row.now test.by.places }
     requires slot { Slot plan.now.search.template plan.now.layout.lengths.now plan.now.letters.now slot.now (place.letters - 1) (place.number / base_of plan.now.search.template) }
-    requires letter_len { (length test.row.now ≡ row_words) × (length slot.now ≡ row_words) × (length work.old ≡ row_words) }
     ensures lower_bound { support (parts plan.now.search.template place.letters place.number) (sequences plan.now.letters.now plan.now.layout.lengths.now) ≤ result }
     ensures value { quorum ≤ result → result ≡ support (parts plan.now.search.template place.letters place.number) (sequences plan.now.letters.now plan.now.layout.lengths.now) }
     ensures row { quorum ≤ result → Row (prefix_starts plan.now.search.template place.letters place.number) plan.now.layout.lengths.now plan.now.letters.now work.new }
-    ensures work_len_unchanged { length work.new ≡ length work.old }
 {
     set::keep_all(&plan.layout, slot, test.row, test.by, quorum, work)
 }
@@ -45,7 +49,7 @@ fn extend(plan: &Plan, place: Place, test: Test, slot: &[u64], quorum: u32, work
 pub fn support(
     made: &Made,
     place: Place,
-    slots: &[u64; SLOTS],
+    slots: &[[u64; WORDS]; SLOTS],
     quorum: u32,
     work: &mut [u64; WORDS],
 ) -> u32
@@ -67,29 +71,27 @@ pub fn support(
 }
 
 // Opens the gap before a component in a slot that has the row of a prefix which ends the one before it.
-fn open_slot(plan: &Plan, component: usize, spare: &mut [u64], slot: &mut [u64])
+fn open_slot(plan: &Plan, component: usize, spare: &mut [u64; WORDS], slot: &mut [u64; WORDS])
     requires le_component { (1 ≤ component) × (component < plan.now.search.template.count) }
     requires bounded { Bounded plan.now.layout.lengths.now slot.old }
-    requires slot_len { (length spare.old ≡ row_words) × (length slot.old ≡ row_words) }
-    ensures slot_len_unchanged { (length slot.new ≡ length slot.old) × (length spare.new ≡ length spare.old) }
     ensures marked { Marked (is_marked slot.old) slot.new sequence_set_sequences }
     ensures filled { Filled (is_marked slot.old) (window_at (gap_near plan.now.search.template component) (templates.span (gap_near plan.now.search.template component) (gap_far plan.now.search.template component)) plan.now.layout.lengths.now slot.old) plan.now.layout.lengths.now slot.new (length plan.now.layout.lengths.now) }
 {
     let components = plan.search.template.components();
     let before = components[component - 1];
     let here = components[component];
-    let apart = here.after(before);
-    gap::open_all(&plan.layout, apart, spare, slot);
+    let gap = Gap {
+        apart: here.after(before),
+    };
+    gap::open_all(&plan.layout, gap, spare, slot);
 }
 
 // Makes a slot that has the row of a prefix what a further letter is added to: where that stands inside a component the row as it is, and
 // else the row with the gap opened.
-fn end_slot(plan: &Plan, size: u8, spare: &mut [u64], slot: &mut [u64])
+fn end_slot(plan: &Plan, size: u8, spare: &mut [u64; WORDS], slot: &mut [u64; WORDS])
     requires le_size { (1 ≤ size) × (size < templates.size plan.now.search.template) }
     requires bounded { Bounded plan.now.layout.lengths.now slot.old }
-    requires slot_len { (length spare.old ≡ row_words) × (length slot.old ≡ row_words) }
     ensures by_index { (number : ℕ) → Row (prefix_starts plan.now.search.template size number) plan.now.layout.lengths.now plan.now.letters.now slot.old → Slot plan.now.search.template plan.now.layout.lengths.now plan.now.letters.now slot.new size number }
-    ensures spare_len_unchanged { (length spare.new ≡ length spare.old) × (length slot.new ≡ length slot.old) }
 {
     let spot = plan.inside[size as usize];
     if spot.letter > 0 {
@@ -105,19 +107,17 @@ fn fill_slot(
     plan: &Plan,
     place: Place,
     test: Test,
-    before: &[u64],
+    before: &[u64; WORDS],
     quorum: u32,
-    spare: &mut [u64],
-    slot: &mut [u64],
+    spare: &mut [u64; WORDS],
+    slot: &mut [u64; WORDS],
 ) -> u32
-    requires le_size { (1 ≤ place.letters) × (place.letters < templates.size plan.now.search.template) × (test.by < 16) }
-    requires tests_last { TestsLast plan.now.search.template plan.now.layout.lengths.now plan.now.letters.now place.letters place.number test.row.now test.by }
+    requires le_size { (1 ≤ place.letters) × (place.letters < templates.size plan.now.search.template) }
+    requires tests_last { TestsLast plan.now.search.template plan.now.layout.lengths.now plan.now.letters.now place.letters place.number test.row.now test.by.places }
     requires slot { Slot plan.now.search.template plan.now.layout.lengths.now plan.now.letters.now before.now (place.letters - 1) (place.number / base_of plan.now.search.template) }
-    requires letter_len { (length test.row.now ≡ row_words) × (length before.now ≡ row_words) × (length spare.old ≡ row_words) × (length slot.old ≡ row_words) }
     ensures lower_bound { support (parts plan.now.search.template place.letters place.number) (sequences plan.now.letters.now plan.now.layout.lengths.now) ≤ result }
     ensures value { quorum ≤ result → result ≡ support (parts plan.now.search.template place.letters place.number) (sequences plan.now.letters.now plan.now.layout.lengths.now) }
     ensures slot_2 { quorum ≤ result → Slot plan.now.search.template plan.now.layout.lengths.now plan.now.letters.now slot.new place.letters place.number }
-    ensures spare_len_unchanged { (length spare.new ≡ length spare.old) × (length slot.new ≡ length slot.old) }
 {
     let found = extend(plan, place, test, before, quorum, slot);
     if found < quorum {
@@ -132,7 +132,7 @@ fn push(
     made: &Made,
     place: Place,
     quorum: u32,
-    slots: &mut [u64; SLOTS],
+    slots: &mut [[u64; WORDS]; SLOTS],
     spare: &mut [u64; WORDS],
 ) -> u32
     requires le_size { (1 ≤ place.letters) × (place.letters < made.now.plan.depth) }
@@ -143,11 +143,17 @@ fn push(
     ensures path_3 { Path made.now.plan.search.template made.now.plan.layout.lengths.now made.now.plan.letters.now slots.new place.letters place.number }
 {
     let test = test_for(made, place);
-    let a = (place.letters as usize - 1) * WORDS;
-    let e = a + WORDS;
-    let (below, rest) = slots.split_at_mut(e);
-    let (slot, _) = rest.split_at_mut(WORDS);
-    fill_slot(&made.plan, place, test, &below[a..e], quorum, spare, slot)
+    let size = place.letters as usize;
+    let (below, rest) = slots.split_at_mut(size);
+    fill_slot(
+        &made.plan,
+        place,
+        test,
+        &below[size - 1],
+        quorum,
+        spare,
+        &mut rest[0],
+    )
 }
 
 // Examines a candidate whose path stands in the slots, and answers its support. Where that reaches `quorum`, there is then the path to each
@@ -158,7 +164,7 @@ pub fn examine(
     made: &Made,
     place: Place,
     quorum: u32,
-    slots: &mut [u64; SLOTS],
+    slots: &mut [[u64; WORDS]; SLOTS],
     work: &mut [u64; WORDS],
     spare: &mut [u64; WORDS],
 ) -> u32
@@ -178,7 +184,11 @@ pub fn examine(
 
 // Makes the rows of the path to the search's place, from the first slot on, and answers the support of the prefix one letter shorter, if it
 // has a letter.
-pub fn replay(made: &Made, slots: &mut [u64; SLOTS], spare: &mut [u64; WORDS]) -> Option<u32>
+pub fn replay(
+    made: &Made,
+    slots: &mut [[u64; WORDS]; SLOTS],
+    spare: &mut [u64; WORDS],
+) -> Option<u32>
     requires le_letters { (1 ≤ made.now.plan.search.place.letters) × (made.now.plan.search.place.letters ≤ templates.size made.now.plan.search.template) × (made.now.plan.search.place.number < base_of made.now.plan.search.template ^ made.now.plan.search.place.letters) }
     requires slot { Slot made.now.plan.search.template made.now.plan.layout.lengths.now made.now.plan.letters.now (row_slot 0 slots.old) 0 0 }
     ensures none { made.now.plan.search.place.letters ≡ 1 → result ≡ None }
@@ -202,21 +212,21 @@ pub fn replay(made: &Made, slots: &mut [u64; SLOTS], spare: &mut [u64; WORDS]) -
 fn take_turn(
     plan: &Plan,
     place: Place,
-    bases: &[u64],
-    letter: &mut [u64],
-    before: &[u64],
-    slot: &mut [u64],
+    bases: &[[u64; WORDS]],
+    letter: &mut [u64; WORDS],
+    before: &[u64; WORDS],
+    slot: &mut [u64; WORDS],
 ) -> u32
     requires le_size { (1 ≤ place.letters) × (place.letters < templates.size plan.now.search.template) }
     requires base_rows { BaseRows plan.now.layout.lengths.now plan.now.letters.now bases.now }
     requires slot { Slot plan.now.search.template plan.now.layout.lengths.now plan.now.letters.now before.now (place.letters - 1) (place.number / base_of plan.now.search.template) }
-    requires letter_len { (length letter.old ≡ row_words) × (length before.now ≡ row_words) × (length slot.old ≡ row_words) }
     ensures value { result ≡ support (parts plan.now.search.template place.letters place.number) (sequences plan.now.letters.now plan.now.layout.lengths.now) }
     ensures slot_2 { Slot plan.now.search.template plan.now.layout.lengths.now plan.now.letters.now slot.new place.letters place.number }
-    ensures letter_len_unchanged { (length letter.new ≡ length letter.old) × (length slot.new ≡ length slot.old) }
 {
     let below = place.letters as usize - 1;
-    let by = plan.inside[below].letter as usize;
+    let by = Shift {
+        places: plan.inside[below].letter as usize,
+    };
     let profile = plan.search.template.profile;
     letter_row(profile.last(place.number), bases, letter);
     let found = extend(plan, place, Test { row: letter, by }, before, 0, slot);
@@ -228,15 +238,14 @@ fn take_turn(
 // slots, the first of which is at first that of the prefix with no letters.
 pub fn shorter(
     plan: &Plan,
-    bases: &[u64],
-    letter: &mut [u64],
-    even: &mut [u64],
-    odd: &mut [u64],
+    bases: &[[u64; WORDS]],
+    letter: &mut [u64; WORDS],
+    even: &mut [u64; WORDS],
+    odd: &mut [u64; WORDS],
 ) -> Option<u32>
     requires le_letters { (1 ≤ plan.now.search.place.letters) × (plan.now.search.place.letters ≤ templates.size plan.now.search.template) × (plan.now.search.place.number < base_of plan.now.search.template ^ plan.now.search.place.letters) }
     requires base_rows { BaseRows plan.now.layout.lengths.now plan.now.letters.now bases.now }
     requires slot { Slot plan.now.search.template plan.now.layout.lengths.now plan.now.letters.now even.old 0 0 }
-    requires letter_len { (length letter.old ≡ row_words) × (length even.old ≡ row_words) × (length odd.old ≡ row_words) }
     ensures none { plan.now.search.place.letters ≡ 1 → result ≡ None }
     ensures value { 2 ≤ plan.now.search.place.letters → result ≡ Some (support (parts plan.now.search.template (plan.now.search.place.letters - 1) (plan.now.search.place.number / base_of plan.now.search.template)) (sequences plan.now.letters.now plan.now.layout.lengths.now)) }
 {

@@ -6,10 +6,10 @@ ghost use Rattle.rules.specs.Profile.{base_of};
 ghost use Rattle.rules.specs.Sound.{SoundSet, SoundTemplate};
 ghost use Rattle.rules.specs.Template as templates;
 ghost use Rattle.matching.specs.Path.{letter_shifts, row_slot, spot, Slot, Inside, BaseRows};
-ghost use Rattle.rows.specs.Set.{row_words};
+ghost use Rattle.rows.specs.Set.{Offsets};
 
 use super::letters::{letter_rows, letter_slots};
-use super::made::{Made, Plan, Spot};
+use super::made::{Made, Plan, Spot, Weighing};
 use super::{SLOTS, WORDS};
 use rules::{Search, Sequences, Template};
 
@@ -46,12 +46,10 @@ fn place_letters(template: Template, inside: &mut [Spot])
 }
 
 // The slot of the prefix with no letters, which the first letter is added to: it has every mark and every bit.
-fn first_slot(template: Template, set: &Sequences, slot: &mut [u64])
+fn first_slot(template: Template, set: &Sequences, slot: &mut [u64; WORDS])
     requires sound_template { SoundTemplate template }
     requires sound_set { SoundSet set.now.letters.now set.now.lengths.now }
-    requires slot_len { length slot.old ≡ row_words }
     ensures slot { Slot template set.now.lengths.now set.now.letters.now slot.new 0 0 }
-    ensures slot_len_unchanged { length slot.new ≡ length slot.old }
 {
     let n = set.lengths.len();
     rows::set::begin(n, slot);
@@ -63,17 +61,18 @@ pub fn begin<'a, 's: 'a>(
     set: &Sequences<'s>,
     inside: &'a mut [Spot],
     firsts: &'a mut [u32],
-    offsets: &'a mut [u32],
-    standing: &mut [u64],
-    slot: &mut [u64],
+    offsets: &mut [u32],
+    standing: &mut [[u64; WORDS]],
+    slot: &mut [u64; WORDS],
 ) -> Plan<'a>
     requires sound_template { SoundTemplate search.template }
     requires sound_set { SoundSet set.now.letters.now set.now.lengths.now }
-    requires template_in_bounds { (templates.size search.template ≤ length inside.old) × (length set.now.lengths.now < length firsts.old) × (length set.now.lengths.now < length offsets.old) × (letter_bases * row_words ≤ length standing.old) × (length slot.old ≡ row_words) }
+    requires template_in_bounds { (templates.size search.template ≤ length inside.old) × (length set.now.lengths.now < length firsts.old) × (length set.now.lengths.now < length offsets.old) × (letter_bases ≤ length standing.old) }
     ensures plan { (result.search ≡ search) × (result.letters.now ≡ set.now.letters.now) × (result.layout.lengths.now ≡ set.now.lengths.now) }
+    ensures offsets { Offsets set.now.lengths.now offsets.new }
     ensures base_rows { BaseRows set.now.lengths.now set.now.letters.now standing.new }
     ensures slot { Slot search.template set.now.lengths.now set.now.letters.now slot.new 0 0 }
-    ensures standing_len_unchanged { (length standing.new ≡ length standing.old) × (length slot.new ≡ length slot.old) }
+    ensures standing_len_unchanged { (length offsets.new ≡ length offsets.old) × (length standing.new ≡ length standing.old) }
 {
     let template = search.template;
     place_letters(template, inside);
@@ -85,9 +84,8 @@ pub fn begin<'a, 's: 'a>(
         letters: set.letters,
         layout,
         inside,
-        offsets,
     };
-    letter_slots(&plan, standing);
+    letter_slots(&plan, offsets, standing);
     plan
 }
 
@@ -99,14 +97,14 @@ pub fn make<'a, 's: 'a>(
     inside: &'a mut [Spot],
     firsts: &'a mut [u32],
     offsets: &'a mut [u32],
-    standing: &'a mut [u64],
-    slots: &mut [u64; SLOTS],
+    standing: &'a mut [[u64; WORDS]],
+    slots: &mut [[u64; WORDS]; SLOTS],
     work: &mut [u64; WORDS],
-) -> Made<'a>
+) -> Weighing<'a>
     requires sound_template { SoundTemplate search.template }
     requires sound_set { SoundSet set.now.letters.now set.now.lengths.now }
-    requires template_in_bounds { (templates.size search.template ≤ length inside.old) × (length set.now.lengths.now < length firsts.old) × (length set.now.lengths.now < length offsets.old) × (base_of search.template * row_words ≤ length standing.old) × (length standing.old ≤ letter_shifts * letter_bases * row_words) }
-    ensures plan { (result.plan.search ≡ search) × (result.plan.letters.now ≡ set.now.letters.now) × (result.plan.layout.lengths.now ≡ set.now.lengths.now) }
+    requires template_in_bounds { (templates.size search.template ≤ length inside.old) × (length set.now.lengths.now < length firsts.old) × (length set.now.lengths.now < length offsets.old) × (base_of search.template ≤ length standing.old) × (length standing.old ≤ letter_shifts * letter_bases) }
+    ensures plan { (result.made.plan.search ≡ search) × (result.made.plan.letters.now ≡ set.now.letters.now) × (result.made.plan.layout.lengths.now ≡ set.now.lengths.now) }
     ensures slot { Slot search.template set.now.lengths.now set.now.letters.now (row_slot 0 slots.new) 0 0 }
 {
     let plan = begin(
@@ -116,8 +114,9 @@ pub fn make<'a, 's: 'a>(
         firsts,
         offsets,
         standing,
-        &mut slots[..WORDS],
+        &mut slots[0],
     );
     letter_rows(&plan, work, standing);
-    Made { plan, standing }
+    let made = Made { plan, standing };
+    Weighing { made, offsets }
 }

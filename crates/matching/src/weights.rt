@@ -1,7 +1,6 @@
 // Weighted supports: the counts of ways before a motif's last component, made once for all motifs of one prefix, and added where the
 // motif's row has a bit.
 ghost use Rattle.std.specs.Prelude.{true, map, ◌≡◌, ℕ, ◌+◌, ◌-◌, ◌*◌, ◌^◌, ◌≤◌, ◌<◌, length, take, drop, get_or};
-ghost use Rattle.rules.specs.Limits.{template_length, template_gap};
 ghost use Rattle.rules.specs.Profile.{base_of};
 ghost use Rattle.rules.specs.Lists as lists;
 ghost use Rattle.rules.specs.Sequences.{sequences};
@@ -12,10 +11,12 @@ ghost use Rattle.matching.specs.Path.{prefix_starts, Path};
 ghost use Rattle.rows.specs.Set.{row_marks, row_words, between, bits_at, is_marked, Bounded, Row};
 ghost use Rattle.matching.specs.Weights.{counts_at, kept_counts, HoldsCounts, counted_from, begun_counts, weight_at, weight_of, prefix_of, Leads, Counted};
 
-use super::made::{Made, Plan};
+use super::made::Weighing;
 use super::{SLOTS, WORDS, path};
+use rows::gap::Gap;
+use rows::set_bits::SetBits;
 use rows::{BITS, MARKS, counts};
-use rules::{Distances, Offset, Place};
+use rules::{Offset, Place};
 
 // What a component's ways are counted from in one sequence, where the row has a bit: for the first one way, and else what there is.
 fn begin(first: bool, row: &[u64], counts: &mut [u64])
@@ -35,52 +36,49 @@ fn lead_between(
     to: usize,
     a: Offset,
     e: Offset,
-    row: &[u64],
-    opened: &[u64],
+    row: &[u64; WORDS],
+    opened: &[u64; WORDS],
     first: bool,
-    apart: Distances,
+    gap: Gap,
     counts: &mut [u64],
 )
-    requires from_le_to { (from ≤ to) × (to ≤ length row.now) × (to ≤ length opened.now) × (a.0 ≤ e.0) × (e.0 ≤ length counts.old) × (e.0 - a.0 ≤ 64 * (to - from)) }
-    requires le_d { (1 ≤ apart.near) × (apart.near ≤ template_length + template_gap) × (1 ≤ apart.count) × (apart.count ≤ template_gap + 1) }
+    requires from_le_to { (from ≤ to) × (to ≤ row_words) × (a.0 ≤ e.0) × (e.0 ≤ length counts.old) × (e.0 - a.0 ≤ 64 * (to - from)) }
     requires by_index { (i : ℕ) → get_or (masked (held (between from to row.now)) (counted_from first (between a.0 e.0 counts.old))) i 0 ≤ count_most }
-    requires by_index_2 { (i : ℕ) → get_or (held (between from to opened.now)) i 0 ≡ 0 → get_or (added apart.near (apart.near + apart.count - 1) (masked (held (between from to row.now)) (counted_from first (between a.0 e.0 counts.old)))) i 0 ≡ 0 }
+    requires by_index_2 { (i : ℕ) → get_or (held (between from to opened.now)) i 0 ≡ 0 → get_or (added gap.apart.near (gap.apart.near + gap.apart.count - 1) (masked (held (between from to row.now)) (counted_from first (between a.0 e.0 counts.old)))) i 0 ≡ 0 }
     ensures counts_unchanged { (take a.0 counts.new ≡ take a.0 counts.old) × (drop e.0 counts.new ≡ drop e.0 counts.old) × (length counts.new ≡ length counts.old) }
-    ensures counts_after { masked (held (between from to opened.now)) (between a.0 e.0 counts.new) ≡ added apart.near (apart.near + apart.count - 1) (masked (held (between from to row.now)) (counted_from first (between a.0 e.0 counts.old))) }
+    ensures counts_after { masked (held (between from to opened.now)) (between a.0 e.0 counts.new) ≡ added gap.apart.near (gap.apart.near + gap.apart.count - 1) (masked (held (between from to row.now)) (counted_from first (between a.0 e.0 counts.old))) }
 {
     let x = a.0;
     let y = e.0;
     begin(first, &row[from..to], &mut counts[x..y]);
-    counts::lead(&row[from..to], &opened[from..to], apart, &mut counts[x..y]);
+    counts::lead(&row[from..to], &opened[from..to], gap, &mut counts[x..y]);
 }
 
 // The same in the sequences of one word of marks, those that have one.
 fn lead_sequences(
-    plan: &Plan,
+    weighing: &Weighing,
     w: usize,
-    row: &[u64],
-    opened: &[u64],
+    row: &[u64; WORDS],
+    opened: &[u64; WORDS],
     first: bool,
-    apart: Distances,
+    gap: Gap,
     counts: &mut [u64],
 )
-    requires w_bound { (w < row_marks) × (1 ≤ apart.near) × (apart.near ≤ template_length + template_gap) × (1 ≤ apart.count) × (apart.count ≤ template_gap + 1) }
-    requires bounded { Bounded plan.now.layout.lengths.now row.now }
-    requires lengths_in_bounds { (length row.now ≡ row_words) × (length opened.now ≡ length row.now) × (lists.sum plan.now.layout.lengths.now ≤ length counts.old) }
-    requires by_index { (k : ℕ) → w * 64 ≤ k → k < length plan.now.layout.lengths.now → is_marked row.now k ≡ true → (i : ℕ) → get_or (begun_counts first plan.now.layout.lengths.now row.now counts.old k) i 0 ≤ count_most }
-    requires by_index_2 { (k : ℕ) → w * 64 ≤ k → k < length plan.now.layout.lengths.now → is_marked row.now k ≡ true → (i : ℕ) → get_or (bits_at plan.now.layout.lengths.now k opened.now) i 0 ≡ 0 → get_or (added apart.near (apart.near + apart.count - 1) (begun_counts first plan.now.layout.lengths.now row.now counts.old k)) i 0 ≡ 0 }
-    ensures by_index_3 { (k : ℕ) → w * 64 ≤ k → k < w * 64 + 64 → is_marked row.now k ≡ true → kept_counts plan.now.layout.lengths.now opened.now counts.new k ≡ added apart.near (apart.near + apart.count - 1) (begun_counts first plan.now.layout.lengths.now row.now counts.old k) }
-    ensures by_index_4 { (k : ℕ) → k < w * 64 → k < length plan.now.layout.lengths.now → counts_at plan.now.layout.lengths.now k counts.new ≡ counts_at plan.now.layout.lengths.now k counts.old }
-    ensures by_index_5 { (k : ℕ) → w * 64 + 64 ≤ k → k < length plan.now.layout.lengths.now → counts_at plan.now.layout.lengths.now k counts.new ≡ counts_at plan.now.layout.lengths.now k counts.old }
+    requires w_bound { w < row_marks }
+    requires bounded { Bounded weighing.now.made.plan.layout.lengths.now row.now }
+    requires lengths_in_bounds { lists.sum weighing.now.made.plan.layout.lengths.now ≤ length counts.old }
+    requires by_index { (k : ℕ) → w * 64 ≤ k → k < length weighing.now.made.plan.layout.lengths.now → is_marked row.now k ≡ true → (i : ℕ) → get_or (begun_counts first weighing.now.made.plan.layout.lengths.now row.now counts.old k) i 0 ≤ count_most }
+    requires by_index_2 { (k : ℕ) → w * 64 ≤ k → k < length weighing.now.made.plan.layout.lengths.now → is_marked row.now k ≡ true → (i : ℕ) → get_or (bits_at weighing.now.made.plan.layout.lengths.now k opened.now) i 0 ≡ 0 → get_or (added gap.apart.near (gap.apart.near + gap.apart.count - 1) (begun_counts first weighing.now.made.plan.layout.lengths.now row.now counts.old k)) i 0 ≡ 0 }
+    ensures by_index_3 { (k : ℕ) → w * 64 ≤ k → k < w * 64 + 64 → is_marked row.now k ≡ true → kept_counts weighing.now.made.plan.layout.lengths.now opened.now counts.new k ≡ added gap.apart.near (gap.apart.near + gap.apart.count - 1) (begun_counts first weighing.now.made.plan.layout.lengths.now row.now counts.old k) }
+    ensures by_index_4 { (k : ℕ) → k < w * 64 → k < length weighing.now.made.plan.layout.lengths.now → counts_at weighing.now.made.plan.layout.lengths.now k counts.new ≡ counts_at weighing.now.made.plan.layout.lengths.now k counts.old }
+    ensures by_index_5 { (k : ℕ) → w * 64 + 64 ≤ k → k < length weighing.now.made.plan.layout.lengths.now → counts_at weighing.now.made.plan.layout.lengths.now k counts.new ≡ counts_at weighing.now.made.plan.layout.lengths.now k counts.old }
     ensures counts_len_unchanged { length counts.new ≡ length counts.old }
 {
-    let layout = plan.layout;
-    let offsets = plan.offsets;
+    let layout = weighing.made.plan.layout;
+    let offsets = weighing.offsets;
     let base = w * BITS;
-    let mut rest = row[w];
-    while rest != 0 {
-        let zeros = u64::trailing_zeros(rest);
-        let at = base + zeros as usize;
+    for place in SetBits(row[w]) {
+        let at = base + place as usize;
         let (from, to) = layout.words(at);
         let a = offsets[at] as usize;
         let e = offsets[at + 1] as usize;
@@ -92,10 +90,9 @@ fn lead_sequences(
             row,
             opened,
             first,
-            apart,
+            gap,
             counts,
         );
-        rest &= rest - 1;
     }
 }
 
@@ -103,37 +100,36 @@ fn lead_sequences(
 // long sequences took a quarter longer.
 #[inline(never)]
 fn lead_all(
-    plan: &Plan,
-    row: &[u64],
-    opened: &[u64],
+    weighing: &Weighing,
+    row: &[u64; WORDS],
+    opened: &[u64; WORDS],
     first: bool,
-    apart: Distances,
+    gap: Gap,
     counts: &mut [u64],
 )
-    requires le_d { (1 ≤ apart.near) × (apart.near ≤ template_length + template_gap) × (1 ≤ apart.count) × (apart.count ≤ template_gap + 1) }
-    requires bounded { Bounded plan.now.layout.lengths.now row.now }
-    requires lengths_in_bounds { (length row.now ≡ row_words) × (length opened.now ≡ length row.now) × (lists.sum plan.now.layout.lengths.now ≤ length counts.old) }
-    requires by_index { (k : ℕ) → k < length plan.now.layout.lengths.now → is_marked row.now k ≡ true → (i : ℕ) → get_or (begun_counts first plan.now.layout.lengths.now row.now counts.old k) i 0 ≤ count_most }
-    requires by_index_2 { (k : ℕ) → k < length plan.now.layout.lengths.now → is_marked row.now k ≡ true → (i : ℕ) → get_or (bits_at plan.now.layout.lengths.now k opened.now) i 0 ≡ 0 → get_or (added apart.near (apart.near + apart.count - 1) (begun_counts first plan.now.layout.lengths.now row.now counts.old k)) i 0 ≡ 0 }
-    ensures holds_counts { HoldsCounts (is_marked row.now) (λ k. added apart.near (apart.near + apart.count - 1) (begun_counts first plan.now.layout.lengths.now row.now counts.old k)) plan.now.layout.lengths.now opened.now counts.new (length plan.now.layout.lengths.now) }
+    requires bounded { Bounded weighing.now.made.plan.layout.lengths.now row.now }
+    requires lengths_in_bounds { lists.sum weighing.now.made.plan.layout.lengths.now ≤ length counts.old }
+    requires by_index { (k : ℕ) → k < length weighing.now.made.plan.layout.lengths.now → is_marked row.now k ≡ true → (i : ℕ) → get_or (begun_counts first weighing.now.made.plan.layout.lengths.now row.now counts.old k) i 0 ≤ count_most }
+    requires by_index_2 { (k : ℕ) → k < length weighing.now.made.plan.layout.lengths.now → is_marked row.now k ≡ true → (i : ℕ) → get_or (bits_at weighing.now.made.plan.layout.lengths.now k opened.now) i 0 ≡ 0 → get_or (added gap.apart.near (gap.apart.near + gap.apart.count - 1) (begun_counts first weighing.now.made.plan.layout.lengths.now row.now counts.old k)) i 0 ≡ 0 }
+    ensures holds_counts { HoldsCounts (is_marked row.now) (λ k. added gap.apart.near (gap.apart.near + gap.apart.count - 1) (begun_counts first weighing.now.made.plan.layout.lengths.now row.now counts.old k)) weighing.now.made.plan.layout.lengths.now opened.now counts.new (length weighing.now.made.plan.layout.lengths.now) }
     ensures counts_len_unchanged { length counts.new ≡ length counts.old }
 {
     for w in 0..MARKS {
-        lead_sequences(plan, w, row, opened, first, apart, counts);
+        lead_sequences(weighing, w, row, opened, first, gap, counts);
     }
 }
 
 // The sum of the counts at which a row has a bit, in the sequences of one word of marks, those that have one.
-fn add_sequences(plan: &Plan, w: usize, row: &[u64], counts: &[u64]) -> u64
+fn add_sequences(weighing: &Weighing, w: usize, row: &[u64; WORDS], counts: &[u64]) -> u64
     requires w_bound { w < row_marks }
-    requires bounded { Bounded plan.now.layout.lengths.now row.now }
-    requires lengths_in_bounds { (length row.now ≡ row_words) × (lists.sum plan.now.layout.lengths.now ≤ length counts.now) }
-    requires by_index { (k : ℕ) → k < length plan.now.layout.lengths.now → is_marked row.now k ≡ true → (p : ℕ) → get_or plan.now.layout.lengths.now k 0 ≤ p → get_or (bits_at plan.now.layout.lengths.now k row.now) p 0 ≡ 0 }
-    requires w_bound_2 { lists.sum (map (weight_at plan.now.layout.lengths.now row.now counts.now) (lists.run (w * 64) 64)) < 2 ^ 64 }
-    ensures { result ≡ lists.sum (map (weight_at plan.now.layout.lengths.now row.now counts.now) (lists.run (w * 64) 64)) }
+    requires bounded { Bounded weighing.now.made.plan.layout.lengths.now row.now }
+    requires lengths_in_bounds { lists.sum weighing.now.made.plan.layout.lengths.now ≤ length counts.now }
+    requires by_index { (k : ℕ) → k < length weighing.now.made.plan.layout.lengths.now → is_marked row.now k ≡ true → (p : ℕ) → get_or weighing.now.made.plan.layout.lengths.now k 0 ≤ p → get_or (bits_at weighing.now.made.plan.layout.lengths.now k row.now) p 0 ≡ 0 }
+    requires w_bound_2 { lists.sum (map (weight_at weighing.now.made.plan.layout.lengths.now row.now counts.now) (lists.run (w * 64) 64)) < 2 ^ 64 }
+    ensures { result ≡ lists.sum (map (weight_at weighing.now.made.plan.layout.lengths.now row.now counts.now) (lists.run (w * 64) 64)) }
 {
-    let layout = plan.layout;
-    let offsets = plan.offsets;
+    let layout = weighing.made.plan.layout;
+    let offsets = weighing.offsets;
     let base = w * BITS;
     let mut total: u64 = 0;
     // Kept by hand: by `SetBits` searches took 4 to 8 in 100 longer, though they ran as many instructions.
@@ -151,16 +147,16 @@ fn add_sequences(plan: &Plan, w: usize, row: &[u64], counts: &[u64]) -> u64
 }
 
 // The same in all sequences that have a mark.
-fn add_all(plan: &Plan, row: &[u64], counts: &[u64]) -> u64
-    requires bounded { Bounded plan.now.layout.lengths.now row.now }
-    requires lengths_in_bounds { (length row.now ≡ row_words) × (lists.sum plan.now.layout.lengths.now ≤ length counts.now) }
-    requires by_index { (k : ℕ) → k < length plan.now.layout.lengths.now → is_marked row.now k ≡ true → (p : ℕ) → get_or plan.now.layout.lengths.now k 0 ≤ p → get_or (bits_at plan.now.layout.lengths.now k row.now) p 0 ≡ 0 }
-    requires counts_bound { weight_of plan.now.layout.lengths.now row.now counts.now < 2 ^ 64 }
-    ensures { result ≡ weight_of plan.now.layout.lengths.now row.now counts.now }
+fn add_all(weighing: &Weighing, row: &[u64; WORDS], counts: &[u64]) -> u64
+    requires bounded { Bounded weighing.now.made.plan.layout.lengths.now row.now }
+    requires lengths_in_bounds { lists.sum weighing.now.made.plan.layout.lengths.now ≤ length counts.now }
+    requires by_index { (k : ℕ) → k < length weighing.now.made.plan.layout.lengths.now → is_marked row.now k ≡ true → (p : ℕ) → get_or weighing.now.made.plan.layout.lengths.now k 0 ≤ p → get_or (bits_at weighing.now.made.plan.layout.lengths.now k row.now) p 0 ≡ 0 }
+    requires counts_bound { weight_of weighing.now.made.plan.layout.lengths.now row.now counts.now < 2 ^ 64 }
+    ensures { result ≡ weight_of weighing.now.made.plan.layout.lengths.now row.now counts.now }
 {
     let mut total: u64 = 0;
     for w in 0..MARKS {
-        total += add_sequences(plan, w, row, counts);
+        total += add_sequences(weighing, w, row, counts);
     }
     total
 }
@@ -169,19 +165,19 @@ fn add_all(plan: &Plan, row: &[u64], counts: &[u64]) -> u64
 // row of the prefix that ends one says where it stands, and the gap after it is opened, as it is in the prefix's slot. Before an only
 // component there is one way everywhere.
 fn count_ways(
-    made: &Made,
+    weighing: &Weighing,
     motif: u64,
-    slots: &[u64; SLOTS],
+    slots: &[[u64; WORDS]; SLOTS],
     spare: &mut [u64; WORDS],
     ways: &mut [u64],
 )
-    requires motif_bound { motif < base_of made.now.plan.search.template ^ made.now.plan.depth }
-    requires path { Path made.now.plan.search.template made.now.plan.layout.lengths.now made.now.plan.letters.now slots.now made.now.plan.depth motif }
-    requires letters_in_bounds { length made.now.plan.letters.now ≤ length ways.old }
-    ensures leads { Leads made.now.plan.search.template made.now.plan.layout.lengths.now made.now.plan.letters.now (prefix_of made.now.plan.search.template motif) ways.new }
+    requires motif_bound { motif < base_of weighing.now.made.plan.search.template ^ weighing.now.made.plan.depth }
+    requires path { Path weighing.now.made.plan.search.template weighing.now.made.plan.layout.lengths.now weighing.now.made.plan.letters.now slots.now weighing.now.made.plan.depth motif }
+    requires letters_in_bounds { length weighing.now.made.plan.letters.now ≤ length ways.old }
+    ensures leads { Leads weighing.now.made.plan.search.template weighing.now.made.plan.layout.lengths.now weighing.now.made.plan.letters.now (prefix_of weighing.now.made.plan.search.template motif) ways.new }
     ensures ways_len_unchanged { length ways.new ≡ length ways.old }
 {
-    let plan = made.plan;
+    let plan = weighing.made.plan;
     let template = plan.search.template;
     let profile = template.profile;
     let components = template.components();
@@ -195,7 +191,9 @@ fn count_ways(
     for c in 1..count {
         let before = components[c - 1];
         let here = components[c];
-        let apart = here.after(before);
+        let gap = Gap {
+            apart: here.after(before),
+        };
         let more = before.length as u8;
         size += more;
         let left = (plan.depth - size) as u32;
@@ -204,36 +202,36 @@ fn count_ways(
             letters: size,
             number,
         };
-        path::support(made, prefix, slots, 0, spare);
+        path::support(&weighing.made, prefix, slots, 0, spare);
         let opened = path::slot(size as usize, slots);
-        lead_all(&plan, spare, opened, c == 1, apart, ways);
+        lead_all(weighing, spare, opened, c == 1, gap, ways);
     }
 }
 
 // The weighted support of a motif whose path and row these are. `counted` is the prefix that `ways` was counted for, if it was: it is
 // counted anew only for another one.
 pub fn weight(
-    made: &Made,
+    weighing: &Weighing,
     motif: u64,
     prefix: u64,
     counted: Option<u64>,
-    slots: &[u64; SLOTS],
+    slots: &[[u64; WORDS]; SLOTS],
     row: &[u64; WORDS],
     spare: &mut [u64; WORDS],
     ways: &mut [u64],
 ) -> u64
-    requires motif_bound { (motif < base_of made.now.plan.search.template ^ made.now.plan.depth) × (prefix ≡ prefix_of made.now.plan.search.template motif) }
-    requires path { Path made.now.plan.search.template made.now.plan.layout.lengths.now made.now.plan.letters.now slots.now made.now.plan.depth motif }
-    requires row { Row (prefix_starts made.now.plan.search.template made.now.plan.depth motif) made.now.plan.layout.lengths.now made.now.plan.letters.now row.now }
-    requires counted { Counted made.now.plan.search.template made.now.plan.layout.lengths.now made.now.plan.letters.now counted ways.old }
-    requires letters_in_bounds { length made.now.plan.letters.now ≤ length ways.old }
-    ensures value { result ≡ weight (parts made.now.plan.search.template made.now.plan.depth motif) (sequences made.now.plan.letters.now made.now.plan.layout.lengths.now) }
-    ensures leads { Leads made.now.plan.search.template made.now.plan.layout.lengths.now made.now.plan.letters.now prefix ways.new }
+    requires motif_bound { (motif < base_of weighing.now.made.plan.search.template ^ weighing.now.made.plan.depth) × (prefix ≡ prefix_of weighing.now.made.plan.search.template motif) }
+    requires path { Path weighing.now.made.plan.search.template weighing.now.made.plan.layout.lengths.now weighing.now.made.plan.letters.now slots.now weighing.now.made.plan.depth motif }
+    requires row { Row (prefix_starts weighing.now.made.plan.search.template weighing.now.made.plan.depth motif) weighing.now.made.plan.layout.lengths.now weighing.now.made.plan.letters.now row.now }
+    requires counted { Counted weighing.now.made.plan.search.template weighing.now.made.plan.layout.lengths.now weighing.now.made.plan.letters.now counted ways.old }
+    requires letters_in_bounds { length weighing.now.made.plan.letters.now ≤ length ways.old }
+    ensures value { result ≡ weight (parts weighing.now.made.plan.search.template weighing.now.made.plan.depth motif) (sequences weighing.now.made.plan.letters.now weighing.now.made.plan.layout.lengths.now) }
+    ensures leads { Leads weighing.now.made.plan.search.template weighing.now.made.plan.layout.lengths.now weighing.now.made.plan.letters.now prefix ways.new }
     ensures ways_len_unchanged { length ways.new ≡ length ways.old }
 {
     let stale = counted != Some(prefix);
     if stale {
-        count_ways(made, motif, slots, spare, ways);
+        count_ways(weighing, motif, slots, spare, ways);
     }
-    add_all(&made.plan, row, ways)
+    add_all(weighing, row, ways)
 }

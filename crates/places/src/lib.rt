@@ -27,7 +27,7 @@ fn frequent(quorum: u64, found: Option<u32>) -> bool
 
 // Whether the place of a search is the ended place or a candidate: one whose prefix a letter shorter is frequent. Where there is a
 // candidate, the slots have its path then; the first of them is made before.
-fn passes(made: &Made, slots: &mut [u64; SLOTS], spare: &mut [u64; WORDS]) -> bool
+fn passes(made: &Made, slots: &mut [[u64; WORDS]; SLOTS], spare: &mut [u64; WORDS]) -> bool
     requires place_value { meets_place_rule made.now.plan.search.template made.now.plan.search.place ≡ true }
     requires slot { Slot made.now.plan.search.template made.now.plan.layout.lengths.now made.now.plan.letters.now (row_slot 0 slots.old) 0 0 }
     ensures value { result ≡ is_passing made.now.plan.letters.now made.now.plan.layout.lengths.now made.now.plan.search }
@@ -46,7 +46,7 @@ fn passes(made: &Made, slots: &mut [u64; SLOTS], spare: &mut [u64; WORDS]) -> bo
 // goes.
 pub fn check_passes(
     made: &Made,
-    slots: &mut [u64; SLOTS],
+    slots: &mut [[u64; WORDS]; SLOTS],
     spare: &mut [u64; WORDS],
 ) -> Result<(), Refusal>
     requires place_value { meets_place_rule made.now.plan.search.template made.now.plan.search.place ≡ true }
@@ -70,10 +70,10 @@ fn candidate_alone(set: &Sequences, s: Search) -> bool
     let mut inside = [Spot::FIRST; matching::LETTERS];
     let mut firsts = [0u32; matching::FIRSTS];
     let mut offsets = [0u32; matching::OFFSETS];
-    let mut bases = [0u64; matching::ROWS];
-    let mut letter = [0u64; matching::WORDS];
-    let mut even = [0u64; matching::WORDS];
-    let mut odd = [0u64; matching::WORDS];
+    let mut bases = [[0u64; WORDS]; matching::BASES];
+    let mut letter = [0u64; WORDS];
+    let mut even = [0u64; WORDS];
+    let mut odd = [0u64; WORDS];
     let plan = tables::begin(
         s,
         set,

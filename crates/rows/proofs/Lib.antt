@@ -27,6 +27,7 @@ pub mod Gathered
 pub mod Planes
 pub mod Back
 pub mod Adding
+pub mod Arrays
 pub mod Sliding
 pub mod Leading
 pub mod Ones

@@ -1,15 +1,14 @@
 // Counts over the places of one sequence: in how many ways the parts before one can be placed so that it may start there. A row of
 // bits says where those are that go on.
 ghost use Rattle.std.specs.Prelude.{not, [], ◌∷◌, ◌≡◌, ℕ, ◌+◌, ◌-◌, ◌*◌, ◌/◌, ◌%◌, ◌^◌, ◌≤◌, ◌<◌, eqb, length, take, get_or, replicate};
-ghost use Rattle.rules.specs.Limits.{template_length, template_gap};
 ghost use Rattle.rules.specs.Lists.{if, sum};
 ghost use Rattle.rows.specs.Bits.{held};
 ghost use Rattle.rows.specs.Flags.{count_most, ago, recent, around, back, added, has_left, masked};
 ghost use Rattle.rows.specs.Words.{behind_word};
 
+use super::gap::Gap;
 use super::set_bits::SetBits;
-use super::words;
-use rules::Distances;
+use super::words::{self, Shift};
 
 // The words of a stretch: so many of a long row are looked at together.
 const STRETCH: usize = 16;
@@ -29,27 +28,35 @@ fn before(list: &[u64], o: usize, d: usize) -> u64
     if d <= o { list[o - d] } else { 0 }
 }
 
+// A row, and counts that have its words: where it has a bit, none is so large that those of a gap could not be added.
+#[derive(Clone, Copy)]
+struct Ways<'a> {
+    row: &'a [u64],
+    counts: &'a [u64],
+    ghost inside: { length counts.now ≤ 64 * length row.now },
+    ghost few: { (i : ℕ) → get_or (masked (held row.now) counts.now) i 0 ≤ count_most },
+}
+
 // The count that stands `d` places before `o`, if the row has a bit there, and else 0.
-fn held_before(row: &[u64], counts: &[u64], o: usize, d: usize) -> u64
-    requires { (o ≤ length counts.now) × (1 ≤ d) × (length counts.now ≤ 64 * length row.now) }
-    ensures { result ≡ ago (masked (held row.now) counts.now) o d }
+fn held_before(ways: Ways, o: usize, d: usize) -> u64
+    requires { (o ≤ length ways.counts.now) × (1 ≤ d) }
+    ensures { result ≡ ago (masked (held ways.entry.row.now) ways.entry.counts.now) o d }
 {
     if o < d {
         return 0;
     }
     let p = o - d;
-    when((row[p / 64] >> (p % 64)) & 1, counts[p])
+    when((ways.row[p / 64] >> (p % 64)) & 1, ways.counts[p])
 }
 
 // The sum of the `count` counts that stand `near` places before `o` and further back, those at which the row has a bit.
-fn window(row: &[u64], counts: &[u64], o: usize, apart: Distances) -> u64
-    requires o_in_bounds { (o ≤ length counts.now) × (1 ≤ apart.near) × (apart.near ≤ template_length + template_gap) × (apart.count ≤ template_gap + 1) × (length counts.now ≤ 64 * length row.now) }
-    requires by_index { (i : ℕ) → get_or (masked (held row.now) counts.now) i 0 ≤ count_most }
-    ensures { result ≡ recent (masked (held row.now) counts.now) o apart.near apart.count }
+fn window(ways: Ways, o: usize, gap: Gap) -> u64
+    requires { o ≤ length ways.counts.now }
+    ensures { result ≡ recent (masked (held ways.entry.row.now) ways.entry.counts.now) o gap.apart.near gap.apart.count }
 {
     let mut total: u64 = 0;
-    for k in 0..apart.count {
-        total += held_before(row, counts, o, apart.near + k);
+    for k in 0..gap.apart.count {
+        total += held_before(ways, o, gap.apart.near + k);
     }
     total
 }
@@ -60,24 +67,23 @@ fn shifted(row: &[u64], d: usize, q: usize) -> u64
     ensures { result ≡ behind_word (d / 64) (d % 64) row.now q }
 {
     let e = d / 64;
-    let i = d % 64;
-    words::up(i, before(row, q, e + 1), before(row, q, e))
+    let by = Shift { places: d % 64 };
+    words::up(by, before(row, q, e + 1), before(row, q, e))
 }
 
-// Opens a gap at the places of one word, those from `from` on: each gets the counts of all the places that reach it and at which the row has
-// a bit, added. It goes from the last place to the first, so that what is still to be read is not written yet, and one sum slides along:
-// `total` is that past the last place, and the answer that at `from`. Most often no place comes into reach in a word and none is gone from
-// it: then the sum stays.
-fn slide(row: &[u64], apart: Distances, from: usize, total: u64, counts: &mut [u64]) -> u64
-    requires le_d { (1 ≤ apart.near) × (apart.near ≤ template_length + template_gap) × (1 ≤ apart.count) × (apart.count ≤ template_gap + 1) }
+// Opens a gap at the places of one word, those from `from` on: each gets the counts of all the places that reach it and at which the row
+// has a bit, added. It goes from the last place to the first, so that what is still to be read is not written yet, and one sum slides
+// along: `total` is that past the last place, and the answer that at `from`. Most often no place comes into reach in a word and none is
+// gone from it: then the sum stays.
+fn slide(row: &[u64], gap: Gap, from: usize, total: u64, counts: &mut [u64]) -> u64
     requires from_in_bounds { (from < length counts.old) × (from % 64 ≡ 0) × (length counts.old ≤ from + 64) × (length counts.old ≤ 64 * length row.now) }
-    requires total_value { total ≡ recent (masked (held row.now) counts.old) (length counts.old) apart.near apart.count }
+    requires total_value { total ≡ recent (masked (held row.now) counts.old) (length counts.old) gap.apart.near gap.apart.count }
     requires by_index { (i : ℕ) → get_or (masked (held row.now) counts.old) i 0 ≤ count_most }
-    ensures value { result ≡ recent (masked (held row.now) counts.old) from apart.near apart.count }
-    ensures counts_after { counts.new ≡ back (around (masked (held row.now) counts.old) apart.near apart.count) from counts.old }
+    ensures value { result ≡ recent (masked (held row.now) counts.old) from gap.apart.near gap.apart.count }
+    ensures counts_after { counts.new ≡ back (around (masked (held row.now) counts.old) gap.apart.near gap.apart.count) from counts.old }
 {
-    let far = apart.near + apart.count;
-    let come = shifted(row, apart.near - 1, from / 64);
+    let far = gap.apart.near + gap.apart.count;
+    let come = shifted(row, gap.apart.near - 1, from / 64);
     let gone = shifted(row, far - 1, from / 64);
     if come | gone == 0 {
         counts[from..].fill(total);
@@ -87,7 +93,7 @@ fn slide(row: &[u64], apart: Distances, from: usize, total: u64, counts: &mut [u
     for o in (from..counts.len()).rev() {
         let b = o - from;
         sum = sum + when((gone >> b) & 1, before(counts, o + 1, far))
-            - when((come >> b) & 1, before(counts, o + 1, apart.near));
+            - when((come >> b) & 1, before(counts, o + 1, gap.apart.near));
         counts[o] = sum;
     }
     sum
@@ -98,31 +104,31 @@ fn slide(row: &[u64], apart: Distances, from: usize, total: u64, counts: &mut [u
 fn lead_word(
     row: &[u64],
     opened: &[u64],
-    apart: Distances,
+    gap: Gap,
     from: usize,
     total: u64,
     counts: &mut [u64],
 ) -> u64
-    requires le_d { (1 ≤ apart.near) × (apart.near ≤ template_length + template_gap) × (1 ≤ apart.count) × (apart.count ≤ template_gap + 1) × (length opened.now ≡ length row.now) }
+    requires opened_len { length opened.now ≡ length row.now }
     requires from_in_bounds { (from < length counts.old) × (from % 64 ≡ 0) × (length counts.old ≤ from + 64) × (length counts.old ≤ 64 * length row.now) }
-    requires total_value { 0 < get_or opened.now (from / 64) 0 → total ≡ recent (masked (held row.now) counts.old) (length counts.old) apart.near apart.count }
+    requires total_value { 0 < get_or opened.now (from / 64) 0 → total ≡ recent (masked (held row.now) counts.old) (length counts.old) gap.apart.near gap.apart.count }
     requires by_index { (i : ℕ) → get_or (masked (held row.now) counts.old) i 0 ≤ count_most }
-    requires by_index_2 { (p : ℕ) → p < length counts.old → get_or (held opened.now) p 0 ≡ 0 → recent (masked (held row.now) counts.old) p apart.near apart.count ≡ 0 }
-    ensures value { result ≡ recent (masked (held row.now) counts.old) from apart.near apart.count }
+    requires by_index_2 { (p : ℕ) → p < length counts.old → get_or (held opened.now) p 0 ≡ 0 → recent (masked (held row.now) counts.old) p gap.apart.near gap.apart.count ≡ 0 }
+    ensures value { result ≡ recent (masked (held row.now) counts.old) from gap.apart.near gap.apart.count }
     ensures counts_unchanged { take from counts.new ≡ take from counts.old }
-    ensures counts_after { masked (held opened.now) counts.new ≡ back (around (masked (held row.now) counts.old) apart.near apart.count) from (masked (held opened.now) counts.old) }
+    ensures counts_after { masked (held opened.now) counts.new ≡ back (around (masked (held row.now) counts.old) gap.apart.near gap.apart.count) from (masked (held opened.now) counts.old) }
 {
     if opened[from / 64] == 0 {
         return 0;
     }
-    slide(row, apart, from, total, counts)
+    slide(row, gap, from, total, counts)
 }
 
 // The sum past the last place, if the last word will need it: if the opened row has a bit there.
-fn sum_past(row: &[u64], opened: &[u64], apart: Distances, counts: &[u64]) -> u64
-    requires le_d { (1 ≤ apart.near) × (apart.near ≤ template_length + template_gap) × (apart.count ≤ template_gap + 1) × (length opened.now ≡ length row.now) × (length counts.now ≤ 64 * length row.now) }
+fn sum_past(row: &[u64], opened: &[u64], gap: Gap, counts: &[u64]) -> u64
+    requires opened_len { (length opened.now ≡ length row.now) × (length counts.now ≤ 64 * length row.now) }
     requires by_index { (i : ℕ) → get_or (masked (held row.now) counts.now) i 0 ≤ count_most }
-    ensures { 0 < get_or opened.now ((length counts.now - 1) / 64) 0 → result ≡ recent (masked (held row.now) counts.now) (length counts.now) apart.near apart.count }
+    ensures { 0 < get_or opened.now ((length counts.now - 1) / 64) 0 → result ≡ recent (masked (held row.now) counts.now) (length counts.now) gap.apart.near gap.apart.count }
 {
     let to = counts.len();
     if to == 0 {
@@ -131,24 +137,23 @@ fn sum_past(row: &[u64], opened: &[u64], apart: Distances, counts: &[u64]) -> u6
     if opened[(to - 1) / 64] == 0 {
         return 0;
     }
-    window(row, counts, to, apart)
+    window(Ways { row, counts }, to, gap)
 }
 
 // Opens a gap after the counts at which a row has a bit. The other row is that row with the gap opened: only where a word of it has a bit
 // are counts written, word by word from the last to the first.
-pub fn lead(row: &[u64], opened: &[u64], apart: Distances, counts: &mut [u64])
-    requires le_d { (1 ≤ apart.near) × (apart.near ≤ template_length + template_gap) × (1 ≤ apart.count) × (apart.count ≤ template_gap + 1) }
+pub fn lead(row: &[u64], opened: &[u64], gap: Gap, counts: &mut [u64])
     requires counts_len_bound { (length counts.old ≤ 64 * length row.now) × (length opened.now ≡ length row.now) }
     requires by_index { (i : ℕ) → get_or (masked (held row.now) counts.old) i 0 ≤ count_most }
-    requires by_index_2 { (p : ℕ) → get_or (held opened.now) p 0 ≡ 0 → get_or (added apart.near (apart.near + apart.count - 1) (masked (held row.now) counts.old)) p 0 ≡ 0 }
-    ensures { masked (held opened.now) counts.new ≡ added apart.near (apart.near + apart.count - 1) (masked (held row.now) counts.old) }
+    requires by_index_2 { (p : ℕ) → get_or (held opened.now) p 0 ≡ 0 → get_or (added gap.apart.near (gap.apart.near + gap.apart.count - 1) (masked (held row.now) counts.old)) p 0 ≡ 0 }
+    ensures { masked (held opened.now) counts.new ≡ added gap.apart.near (gap.apart.near + gap.apart.count - 1) (masked (held row.now) counts.old) }
 {
-    let mut total = sum_past(row, opened, apart, counts);
+    let mut total = sum_past(row, opened, gap, counts);
     let mut to = counts.len();
     // No `for`: one over the words has a value more to hold while the sum slides, and takes 15.6 in 100 more instructions.
     while 0 < to {
         let from = (to - 1) / 64 * 64;
-        total = lead_word(row, opened, apart, from, total, &mut counts[..to]);
+        total = lead_word(row, opened, gap, from, total, &mut counts[..to]);
         to = from;
     }
 }
@@ -195,13 +200,23 @@ fn add_word(word: u64, counts: &[u64]) -> u64
     total
 }
 
+// Words of a row that are side by side, and the counts of their places. Only the last word may have fewer than 64, and no bit past them.
+#[derive(Clone, Copy)]
+struct Part<'a> {
+    row: &'a [u64],
+    counts: &'a [u64],
+    ghost most: { 64 * length row.now ≤ length counts.now + 63 },
+    ghost least: { length counts.now ≤ 64 * length row.now },
+    ghost dark: { (p : ℕ) → length counts.now ≤ p → get_or (held row.now) p 0 ≡ 0 },
+    ghost small: { sum (masked (held row.now) counts.now) < 2 ^ 64 },
+}
+
 // The sum of the counts of the places at which some words of a row have a bit, word by word.
-fn add_words(row: &[u64], counts: &[u64]) -> u64
-    requires row_in_bounds { (64 * length row.now ≤ length counts.now + 63) × (length counts.now ≤ 64 * length row.now) }
-    requires by_index { (p : ℕ) → length counts.now ≤ p → get_or (held row.now) p 0 ≡ 0 }
-    requires counts_bound { sum (masked (held row.now) counts.now) < 2 ^ 64 }
-    ensures { result ≡ sum (masked (held row.now) counts.now) }
+fn add_words(part: Part) -> u64
+    ensures { result ≡ sum (masked (held part.entry.row.now) part.entry.counts.now) }
 {
+    let row = part.row;
+    let counts = part.counts;
     let mut total: u64 = 0;
     // By index: a `zip` with `chunks` takes twice the instructions for a word that is empty, as most are.
     for q in 0..row.len() {
@@ -213,16 +228,13 @@ fn add_words(row: &[u64], counts: &[u64]) -> u64
 }
 
 // The same, at once where all the words are empty.
-fn add_stretch(row: &[u64], counts: &[u64]) -> u64
-    requires row_in_bounds { (64 * length row.now ≤ length counts.now + 63) × (length counts.now ≤ 64 * length row.now) }
-    requires by_index { (p : ℕ) → length counts.now ≤ p → get_or (held row.now) p 0 ≡ 0 }
-    requires counts_bound { sum (masked (held row.now) counts.now) < 2 ^ 64 }
-    ensures { result ≡ sum (masked (held row.now) counts.now) }
+fn add_stretch(part: Part) -> u64
+    ensures { result ≡ sum (masked (held part.entry.row.now) part.entry.counts.now) }
 {
-    if empty(row) {
+    if empty(part.row) {
         return 0;
     }
-    add_words(row, counts)
+    add_words(part)
 }
 
 // The sum of the counts of the places at which a row has a bit. In a long sequence most words are empty, and so are most stretches of
@@ -239,9 +251,12 @@ pub fn add(row: &[u64], counts: &[u64]) -> u64
     // No `for`: it goes from stretch to stretch, and what is left of the row and of the counts is cut as it goes.
     while let Some((stretch, others)) = row.split_first_chunk::<STRETCH>() {
         let (near, far) = counts.split_at(counts.len().min(64 * STRETCH));
-        total += add_stretch(stretch, near);
+        total += add_stretch(Part {
+            row: stretch,
+            counts: near,
+        });
         row = others;
         counts = far;
     }
-    total + add_words(row, counts)
+    total + add_words(Part { row, counts })
 }

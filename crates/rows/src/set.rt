@@ -5,11 +5,12 @@ ghost use Rattle.rules.specs.Lists as lists;
 ghost use Rattle.rows.specs.Bits.{held};
 ghost use Rattle.rows.specs.Flags.{has_left};
 ghost use Rattle.rows.specs.Rows.{extended};
-ghost use Rattle.rows.specs.Set.{row_marks, words_of, first_word, Offsets, between, bits_at, is_marked, tally, extended_at, is_extended_marked, Filled, Marked, Bounded};
+ghost use Rattle.rows.specs.Set.{row_marks, row_words, words_of, first_word, Offsets, between, bits_at, is_marked, tally, extended_at, is_extended_marked, Filled, Marked, Bounded};
 
 use super::layout::Layout;
 use super::set_bits::SetBits;
-use super::{BITS, MARKS, words};
+use super::words::{self, Shift};
+use super::{BITS, MARKS, WORDS};
 
 // The words of `n` bits: of a sequence's letters, or of the marks of a set's sequences.
 fn words_of(n: u32) -> u32
@@ -49,11 +50,11 @@ pub fn lay_out<'a>(lengths: &'a [u32], firsts: &'a mut [u32], offsets: &mut [u32
 }
 
 // Marks the first `n` sequences of a row that has no marks.
-fn mark_first(n: usize, row: &mut [u64])
-    requires n_bound { (n ≤ sequence_set_sequences) × (row_marks ≤ length row.old) }
+fn mark_first(n: usize, row: &mut [u64; WORDS])
+    requires n_bound { n ≤ sequence_set_sequences }
     requires by_index { (k : ℕ) → k < sequence_set_sequences → get_or (held row.old) k 0 ≡ 0 }
     ensures marked { Marked (λ k. ltb k n) row.new sequence_set_sequences }
-    ensures row_len_unchanged { (length row.new ≡ length row.old) × ((q : ℕ) → row_marks ≤ q → get_or row.new q 0 ≡ get_or row.old q 0) }
+    ensures by_index_2 { (q : ℕ) → row_marks ≤ q → get_or row.new q 0 ≡ get_or row.old q 0 }
 {
     for k in 0..n {
         row[k / BITS] |= 1 << (k % BITS);
@@ -61,10 +62,10 @@ fn mark_first(n: usize, row: &mut [u64])
 }
 
 // The row that a first letter is added to: the `n` sequences all have a mark, and every bit is set.
-pub fn begin(n: usize, row: &mut [u64])
-    requires { (n ≤ sequence_set_sequences) × (row_marks ≤ length row.old) }
+pub fn begin(n: usize, row: &mut [u64; WORDS])
+    requires { n ≤ sequence_set_sequences }
     ensures marked { Marked (λ k. ltb k n) row.new sequence_set_sequences }
-    ensures row_len_unchanged { (length row.new ≡ length row.old) × ((q : ℕ) → row_marks ≤ q → q < length row.old → get_or row.new q 0 ≡ 2 ^ 64 - 1) }
+    ensures by_index { (q : ℕ) → row_marks ≤ q → q < row_words → get_or row.new q 0 ≡ 2 ^ 64 - 1 }
 {
     row.fill(u64::MAX);
     row[..MARKS].fill(0);
@@ -72,17 +73,17 @@ pub fn begin(n: usize, row: &mut [u64])
 }
 
 // One letter more in the words of a sequence. One word is looked at apart: most sets have short sequences.
-fn keep_sequence(row: &[u64], letter: &[u64], i: usize, out: &mut [u64]) -> bool
-    requires { (length letter.now ≡ length row.now) × (length out.old ≡ length row.now) × (i < 64) }
-    ensures out_after { held out.new ≡ extended i (held letter.now) (held row.now) }
+fn keep_sequence(row: &[u64], letter: &[u64], by: Shift, out: &mut [u64]) -> bool
+    requires { (length letter.now ≡ length row.now) × (length out.old ≡ length row.now) }
+    ensures out_after { held out.new ≡ extended by.places (held letter.now) (held row.now) }
     ensures value { result ≡ has_left (held out.new) }
 {
     if row.len() == 1 {
-        let word = row[0] & (letter[0] >> i);
+        let word = row[0] & (letter[0] >> by.places);
         out[0] = word;
         return word != 0;
     }
-    words::keep_letter(row, letter, i, out)
+    words::keep_letter(row, letter, by, out)
 }
 
 // What a letter more makes of a word of marks: those that are left, and how many are lost.
@@ -98,20 +99,19 @@ pub struct Kept {
 fn keep_sequences(
     layout: &Layout,
     w: usize,
-    row: &[u64],
-    letter: &[u64],
-    i: usize,
+    row: &[u64; WORDS],
+    letter: &[u64; WORDS],
+    by: Shift,
     most: u32,
-    out: &mut [u64],
+    out: &mut [u64; WORDS],
 ) -> Kept
-    requires w_bound { (w < row_marks) × (i < 64) }
+    requires w_bound { w < row_marks }
     requires bounded { Bounded layout.now.lengths.now row.now }
-    requires lengths_in_bounds { (first_word layout.now.lengths.now (length layout.now.lengths.now) ≤ length row.now) × (length letter.now ≡ length row.now) × (length out.old ≡ length row.now) }
-    ensures lost_bound { tally (is_extended_marked i layout.now.lengths.now letter.now row.now) (w * 64) 64 + result.lost ≤ tally (is_marked row.now) (w * 64) 64 }
-    ensures b_value { result.lost ≤ most → (b : ℕ) → b < 64 → eqb (get_or (held (result.left ∷ [])) b 0) 1 ≡ is_extended_marked i layout.now.lengths.now letter.now row.now (w * 64 + b) }
-    ensures out_unchanged { (take (first_word layout.now.lengths.now (min (w * 64) (length layout.now.lengths.now))) out.new ≡ take (first_word layout.now.lengths.now (min (w * 64) (length layout.now.lengths.now))) out.old) × (length out.new ≡ length out.old) }
-    ensures out_after { result.lost ≤ most → (k : ℕ) → w * 64 ≤ k → k < w * 64 + 64 → is_marked row.now k ≡ true → bits_at layout.now.lengths.now k out.new ≡ extended_at i layout.now.lengths.now letter.now row.now k }
-    ensures lost_value { result.lost ≤ most → tally (is_extended_marked i layout.now.lengths.now letter.now row.now) (w * 64) 64 + result.lost ≡ tally (is_marked row.now) (w * 64) 64 }
+    ensures lost_bound { tally (is_extended_marked by.places layout.now.lengths.now letter.now row.now) (w * 64) 64 + result.lost ≤ tally (is_marked row.now) (w * 64) 64 }
+    ensures b_value { result.lost ≤ most → (b : ℕ) → b < 64 → eqb (get_or (held (result.left ∷ [])) b 0) 1 ≡ is_extended_marked by.places layout.now.lengths.now letter.now row.now (w * 64 + b) }
+    ensures out_unchanged { take (first_word layout.now.lengths.now (min (w * 64) (length layout.now.lengths.now))) out.new ≡ take (first_word layout.now.lengths.now (min (w * 64) (length layout.now.lengths.now))) out.old }
+    ensures out_after { result.lost ≤ most → (k : ℕ) → w * 64 ≤ k → k < w * 64 + 64 → is_marked row.now k ≡ true → bits_at layout.now.lengths.now k out.new ≡ extended_at by.places layout.now.lengths.now letter.now row.now k }
+    ensures lost_value { result.lost ≤ most → tally (is_extended_marked by.places layout.now.lengths.now letter.now row.now) (w * 64) 64 + result.lost ≡ tally (is_marked row.now) (w * 64) 64 }
 {
     let layout = *layout;
     let base = w * BITS;
@@ -123,7 +123,7 @@ fn keep_sequences(
         }
         let at = base + place as usize;
         let (from, to) = layout.words(at);
-        let found = keep_sequence(&row[from..to], &letter[from..to], i, &mut out[from..to]);
+        let found = keep_sequence(&row[from..to], &letter[from..to], by, &mut out[from..to]);
         left |= u64::from(found) << place;
         lost += u32::from(!found);
     }
@@ -135,24 +135,23 @@ fn keep_sequences(
 fn keep_ones(
     layout: &Layout,
     w: usize,
-    row: &[u64],
-    letter: &[u64],
-    i: usize,
-    out: &mut [u64],
+    row: &[u64; WORDS],
+    letter: &[u64; WORDS],
+    by: Shift,
+    out: &mut [u64; WORDS],
 ) -> u64
-    requires w_bound { (w < row_marks) × (i < 64) }
+    requires w_bound { w < row_marks }
     requires short { layout.now.short ≡ true }
     requires bounded { Bounded layout.now.lengths.now row.now }
-    requires lengths_in_bounds { (first_word layout.now.lengths.now (length layout.now.lengths.now) ≤ length row.now) × (length letter.now ≡ length row.now) × (length out.old ≡ length row.now) }
-    ensures by_index { (b : ℕ) → b < 64 → eqb (get_or (held (result ∷ [])) b 0) 1 ≡ is_extended_marked i layout.now.lengths.now letter.now row.now (w * 64 + b) }
-    ensures out_unchanged { (take (first_word layout.now.lengths.now (min (w * 64) (length layout.now.lengths.now))) out.new ≡ take (first_word layout.now.lengths.now (min (w * 64) (length layout.now.lengths.now))) out.old) × (length out.new ≡ length out.old) }
-    ensures by_index_2 { (k : ℕ) → w * 64 ≤ k → k < w * 64 + 64 → is_marked row.now k ≡ true → bits_at layout.now.lengths.now k out.new ≡ extended_at i layout.now.lengths.now letter.now row.now k }
+    ensures by_index { (b : ℕ) → b < 64 → eqb (get_or (held (result ∷ [])) b 0) 1 ≡ is_extended_marked by.places layout.now.lengths.now letter.now row.now (w * 64 + b) }
+    ensures out_unchanged { take (first_word layout.now.lengths.now (min (w * 64) (length layout.now.lengths.now))) out.new ≡ take (first_word layout.now.lengths.now (min (w * 64) (length layout.now.lengths.now))) out.old }
+    ensures by_index_2 { (k : ℕ) → w * 64 ≤ k → k < w * 64 + 64 → is_marked row.now k ≡ true → bits_at layout.now.lengths.now k out.new ≡ extended_at by.places layout.now.lengths.now letter.now row.now k }
 {
     let base = MARKS + w * BITS;
     let mut marks: u64 = 0;
     for place in SetBits(row[w]) {
         let at = base + place as usize;
-        let word = row[at] & (letter[at] >> i);
+        let word = row[at] & (letter[at] >> by.places);
         out[at] = word;
         marks |= u64::from(word != 0) << place;
     }
@@ -163,28 +162,25 @@ fn keep_ones(
 // letter more in 1,024 sequences of one word takes 1.5 to 2.3 times as long.
 fn keep_short(
     layout: &Layout,
-    row: &[u64],
-    letter: &[u64],
-    i: usize,
+    row: &[u64; WORDS],
+    letter: &[u64; WORDS],
+    by: Shift,
     quorum: u32,
-    out: &mut [u64],
+    out: &mut [u64; WORDS],
 ) -> u32
-    requires i_bound { i < 64 }
     requires short { layout.now.short ≡ true }
     requires bounded { Bounded layout.now.lengths.now row.now }
-    requires lengths_in_bounds { (first_word layout.now.lengths.now (length layout.now.lengths.now) ≤ length row.now) × (length letter.now ≡ length row.now) × (length out.old ≡ length row.now) }
-    ensures lower_bound { tally (is_extended_marked i layout.now.lengths.now letter.now row.now) 0 sequence_set_sequences ≤ result }
-    ensures value { quorum ≤ result → result ≡ tally (is_extended_marked i layout.now.lengths.now letter.now row.now) 0 sequence_set_sequences }
-    ensures marked { quorum ≤ result → Marked (is_extended_marked i layout.now.lengths.now letter.now row.now) out.new sequence_set_sequences }
-    ensures filled { quorum ≤ result → Filled (is_marked row.now) (extended_at i layout.now.lengths.now letter.now row.now) layout.now.lengths.now out.new (length layout.now.lengths.now) }
-    ensures out_len_unchanged { length out.new ≡ length out.old }
+    ensures lower_bound { tally (is_extended_marked by.places layout.now.lengths.now letter.now row.now) 0 sequence_set_sequences ≤ result }
+    ensures value { quorum ≤ result → result ≡ tally (is_extended_marked by.places layout.now.lengths.now letter.now row.now) 0 sequence_set_sequences }
+    ensures marked { quorum ≤ result → Marked (is_extended_marked by.places layout.now.lengths.now letter.now row.now) out.new sequence_set_sequences }
+    ensures filled { quorum ≤ result → Filled (is_marked row.now) (extended_at by.places layout.now.lengths.now letter.now row.now) layout.now.lengths.now out.new (length layout.now.lengths.now) }
 {
     let mut able = count(MARKS, row);
     for w in 0..MARKS {
         if able < quorum {
             return able;
         }
-        let left = keep_ones(layout, w, row, letter, i, out);
+        let left = keep_ones(layout, w, row, letter, by, out);
         out[w] = left;
         able -= (row[w] ^ left).count_ones();
     }
@@ -195,41 +191,38 @@ fn keep_short(
 }
 
 // Clears the words of marks from `n` on, those that a set of fewer sequences does not have.
-fn clear_marks(n: usize, row: &mut [u64])
-    requires { (n ≤ row_marks) × (row_marks ≤ length row.old) }
+fn clear_marks(n: usize, row: &mut [u64; WORDS])
+    requires { n ≤ row_marks }
     ensures by_index { ((q : ℕ) → q < n → get_or row.new q 0 ≡ get_or row.old q 0) × ((q : ℕ) → n ≤ q → q < row_marks → get_or row.new q 0 ≡ 0) }
-    ensures row_unchanged { (drop row_marks row.new ≡ drop row_marks row.old) × (length row.new ≡ length row.old) }
+    ensures row_unchanged { drop row_marks row.new ≡ drop row_marks row.old }
 {
     row[n..MARKS].fill(0);
 }
 
-// One letter more, the i-th of its component, in every sequence that has a mark: its words, and its new mark. It answers how many have a
-// mark then, the sum of the counts of ones of the new marks: the support. Or, as soon as fewer than `quorum` can have one, it answers so
+// One letter more, which stands so many places on, in every sequence that has a mark: its words, and its new mark. It answers how many have
+// a mark then, the sum of the counts of ones of the new marks: the support. Or, as soon as fewer than `quorum` can have one, it answers so
 // many as still can, and the rest is not written. A short set has a loop of its own, of which the compiler makes one without a shift where
-// it is called with 0: there one call for every `i` takes 17 to 28 in 100 longer. In any other set only the words of marks that it has are
-// gone over.
+// it is called with 0: there one call for all shifts takes 17 to 28 in 100 longer. In any other set only the words of marks that it has
+// are gone over.
 pub fn keep_all(
     layout: &Layout,
-    row: &[u64],
-    letter: &[u64],
-    i: usize,
+    row: &[u64; WORDS],
+    letter: &[u64; WORDS],
+    by: Shift,
     quorum: u32,
-    out: &mut [u64],
+    out: &mut [u64; WORDS],
 ) -> u32
-    requires i_bound { i < 64 }
     requires bounded { Bounded layout.now.lengths.now row.now }
-    requires lengths_in_bounds { (first_word layout.now.lengths.now (length layout.now.lengths.now) ≤ length row.now) × (length letter.now ≡ length row.now) × (length out.old ≡ length row.now) }
-    ensures lower_bound { tally (is_extended_marked i layout.now.lengths.now letter.now row.now) 0 sequence_set_sequences ≤ result }
-    ensures value { quorum ≤ result → result ≡ tally (is_extended_marked i layout.now.lengths.now letter.now row.now) 0 sequence_set_sequences }
-    ensures marked { quorum ≤ result → Marked (is_extended_marked i layout.now.lengths.now letter.now row.now) out.new sequence_set_sequences }
-    ensures filled { quorum ≤ result → Filled (is_marked row.now) (extended_at i layout.now.lengths.now letter.now row.now) layout.now.lengths.now out.new (length layout.now.lengths.now) }
-    ensures out_len_unchanged { length out.new ≡ length out.old }
+    ensures lower_bound { tally (is_extended_marked by.places layout.now.lengths.now letter.now row.now) 0 sequence_set_sequences ≤ result }
+    ensures value { quorum ≤ result → result ≡ tally (is_extended_marked by.places layout.now.lengths.now letter.now row.now) 0 sequence_set_sequences }
+    ensures marked { quorum ≤ result → Marked (is_extended_marked by.places layout.now.lengths.now letter.now row.now) out.new sequence_set_sequences }
+    ensures filled { quorum ≤ result → Filled (is_marked row.now) (extended_at by.places layout.now.lengths.now letter.now row.now) layout.now.lengths.now out.new (length layout.now.lengths.now) }
 {
     if layout.short {
-        if i == 0 {
-            return keep_short(layout, row, letter, 0, quorum, out);
+        if by.places == 0 {
+            return keep_short(layout, row, letter, Shift { places: 0 }, quorum, out);
         }
-        return keep_short(layout, row, letter, i, quorum, out);
+        return keep_short(layout, row, letter, by, quorum, out);
     }
     let used = words_of(layout.lengths.len() as u32) as usize;
     let mut possible = count(used, row);
@@ -237,7 +230,7 @@ pub fn keep_all(
         if possible < quorum {
             return possible;
         }
-        let kept = keep_sequences(layout, w, row, letter, i, possible - quorum, out);
+        let kept = keep_sequences(layout, w, row, letter, by, possible - quorum, out);
         out[w] = kept.left;
         possible -= kept.lost;
     }
@@ -249,8 +242,8 @@ pub fn keep_all(
 }
 
 // How many sequences are marked in the first `n` words of marks: the sum of their counts of ones.
-fn count(n: usize, row: &[u64]) -> u32
-    requires { (n ≤ row_marks) × (n ≤ length row.now) }
+fn count(n: usize, row: &[u64; WORDS]) -> u32
+    requires { n ≤ row_marks }
     ensures { result ≡ lists.sum (held (take n row.now)) }
 {
     let mut sum: u32 = 0;

@@ -11,29 +11,34 @@ ghost use Rattle.rows.specs.Bases.{word_of};
 
 use rules::Distances;
 
-// The 64 bits from bit `i` of two words on.
-pub fn down(i: usize, low: u64, high: u64) -> u64
-    requires { i < 64 }
-    ensures { result ≡ words.shifted_down i low high }
-{
-    (low >> i) | ((high << 1) << (63 - i))
+// How far a row is shifted, less than a word: a letter's place in its component, and what a longer shift leaves of a word.
+#[derive(Clone, Copy)]
+pub struct Shift {
+    pub places: usize,
+    pub ghost in_word: { places < 64 },
 }
 
-// The same where `i` is not 0: one shift for each word. With `down` in its place `keep_words` takes 8 in 100 more instructions over a long
-// row, and 6 to 8 in 100 more time where both loops are aligned alike.
-fn down_some(i: usize, low: u64, high: u64) -> u64
-    requires { (1 ≤ i) × (i < 64) }
-    ensures { result ≡ words.shifted_down i low high }
+// The 64 bits of two words that begin so many places on.
+pub fn down(by: Shift, low: u64, high: u64) -> u64
+    ensures { result ≡ words.shifted_down by.places low high }
 {
-    (low >> i) | (high << (64 - i))
+    (low >> by.places) | ((high << 1) << (63 - by.places))
 }
 
-// The upper of two words, shifted up by `i` bits, with those that come in from the lower.
-pub fn up(i: usize, low: u64, high: u64) -> u64
-    requires { i < 64 }
-    ensures { result ≡ words.shifted_up i low high }
+// The same for a shift that is not 0: one shift for each word. With `down` in its place `keep_words` takes 8 in 100 more instructions over
+// a long row, and 6 to 8 in 100 more time where both loops are aligned alike.
+fn down_some(by: Shift, low: u64, high: u64) -> u64
+    requires { 1 ≤ by.places }
+    ensures { result ≡ words.shifted_down by.places low high }
 {
-    (high << i) | ((low >> 1) >> (63 - i))
+    (low >> by.places) | (high << (64 - by.places))
+}
+
+// The upper of two words, shifted up, with the bits that come in from the lower.
+pub fn up(by: Shift, low: u64, high: u64) -> u64
+    ensures { result ≡ words.shifted_up by.places low high }
+{
+    (high << by.places) | ((low >> 1) >> (63 - by.places))
 }
 
 // The words of the four letters' rows for the same letters of a sequence.
@@ -103,16 +108,16 @@ fn keep_plain(row: &[u64], letters: &[u64], n: usize, out: &mut [u64]) -> u64
 
 // The first `n` words of a row with a later letter more, and all of them joined in one. Each word of the letter's row is read once: the
 // upper of two is the lower of the next two.
-fn keep_words(row: &[u64], letters: &[u64], i: usize, n: usize, out: &mut [u64]) -> u64
-    requires { (length letters.now ≡ length row.now) × (length out.old ≡ length row.now) × (n < length row.now) × (1 ≤ i) × (i < 64) }
-    ensures result_value { eqb result 0 ≡ not (has_left (map (words.extended_word i letters.now row.now) (run 0 n))) }
-    ensures out_after { out.new ≡ over (words.extended_word i letters.now row.now) n out.old }
+fn keep_words(row: &[u64], letters: &[u64], by: Shift, n: usize, out: &mut [u64]) -> u64
+    requires { (length letters.now ≡ length row.now) × (length out.old ≡ length row.now) × (n < length row.now) × (1 ≤ by.places) }
+    ensures result_value { eqb result 0 ≡ not (has_left (map (words.extended_word by.places letters.now row.now) (run 0 n))) }
+    ensures out_after { out.new ≡ over (words.extended_word by.places letters.now row.now) n out.old }
 {
     let mut all: u64 = 0;
     let mut low = letters[0];
     for q in 0..n {
         let high = letters[q + 1];
-        let v = row[q] & down_some(i, low, high);
+        let v = row[q] & down_some(by, low, high);
         out[q] = v;
         all |= v;
         low = high;
@@ -120,59 +125,58 @@ fn keep_words(row: &[u64], letters: &[u64], i: usize, n: usize, out: &mut [u64])
     all
 }
 
-// One letter more, the i-th of its part: keeps the bits at which the letter stands `i` places on, and answers whether one is
-// left.
-pub fn keep_letter(row: &[u64], letters: &[u64], i: usize, out: &mut [u64]) -> bool
-    requires { (length letters.now ≡ length row.now) × (length out.old ≡ length row.now) × (i < 64) }
-    ensures out_after { held out.new ≡ extended i (held letters.now) (held row.now) }
+// One letter more: keeps the bits at which it stands so many places on, and answers whether one is left.
+pub fn keep_letter(row: &[u64], letters: &[u64], by: Shift, out: &mut [u64]) -> bool
+    requires { (length letters.now ≡ length row.now) × (length out.old ≡ length row.now) }
+    ensures out_after { held out.new ≡ extended by.places (held letters.now) (held row.now) }
     ensures value { result ≡ has_left (held out.new) }
 {
     let n = out.len();
     if n == 0 {
         return false;
     }
-    if i == 0 {
+    if by.places == 0 {
         return keep_plain(row, letters, n, out) != 0;
     }
     let last = n - 1;
-    let all = keep_words(row, letters, i, last, out);
-    let v = row[last] & down(i, letters[last], 0);
+    let all = keep_words(row, letters, by, last, out);
+    let v = row[last] & down(by, letters[last], 0);
     out[last] = v;
     all | v != 0
 }
 
-// The first `n` words of a row shifted down by `i` positions.
-fn down_words(row: &[u64], i: usize, n: usize, out: &mut [u64])
-    requires { (length out.old ≡ length row.now) × (n < length row.now) × (i < 64) }
-    ensures { out.new ≡ over (words.ahead_word i row.now) n out.old }
+// The first `n` words of a row shifted down.
+fn down_words(row: &[u64], by: Shift, n: usize, out: &mut [u64])
+    requires { (length out.old ≡ length row.now) × (n < length row.now) }
+    ensures { out.new ≡ over (words.ahead_word by.places row.now) n out.old }
 {
     for q in 0..n {
-        out[q] = down(i, row[q], row[q + 1]);
+        out[q] = down(by, row[q], row[q + 1]);
     }
 }
 
-// A row shifted down by `i` positions: zeros come in at its end.
-pub fn shift_down(row: &[u64], i: usize, out: &mut [u64])
-    requires { (length out.old ≡ length row.now) × (i < 64) }
-    ensures { held out.new ≡ ahead i (held row.now) }
+// A row shifted down: zeros come in at its end.
+pub fn shift_down(row: &[u64], by: Shift, out: &mut [u64])
+    requires { length out.old ≡ length row.now }
+    ensures { held out.new ≡ ahead by.places (held row.now) }
 {
     let n = out.len();
     if n == 0 {
         return;
     }
     let last = n - 1;
-    down_words(row, i, last, out);
-    out[last] = down(i, row[last], 0);
+    down_words(row, by, last, out);
+    out[last] = down(by, row[last], 0);
 }
 
-// The words past `e` of a row shifted up by `e` words and `i` bits.
-fn shift_words(row: &[u64], e: usize, i: usize, out: &mut [u64])
-    requires out_len { (length out.old ≡ length row.now) × (e < length row.now) × (i < 64) }
-    requires out_value { out.old ≡ over (words.behind_word e i row.now) (e + 1) out.old }
-    ensures { out.new ≡ over (words.behind_word e i row.now) (length row.now) out.old }
+// The words past `e` of a row shifted up by `e` words and some bits.
+fn shift_words(row: &[u64], e: usize, by: Shift, out: &mut [u64])
+    requires out_len { (length out.old ≡ length row.now) × (e < length row.now) }
+    requires out_value { out.old ≡ over (words.behind_word e by.places row.now) (e + 1) out.old }
+    ensures { out.new ≡ over (words.behind_word e by.places row.now) (length row.now) out.old }
 {
     for q in e + 1..out.len() {
-        out[q] = up(i, row[q - e - 1], row[q - e]);
+        out[q] = up(by, row[q - e - 1], row[q - e]);
     }
 }
 
@@ -182,15 +186,15 @@ fn shift_up(row: &[u64], d: usize, out: &mut [u64])
     ensures { held out.new ≡ behind d (held row.now) }
 {
     let e = d / 64;
-    let i = d % 64;
+    let by = Shift { places: d % 64 };
     let n = out.len();
     if n <= e {
         out.fill(0);
         return;
     }
     out[..e].fill(0);
-    out[e] = up(i, 0, row[0]);
-    shift_words(row, e, i, out);
+    out[e] = up(by, 0, row[0]);
+    shift_words(row, e, by, out);
 }
 
 // Sets in a row the bits of another.
@@ -219,7 +223,7 @@ fn spread(count: usize, row: &mut [u64], spare: &mut [u64])
 }
 
 // Opens a gap in a row: its bits are then those that have one of `count` set bits before them, the nearest `near` places before. `spare` is
-// lent for the work.
+// lent for the work. It takes any distances, and no `Gap`: what bounds them it does not need.
 pub fn open_gap(apart: Distances, spare: &mut [u64], row: &mut [u64])
     requires { (length spare.old ≡ length row.old) × (1 ≤ apart.count) }
     ensures { held row.new ≡ window apart.near apart.count (held row.old) }

@@ -8,8 +8,8 @@ use Rattle.legs.proofs.Ruled.{declined, accepted}
 use Rattle.rules.specs.Told.{told_leg}
 use Rattle.legs.proofs.leg.Goals as goal
 
-pub make-made-requires : goal.make-made-requires
-make-made-requires c =
+pub make-weighing-requires : goal.make-weighing-requires
+make-weighing-requires c =
     let a = c.args in
     let e = sym c.requires in
     let set = set_is a.set.now.letters.now a.set.now.lengths.now a.search e in
@@ -22,26 +22,26 @@ make-made-requires c =
 
 pub check_passes-requires : goal.check_passes-requires
 check_passes-requires c =
-    let m = c.make-made.ensures in
+    let m = c.make-weighing.ensures in
     record { place_value = rw (m.plan.0) (rule_is _ _ _ (sym c.requires)); slot = rw (m.plan.0, m.plan.1, m.plan.2) m.slot }
 
 pub run-requires-clause-s_value : goal.run-requires-clause-s_value
 run-requires-clause-s_value c =
     let a = c.args in
-    let e = c.make-made.ensures.plan in
+    let e = c.make-weighing.ensures.plan in
     rw (e.0, e.1, e.2) (sym (left_to_13 a.set.now.letters.now a.set.now.lengths.now a.search (sym c.requires) (rw (e.0, e.1, e.2) at c.in-Ok.ensures.result_value)))
 
 pub returns-in-Err : goal.returns-in-Err
 returns-in-Err c =
     let a = c.args in
-    let e = c.make-made.ensures.plan in
+    let e = c.make-weighing.ensures.plan in
     let r = declined a.set.now.letters.now a.set.now.lengths.now a.search a.budget _ _ _ (left_to_13 a.set.now.letters.now a.set.now.lengths.now a.search (sym c.requires) (rw (e.0, e.1, e.2) at c.in-Err.ensures.result_value)) in
     record { result_value = ap told_leg c.refused.ensures ∙ r.0; motifs_after = r.1.0; supports_after = r.1.1.0; weights_after = r.1.1.1 }
 
 pub returns-in-Ok : goal.returns-in-Ok
 returns-in-Ok c =
     let a = c.args in
-    let e = c.make-made.ensures.plan in
+    let e = c.make-weighing.ensures.plan in
     let n = c.run.ensures in
     let r = accepted a.set.now.letters.now a.set.now.lengths.now a.search a.budget _ _ _ (left_to_13 a.set.now.letters.now a.set.now.lengths.now a.search (sym c.requires) (rw (e.0, e.1, e.2) at c.in-Ok.ensures.result_value))
     (rw (e.0, e.1, e.2) at n.result_value, (rw (e.0, e.1, e.2) at n.motifs_after, (rw (e.0, e.1, e.2) at n.supports_after, rw (e.0, e.1, e.2) at n.weights_after))) in

@@ -23,7 +23,7 @@ use Rattle.legs.proofs.run.run.Goals.{then-hit, else-hit}
 
 pub loop-place-init : goal.loop-place-init
 loop-place-init c =
-    let s = c.args.made.now.plan in
+    let s = c.args.weighing.now.made.plan in
     let o = search_sound s.letters.now s.layout.lengths.now s.search c.requires.s_value in
     let e : c.min-room.result ≡ room_of c.args.motifs.now c.args.supports.now c.args.weights.now = omega (arith, c.min-room.ensures, c.min.ensures) in
     (o, run_start _ _ _ o _ _ _ _ _, c.requires.path, none_counted _ _ _ _, e, refl, refl, refl)
@@ -37,12 +37,12 @@ returns-then-steps-budget c =
 pub examine-found-requires-clause-le_size : goal.examine-found-requires-clause-le_size
 examine-found-requires-clause-le_size c =
     let i = c.loop-place.invariant in
-    (c.loop-place-test.true, omega (arith, run_depth _ _ _ i.0 _ _ _ _ _ i.1, c.args.made.now.plan.depth_value))
+    (c.loop-place-test.true, omega (arith, run_depth _ _ _ i.0 _ _ _ _ _ i.1, c.args.weighing.now.made.plan.depth_value))
 
 -- at a candidate within the budget, once it is known whether it is listed
 pub returns-then-hit-rows : goal.returns-then-hit-rows
 returns-then-hit-rows c =
-    let s = c.args.made.now.plan in
+    let s = c.args.weighing.now.made.plan in
     let l = c.loop-place in
     let i = l.invariant in
     let v = c.examine-found.ensures in
@@ -56,7 +56,7 @@ returns-then-hit-rows c =
 
 pub list-rows-requires-clause-motif_bound : goal.list-rows-requires-clause-motif_bound
 list-rows-requires-clause-motif_bound c =
-    let s = c.args.made.now.plan in
+    let s = c.args.weighing.now.made.plan in
     let l = c.loop-place in
     let i = l.invariant in
     let below = run_below _ _ _ i.0 _ _ _ _ _ i.1 in
@@ -65,11 +65,11 @@ list-rows-requires-clause-motif_bound c =
 pub next_place-place-requires : goal.next_place-place-requires
 next_place-place-requires c =
     let i = c.loop-place.invariant in
-    record { place_value = (omega (arith, c.args.made.now.plan.depth_value, run_depth _ _ _ i.0 _ _ _ _ _ i.1), run_valid _ _ _ i.0 _ _ _ _ _ i.1) }
+    record { place_value = (omega (arith, c.args.weighing.now.made.plan.depth_value, run_depth _ _ _ i.0 _ _ _ _ _ i.1), run_valid _ _ _ i.0 _ _ _ _ _ i.1) }
 
 pub loop-place-preserved : goal.loop-place-preserved
 loop-place-preserved c =
-    let s = c.args.made.now.plan in
+    let s = c.args.weighing.now.made.plan in
     let l = c.loop-place in
     let i = l.invariant in
     let v = c.examine-found.ensures in

@@ -3,18 +3,9 @@ use native.Mathlib.Omega.{arith}
 use Rattle.matching.proofs.Standing.{mixed_sixteen, exact_letters, mixed_letters}
 use Rattle.matching.proofs.letters.letter_rows.Goals as goal
 
-pub exact_rows-requires-clause-end_bound : goal.exact_rows-requires-clause-end_bound
-exact_rows-requires-clause-end_bound c =
-    let a = c.args in
-    let p = c.requires in
-    let z = p.work_len in
-    (omega (arith, z.2), omega arith, p.base_rows.long)
-
 pub mixed_rows-requires : goal.mixed_rows-requires
 mixed_rows-requires c =
-    let z = c.requires.work_len in
-    let e = mixed_sixteen c.args.plan.now.search.template c.in-Mixed.is in
-    (omega (arith, rw e at z.1), z.0)
+    rw (mixed_sixteen c.args.plan.now.search.template c.in-Mixed.is) at c.requires.standing_len.0
 
 pub returns-in-Exact-clause-letters : goal.returns-in-Exact-clause-letters
 returns-in-Exact-clause-letters c =
@@ -28,8 +19,8 @@ pub returns-in-Mixed-clause-letters : goal.returns-in-Mixed-clause-letters
 returns-in-Mixed-clause-letters c =
     let a = c.args in
     let p = c.requires in
-    let z = p.work_len in
+    let z = p.standing_len in
     let o = c.mixed_rows.ensures in
     let e = c.in-Mixed.is in
     let n = mixed_sixteen a.plan.now.search.template e in
-    mixed_letters a.plan.now.search.template a.plan.now.layout.lengths.now a.plan.now.letters.now a.standing.now _ p.base_rows o.standing_unchanged.0 e a.plan.now.sound_set (omega (arith, o.standing_unchanged.1, rw n at z.1)) (omega (arith, o.standing_unchanged.1, z.2)) o.by_index
+    mixed_letters a.plan.now.search.template a.plan.now.layout.lengths.now a.plan.now.letters.now a.standing.now _ p.base_rows o.standing_unchanged.0 e a.plan.now.sound_set (omega (arith, o.standing_unchanged.1, rw n at z.0)) (omega (arith, o.standing_unchanged.1, z.1)) o.by_index

@@ -9,4 +9,4 @@ loop-s-preserved c =
     let l = c.loop-s in
     let i = l.invariant in
     let o = c.mixed_slot.ensures in
-    written_more (FromBases a.standing.now) a.standing.now l.s l.standing _ i o.standing_unchanged.0 (from_same a.standing.now l.standing l.s _ i.kept (omega (arith, l.auto.standing, c.requires.0)) o.from_bases)
+    written_more (FromBases a.standing.now) a.standing.now l.s l.standing _ i o.standing_unchanged.0 (from_same a.standing.now l.standing l.s _ i.kept (omega (arith, l.auto.standing, c.requires)) o.from_bases)

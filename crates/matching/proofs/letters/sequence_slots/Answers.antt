@@ -10,7 +10,7 @@ loop-q-preserved c =
     let h = c.loop-q-test.true in
     begun_more a.from a.to a.sequence.now a.standing.now l.q _ l.standing _ _
     c.min-e.ensures (omega (arith, h, p.from_le_to)) p.from_le_to.1
-    (omega (arith, l.auto.standing, p.in_bounds)) c.letter_words-bases.ensures c.put_words.ensures.by_index l.invariant
+    c.letter_words-bases.ensures c.put_words.ensures.by_index l.invariant
 
 pub returns-clause-by_index_3 : goal.returns-clause-by_index_3
 returns-clause-by_index_3 c =
@@ -18,4 +18,4 @@ returns-clause-by_index_3 c =
     let p = c.requires in
     let l = c.loop-q in
     begun_all a.from a.to a.sequence.now a.standing.now l.q l.standing p.from_le_to.0
-    (omega (arith, c.loop-q-test.false, l.auto.q-end)) p.from_le_to.1 (omega (arith, l.auto.standing, p.in_bounds)) l.invariant
+    (omega (arith, c.loop-q-test.false, l.auto.q-end)) p.from_le_to.1 l.invariant

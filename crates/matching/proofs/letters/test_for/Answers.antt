@@ -4,70 +4,50 @@ use native.Mathlib.Nat.{mul-le-mul}
 use native.Mathlib.Omega.{arith}
 use lib.ListN.{get_or}
 use Rattle.rules.proofs.EachKind.{base_most}
-use Rattle.matching.specs.Path.{row_slot, spot}
-use Rattle.rows.specs.Set.{between}
+use Rattle.matching.specs.Path.{spot}
 use Rattle.matching.proofs.Extend.{letter_small}
 use Rattle.matching.proofs.LetterTests.{kept_there, near_inside, near_last, far_last}
 use Rattle.matching.proofs.letters.test_for.Goals as goal
 
 -- the row is kept for the letter's place
-pub overflow_mul-a-then-kept : goal.overflow_mul-a-then-kept
-overflow_mul-a-then-kept c =
+pub bounds-standing-i : goal.bounds-standing-i
+bounds-standing-i c =
     let m = c.args.made.now in
     let p = m.plan in
     let kept = kept_there p.search.template m.standing.now _ c.base-base.ensures c.if-kept.true in
     omega (arith, near_inside p.search.template p.sound_template p.inside.now p.placed c.args.place.letters c.args.place.number m.standing.now kept c.last-x.ensures c.base-base.ensures)
 
--- the row is kept for the letter's place
-pub overflow_add-e : goal.overflow_add-e
-overflow_add-e c =
-    let m = c.args.made.now in
-    let p = m.plan in
-    let kept = kept_there p.search.template m.standing.now _ c.base-base.ensures c.if-kept.true in
-    omega (arith, near_inside p.search.template p.sound_template p.inside.now p.placed c.args.place.letters c.args.place.number m.standing.now kept c.last-x.ensures c.base-base.ensures)
-
--- the row is kept for the letter's place
-pub offset_bounds-standing-a : goal.offset_bounds-standing-a
-offset_bounds-standing-a c =
+pub offset_bounds-standing-i : goal.offset_bounds-standing-i
+offset_bounds-standing-i c =
     let m = c.args.made.now in
     let p = m.plan in
     let kept = kept_there p.search.template m.standing.now _ c.base-base.ensures c.if-kept.true in
     omega (arith, near_inside p.search.template p.sound_template p.inside.now p.placed c.args.place.letters c.args.place.number m.standing.now kept c.last-x.ensures c.base-base.ensures, c.well_formed)
 
--- the row is kept for the letter's place
-pub slice_bounds-result-end : goal.slice_bounds-result-end
-slice_bounds-result-end c =
+pub returns-then-kept : goal.returns-then-kept
+returns-then-kept c =
     let m = c.args.made.now in
     let p = m.plan in
     let kept = kept_there p.search.template m.standing.now _ c.base-base.ensures c.if-kept.true in
-    omega (arith, near_inside p.search.template p.sound_template p.inside.now p.placed c.args.place.letters c.args.place.number m.standing.now kept c.last-x.ensures c.base-base.ensures)
-
-pub returns-then-kept-clause-tests_last : goal.returns-then-kept-clause-tests_last
-unfolding row_slot between
-returns-then-kept-clause-tests_last c =
-    let m = c.args.made.now in
-    let p = m.plan in
-    let kept = kept_there p.search.template m.standing.now _ c.base-base.ensures c.if-kept.true in
-    near_last p.search.template p.sound_template p.inside.now p.placed c.args.place.letters c.args.place.number m.standing.now kept c.last-x.ensures c.base-base.ensures p.layout.lengths.now p.letters.now m.rows
+    record { tests_last = near_last p.search.template p.sound_template p.inside.now p.placed c.args.place.letters c.args.place.number m.standing.now kept c.last-x.ensures c.base-base.ensures p.layout.lengths.now p.letters.now m.rows }
 
 -- or not
-pub returns-else-kept-clause-tests_last : goal.returns-else-kept-clause-tests_last
-unfolding row_slot between
-returns-else-kept-clause-tests_last c =
+pub returns-else-kept : goal.returns-else-kept
+returns-else-kept c =
     let m = c.args.made.now in
     let p = m.plan in
-    far_last p.search.template p.sound_template p.inside.now p.placed c.args.place.letters c.args.place.number m.standing.now c.last-x.ensures p.layout.lengths.now p.letters.now m.rows
+    record { tests_last = far_last p.search.template p.sound_template p.inside.now p.placed c.args.place.letters c.args.place.number m.standing.now c.last-x.ensures p.layout.lengths.now p.letters.now m.rows }
 
-pub overflow_mul-kept-2 : goal.overflow_mul-kept-2
-overflow_mul-kept-2 c =
+pub overflow_mul-kept : goal.overflow_mul-kept
+overflow_mul-kept c =
     let p = c.args.made.now.plan in
     let n = c.requires.le_letters in
     let i = letter_small p.search.template p.sound_template p.inside.now p.placed (c.args.place.letters - 1) (omega (arith, n, p.depth_value)) in
     let most : c.base-base.result ≤ 16 = omega (arith, base_most p.search.template, c.base-base.ensures) in
     omega (arith, mul-le-mul {n₁ = (get_or p.inside.now (c.args.place.letters - 1) (spot 0 0)).letter + 1} {n₂ = 16} (omega (arith, i)) most)
 
-pub returns-else-kept-clause-by_bound : goal.returns-else-kept-clause-by_bound
-returns-else-kept-clause-by_bound c =
+pub invariant_of-result-else-kept : goal.invariant_of-result-else-kept
+invariant_of-result-else-kept c =
     let p = c.args.made.now.plan in
     let n = c.requires.le_letters in
-    letter_small p.search.template p.sound_template p.inside.now p.placed (c.args.place.letters - 1) (omega (arith, n, p.depth_value))
+    record { in_word = omega (arith, letter_small p.search.template p.sound_template p.inside.now p.placed (c.args.place.letters - 1) (omega (arith, n, p.depth_value))) }

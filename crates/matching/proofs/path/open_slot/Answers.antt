@@ -1,26 +1,17 @@
 -- The gap is opened in the slot by the distances of the template.
-use native.Mathlib.Omega.{arith}
 use Rattle.matching.proofs.Gapped.{gap_apart, opened_slot}
-use Rattle.matching.proofs.Slots.{enough}
 use Rattle.matching.proofs.path.open_slot.Goals as goal
 
-pub open_all-requires-clause-count_bound : goal.open_all-requires-clause-count_bound
-open_all-requires-clause-count_bound c =
+pub invariant_of-gap : goal.invariant_of-gap
+invariant_of-gap c =
     let s = c.args.plan.now in
     let p = c.requires in
-    let g = gap_apart s.search.template s.sound_template c.args.component p.le_component.0 p.le_component.1 _ c.components-components.ensures c.after-apart.ensures in
-    g.any
-
-pub open_all-requires-clause-lengths_in_bounds : goal.open_all-requires-clause-lengths_in_bounds
-open_all-requires-clause-lengths_in_bounds c =
-    let s = c.args.plan.now in
-    let long = c.requires.slot_len in
-    let most = enough s.letters.now s.layout.lengths.now s.sound_set in
-    (omega (arith, most, long), omega (arith, long))
+    let g = gap_apart s.search.template s.sound_template c.args.component p.le_component.0 p.le_component.1 _ c.components-components.ensures c.after.ensures in
+    record { near_bound = (g.some, g.near); count_bound = (g.any, g.few) }
 
 pub returns-clause-filled : goal.returns-clause-filled
 returns-clause-filled c =
     let s = c.args.plan.now in
     let p = c.requires in
     let e = c.components-components.ensures in
-    opened_slot s.search.template s.sound_template c.args.component p.le_component.0 p.le_component.1 _ e c.after-apart.ensures s.layout.lengths.now c.args.slot.now _ c.open_all.ensures.filled
+    opened_slot s.search.template s.sound_template c.args.component p.le_component.0 p.le_component.1 _ e c.after.ensures s.layout.lengths.now c.args.slot.now _ c.open_all.ensures.filled

@@ -1,4 +1,4 @@
-use mathlib.Core.Path.{◌≡◌, refl, ap, ◌∙◌}
+use mathlib.Core.Path.{◌≡◌, refl, ap}
 use Prim.Native.Nat.{◌+◌, ◌-◌}
 use native.Mathlib.Omega.{arith}
 use Rattle.std.specs.Prelude.{Some}
@@ -10,20 +10,18 @@ loop-d-init c =
     let s = c.args.plan.now in
     let q = s.search.place in
     let p = c.requires in
-    (slot_begin s.search.template q.letters q.number s.layout.lengths.now s.letters.now c.args.even.now c.requires.le_letters.0 c.requires.le_letters.2 p.slot, (λ _. refl), (λ h. absurd (omega arith)), p.letter_len.1, p.letter_len.2)
+    (slot_begin s.search.template q.letters q.number s.layout.lengths.now s.letters.now c.args.even.now c.requires.le_letters.0 c.requires.le_letters.2 p.slot, (λ _. refl), (λ h. absurd (omega arith)))
 
 pub loop-d-preserved : goal.loop-d-preserved
 loop-d-preserved c =
     let s = c.args.plan.now in
     let q = s.search.place in
     let l = c.loop-d in
-    let i = l.invariant in
     let t = c.take_turn.ensures in
-    let n = t.letter_len_unchanged in
     let e = c.prefix-number.ensures in
     let z : l.d + 1 - 1 ≡ l.d = omega arith in
     let slot = slot_more s.search.template q.letters q.number s.layout.lengths.now s.letters.now _ l.d c.loop-d-test.true (rw e at t.slot_2) in
-    (slot, (λ h. absurd (omega (arith, h, l.auto.d))), (λ h. ap Some (rw z (rw e at t.value))), n.1 ∙ i.4, i.3)
+    (slot, (λ h. absurd (omega (arith, h, l.auto.d))), (λ h. ap Some (rw z (rw e at t.value))))
 
 pub returns-clause-value : goal.returns-clause-value
 returns-clause-value c =

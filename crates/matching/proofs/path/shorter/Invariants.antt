@@ -2,12 +2,10 @@
 use mathlib.Core.Path.{◌≡◌}
 use Rattle.std.specs.Prelude.{Some, None}
 use Prim.Native.Nat.{◌-◌, ◌/◌, ◌^◌, ◌≤◌}
-use lib.ListN.{length}
 use Rattle.rules.specs.Profile.{base_of}
 use Rattle.rules.specs.Sequences.{sequences}
 use Rattle.rules.specs.Support.{support, parts}
 use Rattle.matching.specs.Path.{Slot}
-use Rattle.rows.specs.Set.{row_words}
 use Rattle.matching.proofs.path.shorter.Given as goal
 
 abbrev pub invariant-loop-d : goal.invariant-loop-d
@@ -15,4 +13,3 @@ invariant-loop-d l =
     Slot l.plan.search.template l.plan.layout.lengths.now l.plan.letters.now l.before (l.d - 1) (l.plan.search.place.number / base_of l.plan.search.template ^ (l.plan.search.place.letters - l.d) / base_of l.plan.search.template)
     × (l.d ≡ 1 → l.found ≡ None)
     × (2 ≤ l.d → l.found ≡ Some (support (parts l.plan.search.template (l.d - 1) (l.plan.search.place.number / base_of l.plan.search.template ^ (l.plan.search.place.letters - (l.d - 1)))) (sequences l.plan.letters.now l.plan.layout.lengths.now)))
-    × (length l.before ≡ row_words) × (length l.slot ≡ row_words)

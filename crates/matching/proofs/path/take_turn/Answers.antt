@@ -19,8 +19,7 @@ end_slot-requires-clause-bounded c =
     let set = s.sound_set in
     row_bounded s.layout.lengths.now s.letters.now set.adds set.few _ (prefix_long s.search.template c.args.place.letters c.args.place.number) _ (c.extend-found.ensures.row (omega arith))
 
-pub extend-found-requires-clause-le_size : goal.extend-found-requires-clause-le_size
-extend-found-requires-clause-le_size c =
+pub invariant_of-by : goal.invariant_of-by
+invariant_of-by c =
     let s = c.args.plan.now in
-    let n = c.requires.le_size in
-    (n.0, omega (arith, n.1), letter_small s.search.template s.sound_template s.inside.now s.placed (c.args.place.letters - 1) (omega (arith, n)))
+    record { in_word = omega (arith, letter_small s.search.template s.sound_template s.inside.now s.placed (c.args.place.letters - 1) (omega (arith, c.requires.le_size))) }

@@ -7,4 +7,4 @@ use Rattle.matching.proofs.Totals.{weights_up}
 use Rattle.matching.proofs.weights.add_all.Given as goal
 
 abbrev pub invariant-loop-w : goal.invariant-loop-w
-invariant-loop-w l = l.total + weights_up l.plan.layout.lengths.now l.row l.counts sequence_set_sequences (l.w * 64) ≡ weight_of l.plan.layout.lengths.now l.row l.counts
+invariant-loop-w l = l.total + weights_up l.weighing.made.plan.layout.lengths.now l.row l.counts sequence_set_sequences (l.w * 64) ≡ weight_of l.weighing.made.plan.layout.lengths.now l.row l.counts

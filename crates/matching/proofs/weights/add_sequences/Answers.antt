@@ -1,3 +1,4 @@
+use borrow.Author.Rules.{rules}
 use mathlib.Core.Path.{ap}
 use Prim.Native.Nat.{ℕ, ◌+◌, ◌*◌, ◌≤◌, ◌<◌}
 use native.Mathlib.Omega.{arith}
@@ -15,15 +16,15 @@ use Rattle.matching.proofs.weights.add_sequences.Goals as goal
 pub loop-rest-init : goal.loop-rest-init
 loop-rest-init c =
     let a = c.args in
-    let s = a.plan.now in
-    walk_begin _ _ (c.type_inv.row a.w).fits (omega (arith, weights_word s.layout.lengths.now a.row.now a.counts.now a.w (a.w * 64 + 0) (omega arith)))
+    let s = a.weighing.now.made.plan in
+    walk_begin _ _ (search rules) (omega (arith, weights_word s.layout.lengths.now a.row.now a.counts.now a.w (a.w * 64 + 0) (omega arith)))
 
 pub slice_bounds-add-count : goal.slice_bounds-add-count
 slice_bounds-add-count c =
     let l = c.loop-rest in
     let a = c.args in
     let p = c.requires in
-    let s = c.args.plan.now in
+    let s = c.args.weighing.now.made.plan in
     let some : 0 < l.rest = omega (arith, c.loop-rest-test.true) in
     let at : ℕ = a.w * 64 + count_trailing_zeros 64 l.rest in
     let n = next a.row.now a.w l.invariant.rests some s.layout.lengths.now s.layout.firsts.now p.bounded s.layout.laid p.w_bound in
@@ -36,7 +37,7 @@ slice_bounds-add-start c =
     let l = c.loop-rest in
     let a = c.args in
     let p = c.requires in
-    let s = c.args.plan.now in
+    let s = c.args.weighing.now.made.plan in
     let some : 0 < l.rest = omega (arith, c.loop-rest-test.true) in
     let at : ℕ = a.w * 64 + count_trailing_zeros 64 l.rest in
     let n = next a.row.now a.w l.invariant.rests some s.layout.lengths.now s.layout.firsts.now p.bounded s.layout.laid p.w_bound in
@@ -49,7 +50,7 @@ slice_bounds-add-end c =
     let l = c.loop-rest in
     let a = c.args in
     let p = c.requires in
-    let s = c.args.plan.now in
+    let s = c.args.weighing.now.made.plan in
     let some : 0 < l.rest = omega (arith, c.loop-rest-test.true) in
     let at : ℕ = a.w * 64 + count_trailing_zeros 64 l.rest in
     let n = next a.row.now a.w l.invariant.rests some s.layout.lengths.now s.layout.firsts.now p.bounded s.layout.laid p.w_bound in
@@ -62,12 +63,12 @@ slice_bounds-add-count-in-loop-rest c =
     let l = c.loop-rest in
     let a = c.args in
     let p = c.requires in
-    let s = c.args.plan.now in
+    let s = c.args.weighing.now.made.plan in
     let some : 0 < l.rest = omega (arith, c.loop-rest-test.true) in
     let at : ℕ = a.w * 64 + count_trailing_zeros 64 l.rest in
     let n = next a.row.now a.w l.invariant.rests some s.layout.lengths.now s.layout.firsts.now p.bounded s.layout.laid p.w_bound in
-    let begins = s.offsets_laid.same at (omega (arith, n.inside)) in
-    let ends = s.offsets_laid.same (at + 1) (omega (arith, n.inside)) in
+    let begins = a.weighing.now.offsets_laid.same at (omega (arith, n.inside)) in
+    let ends = a.weighing.now.offsets_laid.same (at + 1) (omega (arith, n.inside)) in
     let places = counts_lie s.layout.lengths.now at n.inside begins ends in
     places.0
 
@@ -76,12 +77,12 @@ slice_bounds-add-start-in-loop-rest c =
     let l = c.loop-rest in
     let a = c.args in
     let p = c.requires in
-    let s = c.args.plan.now in
+    let s = c.args.weighing.now.made.plan in
     let some : 0 < l.rest = omega (arith, c.loop-rest-test.true) in
     let at : ℕ = a.w * 64 + count_trailing_zeros 64 l.rest in
     let n = next a.row.now a.w l.invariant.rests some s.layout.lengths.now s.layout.firsts.now p.bounded s.layout.laid p.w_bound in
-    let begins = s.offsets_laid.same at (omega (arith, n.inside)) in
-    let ends = s.offsets_laid.same (at + 1) (omega (arith, n.inside)) in
+    let begins = a.weighing.now.offsets_laid.same at (omega (arith, n.inside)) in
+    let ends = a.weighing.now.offsets_laid.same (at + 1) (omega (arith, n.inside)) in
     let places = counts_lie s.layout.lengths.now at n.inside begins ends in
     places.0
 
@@ -90,12 +91,12 @@ slice_bounds-add-end-in-loop-rest c =
     let l = c.loop-rest in
     let a = c.args in
     let p = c.requires in
-    let s = c.args.plan.now in
+    let s = c.args.weighing.now.made.plan in
     let some : 0 < l.rest = omega (arith, c.loop-rest-test.true) in
     let at : ℕ = a.w * 64 + count_trailing_zeros 64 l.rest in
     let n = next a.row.now a.w l.invariant.rests some s.layout.lengths.now s.layout.firsts.now p.bounded s.layout.laid p.w_bound in
-    let begins = s.offsets_laid.same at (omega (arith, n.inside)) in
-    let ends = s.offsets_laid.same (at + 1) (omega (arith, n.inside)) in
+    let begins = a.weighing.now.offsets_laid.same at (omega (arith, n.inside)) in
+    let ends = a.weighing.now.offsets_laid.same (at + 1) (omega (arith, n.inside)) in
     let places = counts_lie s.layout.lengths.now at n.inside begins ends in
     omega (arith, places, p.lengths_in_bounds, enough s.letters.now s.layout.lengths.now s.sound_set)
 
@@ -104,17 +105,17 @@ add-total-requires-clause-row_in_bounds c =
     let l = c.loop-rest in
     let a = c.args in
     let p = c.requires in
-    let s = c.args.plan.now in
+    let s = c.args.weighing.now.made.plan in
     let some : 0 < l.rest = omega (arith, c.loop-rest-test.true) in
     let at : ℕ = a.w * 64 + count_trailing_zeros 64 l.rest in
     let n = next a.row.now a.w l.invariant.rests some s.layout.lengths.now s.layout.firsts.now p.bounded s.layout.laid p.w_bound in
     let q = c.words-from.ensures.place in
-    let begins = s.offsets_laid.same at (omega (arith, n.inside)) in
-    let ends = s.offsets_laid.same (at + 1) (omega (arith, n.inside)) in
+    let begins = a.weighing.now.offsets_laid.same at (omega (arith, n.inside)) in
+    let ends = a.weighing.now.offsets_laid.same (at + 1) (omega (arith, n.inside)) in
     let words = turn_lies s.layout.lengths.now at n.inside q.0 q.1 in
     let places = counts_lie s.layout.lengths.now at n.inside begins ends in
     let words_end : c.words-from.result.1 ≤ length a.row.now = omega (arith, words, p.lengths_in_bounds, enough s.letters.now s.layout.lengths.now s.sound_set) in
-    let places_end : get_or s.offsets.now (at + 1) 0 ≤ length a.counts.now = omega (arith, places, p.lengths_in_bounds, enough s.letters.now s.layout.lengths.now s.sound_set) in
+    let places_end : get_or a.weighing.now.offsets.now (at + 1) 0 ≤ length a.counts.now = omega (arith, places, p.lengths_in_bounds, enough s.letters.now s.layout.lengths.now s.sound_set) in
     words_cover s.layout.lengths.now a.row.now a.counts.now at n.inside begins ends q.0 q.1 words_end places_end
 
 pub add-total-requires-clause-by_index : goal.add-total-requires-clause-by_index
@@ -122,17 +123,17 @@ add-total-requires-clause-by_index c =
     let l = c.loop-rest in
     let a = c.args in
     let p = c.requires in
-    let s = c.args.plan.now in
+    let s = c.args.weighing.now.made.plan in
     let some : 0 < l.rest = omega (arith, c.loop-rest-test.true) in
     let at : ℕ = a.w * 64 + count_trailing_zeros 64 l.rest in
     let n = next a.row.now a.w l.invariant.rests some s.layout.lengths.now s.layout.firsts.now p.bounded s.layout.laid p.w_bound in
     let q = c.words-from.ensures.place in
-    let begins = s.offsets_laid.same at (omega (arith, n.inside)) in
-    let ends = s.offsets_laid.same (at + 1) (omega (arith, n.inside)) in
+    let begins = a.weighing.now.offsets_laid.same at (omega (arith, n.inside)) in
+    let ends = a.weighing.now.offsets_laid.same (at + 1) (omega (arith, n.inside)) in
     let words = turn_lies s.layout.lengths.now at n.inside q.0 q.1 in
     let places = counts_lie s.layout.lengths.now at n.inside begins ends in
     let words_end : c.words-from.result.1 ≤ length a.row.now = omega (arith, words, p.lengths_in_bounds, enough s.letters.now s.layout.lengths.now s.sound_set) in
-    let places_end : get_or s.offsets.now (at + 1) 0 ≤ length a.counts.now = omega (arith, places, p.lengths_in_bounds, enough s.letters.now s.layout.lengths.now s.sound_set) in
+    let places_end : get_or a.weighing.now.offsets.now (at + 1) 0 ≤ length a.counts.now = omega (arith, places, p.lengths_in_bounds, enough s.letters.now s.layout.lengths.now s.sound_set) in
     dark_past s.layout.lengths.now a.row.now a.counts.now at n.inside begins ends q.0 q.1 words_end places_end (p.by_index at n.inside n.marked)
 
 pub add-total-requires-clause-counts_bound : goal.add-total-requires-clause-counts_bound
@@ -140,17 +141,17 @@ add-total-requires-clause-counts_bound c =
     let l = c.loop-rest in
     let a = c.args in
     let p = c.requires in
-    let s = c.args.plan.now in
+    let s = c.args.weighing.now.made.plan in
     let some : 0 < l.rest = omega (arith, c.loop-rest-test.true) in
     let at : ℕ = a.w * 64 + count_trailing_zeros 64 l.rest in
     let n = next a.row.now a.w l.invariant.rests some s.layout.lengths.now s.layout.firsts.now p.bounded s.layout.laid p.w_bound in
     let q = c.words-from.ensures.place in
-    let begins = s.offsets_laid.same at (omega (arith, n.inside)) in
-    let ends = s.offsets_laid.same (at + 1) (omega (arith, n.inside)) in
+    let begins = a.weighing.now.offsets_laid.same at (omega (arith, n.inside)) in
+    let ends = a.weighing.now.offsets_laid.same (at + 1) (omega (arith, n.inside)) in
     let words = turn_lies s.layout.lengths.now at n.inside q.0 q.1 in
     let places = counts_lie s.layout.lengths.now at n.inside begins ends in
     let words_end : c.words-from.result.1 ≤ length a.row.now = omega (arith, words, p.lengths_in_bounds, enough s.letters.now s.layout.lengths.now s.sound_set) in
-    let places_end : get_or s.offsets.now (at + 1) 0 ≤ length a.counts.now = omega (arith, places, p.lengths_in_bounds, enough s.letters.now s.layout.lengths.now s.sound_set) in
+    let places_end : get_or a.weighing.now.offsets.now (at + 1) 0 ≤ length a.counts.now = omega (arith, places, p.lengths_in_bounds, enough s.letters.now s.layout.lengths.now s.sound_set) in
     let left = weights_next s.layout.lengths.now a.row.now a.counts.now (a.w * 64 + 64) (a.w * 64 + l.invariant.upto) at n.later n.in_word n.skips n.marked in
     let own = own_sum s.layout.lengths.now a.row.now a.counts.now at n.inside begins ends q.0 q.1 words_end places_end in
     omega (arith, own, left, l.invariant.so_far, p.w_bound_2)
@@ -160,17 +161,17 @@ overflow_add-total c =
     let l = c.loop-rest in
     let a = c.args in
     let p = c.requires in
-    let s = c.args.plan.now in
+    let s = c.args.weighing.now.made.plan in
     let some : 0 < l.rest = omega (arith, c.loop-rest-test.true) in
     let at : ℕ = a.w * 64 + count_trailing_zeros 64 l.rest in
     let n = next a.row.now a.w l.invariant.rests some s.layout.lengths.now s.layout.firsts.now p.bounded s.layout.laid p.w_bound in
     let q = c.words-from.ensures.place in
-    let begins = s.offsets_laid.same at (omega (arith, n.inside)) in
-    let ends = s.offsets_laid.same (at + 1) (omega (arith, n.inside)) in
+    let begins = a.weighing.now.offsets_laid.same at (omega (arith, n.inside)) in
+    let ends = a.weighing.now.offsets_laid.same (at + 1) (omega (arith, n.inside)) in
     let words = turn_lies s.layout.lengths.now at n.inside q.0 q.1 in
     let places = counts_lie s.layout.lengths.now at n.inside begins ends in
     let words_end : c.words-from.result.1 ≤ length a.row.now = omega (arith, words, p.lengths_in_bounds, enough s.letters.now s.layout.lengths.now s.sound_set) in
-    let places_end : get_or s.offsets.now (at + 1) 0 ≤ length a.counts.now = omega (arith, places, p.lengths_in_bounds, enough s.letters.now s.layout.lengths.now s.sound_set) in
+    let places_end : get_or a.weighing.now.offsets.now (at + 1) 0 ≤ length a.counts.now = omega (arith, places, p.lengths_in_bounds, enough s.letters.now s.layout.lengths.now s.sound_set) in
     let left = weights_next s.layout.lengths.now a.row.now a.counts.now (a.w * 64 + 64) (a.w * 64 + l.invariant.upto) at n.later n.in_word n.skips n.marked in
     let own = own_sum s.layout.lengths.now a.row.now a.counts.now at n.inside begins ends q.0 q.1 words_end places_end in
     omega (arith, c.add-total.ensures, own, left, l.invariant.so_far, p.w_bound_2)
@@ -180,17 +181,17 @@ loop-rest-preserved c =
     let l = c.loop-rest in
     let a = c.args in
     let p = c.requires in
-    let s = c.args.plan.now in
+    let s = c.args.weighing.now.made.plan in
     let some : 0 < l.rest = omega (arith, c.loop-rest-test.true) in
     let at : ℕ = a.w * 64 + count_trailing_zeros 64 l.rest in
     let n = next a.row.now a.w l.invariant.rests some s.layout.lengths.now s.layout.firsts.now p.bounded s.layout.laid p.w_bound in
     let q = c.words-from.ensures.place in
-    let begins = s.offsets_laid.same at (omega (arith, n.inside)) in
-    let ends = s.offsets_laid.same (at + 1) (omega (arith, n.inside)) in
+    let begins = a.weighing.now.offsets_laid.same at (omega (arith, n.inside)) in
+    let ends = a.weighing.now.offsets_laid.same (at + 1) (omega (arith, n.inside)) in
     let words = turn_lies s.layout.lengths.now at n.inside q.0 q.1 in
     let places = counts_lie s.layout.lengths.now at n.inside begins ends in
     let words_end : c.words-from.result.1 ≤ length a.row.now = omega (arith, words, p.lengths_in_bounds, enough s.letters.now s.layout.lengths.now s.sound_set) in
-    let places_end : get_or s.offsets.now (at + 1) 0 ≤ length a.counts.now = omega (arith, places, p.lengths_in_bounds, enough s.letters.now s.layout.lengths.now s.sound_set) in
+    let places_end : get_or a.weighing.now.offsets.now (at + 1) 0 ≤ length a.counts.now = omega (arith, places, p.lengths_in_bounds, enough s.letters.now s.layout.lengths.now s.sound_set) in
     let left = weights_next s.layout.lengths.now a.row.now a.counts.now (a.w * 64 + 64) (a.w * 64 + l.invariant.upto) at n.later n.in_word n.skips n.marked in
     let own = own_sum s.layout.lengths.now a.row.now a.counts.now at n.inside begins ends q.0 q.1 words_end places_end in
     let forth : at + 1 ≡ a.w * 64 + (count_trailing_zeros 64 l.rest + 1) = omega arith in
@@ -201,7 +202,7 @@ pub returns : goal.returns
 returns c =
     let l = c.loop-rest in
     let a = c.args in
-    let s = a.plan.now in
+    let s = a.weighing.now.made.plan in
     let g = l.invariant in
     let none = no_rest a.row.now a.w g.rests (omega (arith, c.loop-rest-test.false)) in
     omega (arith, weights_none s.layout.lengths.now a.row.now a.counts.now (a.w * 64 + 64) (a.w * 64 + g.upto) none, g.so_far)
@@ -211,29 +212,29 @@ bounds-offsets-at c =
     let l = c.loop-rest in
     let a = c.args in
     let p = c.requires in
-    let s = c.args.plan.now in
+    let s = c.args.weighing.now.made.plan in
     let some : 0 < l.rest = omega (arith, c.loop-rest-test.true) in
     let n = next a.row.now a.w l.invariant.rests some s.layout.lengths.now s.layout.firsts.now p.bounded s.layout.laid p.w_bound in
-    omega (arith, n.inside, s.offsets_laid.long)
+    omega (arith, n.inside, a.weighing.now.offsets_laid.long)
 
 pub bounds-offsets-at-in-loop-rest : goal.bounds-offsets-at-in-loop-rest
 bounds-offsets-at-in-loop-rest c =
     let l = c.loop-rest in
     let a = c.args in
     let p = c.requires in
-    let s = c.args.plan.now in
+    let s = c.args.weighing.now.made.plan in
     let some : 0 < l.rest = omega (arith, c.loop-rest-test.true) in
     let n = next a.row.now a.w l.invariant.rests some s.layout.lengths.now s.layout.firsts.now p.bounded s.layout.laid p.w_bound in
-    omega (arith, n.inside, s.offsets_laid.long)
+    omega (arith, n.inside, a.weighing.now.offsets_laid.long)
 
 pub words-from-requires : goal.words-from-requires
 words-from-requires c =
     let l = c.loop-rest in
     let a = c.args in
     let p = c.requires in
-    let s = c.args.plan.now in
+    let s = c.args.weighing.now.made.plan in
     let some : 0 < l.rest = omega (arith, c.loop-rest-test.true) in
     (next a.row.now a.w l.invariant.rests some s.layout.lengths.now s.layout.firsts.now p.bounded s.layout.laid p.w_bound).inside
 
 pub offset_bounds-row-from : goal.offset_bounds-row-from
-offset_bounds-row-from c = let s = c.args.plan.now in omega (arith, c.words-from.ensures.inside, enough s.letters.now s.layout.lengths.now s.sound_set)
+offset_bounds-row-from c = let s = c.args.weighing.now.made.plan in omega (arith, c.words-from.ensures.inside, enough s.letters.now s.layout.lengths.now s.sound_set)

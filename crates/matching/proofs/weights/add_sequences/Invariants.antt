@@ -15,7 +15,7 @@ abbrev pub Added_to : ℕ → List ℕ → List ℕ → List ℕ → ℕ → ℕ
 Added_to w ns row counts total e = total + weights_up ns row counts (w * 64 + 64) (w * 64 + e) ≡ sum (map (weight_at ns row counts) (run (w * 64) 64))
 
 abbrev pub invariant-loop-rest : goal.invariant-loop-rest
-invariant-loop-rest l = Walk (Added_to l.w l.plan.layout.lengths.now l.row l.counts l.total) (get_or l.row l.w 0) l.rest
+invariant-loop-rest l = Walk (Added_to l.w l.weighing.made.plan.layout.lengths.now l.row l.counts l.total) (get_or l.row l.w 0) l.rest
 
 abbrev pub decreases-loop-rest : goal.decreases-loop-rest
 decreases-loop-rest l = l.rest

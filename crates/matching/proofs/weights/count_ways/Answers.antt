@@ -22,7 +22,7 @@ later c h e = elim (dec_lt 1 c) [ yes l ↦ l | no l ↦ absurd (eqb-false c 1 e
 pub returns-then-count-eq1-clause-leads : goal.returns-then-count-eq1-clause-leads
 returns-then-count-eq1-clause-leads c =
     let y = c.fill.ensures.after (λ y h. search rules) in
-    let s = c.args.made.now.plan in
+    let s = c.args.weighing.now.made.plan in
     only_led s.letters.now c.args.ways.now c.requires.letters_in_bounds _ y s.search.template s.sound_template _ s.sound_set _ (omega (arith, c.if-count-eq1.true))
 
 pub loop-c-init : goal.loop-c-init
@@ -31,7 +31,7 @@ loop-c-init c =
 
 pub overflow_cast-more : goal.overflow_cast-more
 overflow_cast-more c =
-    let s = c.args.made.now.plan in
+    let s = c.args.weighing.now.made.plan in
     let p = c.requires in
     let l = c.loop-c in
     let t = turn s.sound_template s.depth_value c.components-components.ensures l.auto.c c.loop-c-test.true l.invariant.0 in
@@ -39,7 +39,7 @@ overflow_cast-more c =
 
 pub overflow_add-size : goal.overflow_add-size
 overflow_add-size c =
-    let s = c.args.made.now.plan in
+    let s = c.args.weighing.now.made.plan in
     let p = c.requires in
     let l = c.loop-c in
     let t = turn s.sound_template s.depth_value c.components-components.ensures l.auto.c c.loop-c-test.true l.invariant.0 in
@@ -47,7 +47,7 @@ overflow_add-size c =
 
 pub overflow_sub-left : goal.overflow_sub-left
 overflow_sub-left c =
-    let s = c.args.made.now.plan in
+    let s = c.args.weighing.now.made.plan in
     let p = c.requires in
     let l = c.loop-c in
     let t = turn s.sound_template s.depth_value c.components-components.ensures l.auto.c c.loop-c-test.true l.invariant.0 in
@@ -55,7 +55,7 @@ overflow_sub-left c =
 
 pub support-requires-clause-le_size : goal.support-requires-clause-le_size
 support-requires-clause-le_size c =
-    let s = c.args.made.now.plan in
+    let s = c.args.weighing.now.made.plan in
     let p = c.requires in
     let l = c.loop-c in
     let t = turn s.sound_template s.depth_value c.components-components.ensures l.auto.c c.loop-c-test.true l.invariant.0 in
@@ -63,7 +63,7 @@ support-requires-clause-le_size c =
 
 pub support-requires-clause-path : goal.support-requires-clause-path
 support-requires-clause-path c =
-    let s = c.args.made.now.plan in
+    let s = c.args.weighing.now.made.plan in
     let p = c.requires in
     let l = c.loop-c in
     let t = turn s.sound_template s.depth_value c.components-components.ensures l.auto.c c.loop-c-test.true l.invariant.0 in
@@ -71,41 +71,40 @@ support-requires-clause-path c =
 
 pub slot-opened-requires : goal.slot-opened-requires
 slot-opened-requires c =
-    let s = c.args.made.now.plan in
+    let s = c.args.weighing.now.made.plan in
     let p = c.requires in
     let l = c.loop-c in
     let t = turn s.sound_template s.depth_value c.components-components.ensures l.auto.c c.loop-c-test.true l.invariant.0 in
     omega (arith, next_less t, t.whole, t.sound.deep)
 
-pub lead_all-requires-clause-le_d : goal.lead_all-requires-clause-le_d
-lead_all-requires-clause-le_d c =
-    let s = c.args.made.now.plan in
+pub invariant_of-gap : goal.invariant_of-gap
+invariant_of-gap c =
+    let s = c.args.weighing.now.made.plan in
     let p = c.requires in
     let l = c.loop-c in
     let t = turn s.sound_template s.depth_value c.components-components.ensures l.auto.c c.loop-c-test.true l.invariant.0 in
-    let apart = c.after-apart.ensures in
-    let z = turn_apart t apart in
-    (z.some, z.near, z.any, z.few)
+    let z = turn_apart t c.after.ensures in
+    record { near_bound = (z.some, z.near); count_bound = (z.any, z.few) }
 
 pub lead_all-requires-clause-bounded : goal.lead_all-requires-clause-bounded
 lead_all-requires-clause-bounded c =
-    let s = c.args.made.now.plan in
+    let s = c.args.weighing.now.made.plan in
     let p = c.requires in
     let is = c.support.ensures.row (omega arith) in
     row_bounded _ _ s.sound_set.adds s.sound_set.few _ (prefix_long s.search.template _ _) _ is
 
 pub lead_all-requires-clause-lengths_in_bounds : goal.lead_all-requires-clause-lengths_in_bounds
 lead_all-requires-clause-lengths_in_bounds c =
-    let s = c.args.made.now.plan in
+    let s = c.args.weighing.now.made.plan in
     let p = c.requires in
     let l = c.loop-c in
     let i = l.invariant in
     let room : sum s.layout.lengths.now ≤ length l.ways = omega (arith, s.sound_set.adds, p.letters_in_bounds, l.auto.ways) in
-    (search rules, search rules, room)
+    room
 
 pub lead_all-requires-clause-by_index : goal.lead_all-requires-clause-by_index
 lead_all-requires-clause-by_index c =
-    let s = c.args.made.now.plan in
+    let s = c.args.weighing.now.made.plan in
     let p = c.requires in
     let l = c.loop-c in
     let i = l.invariant in
@@ -118,7 +117,7 @@ lead_all-requires-clause-by_index c =
 
 pub lead_all-requires-clause-by_index_2 : goal.lead_all-requires-clause-by_index_2
 lead_all-requires-clause-by_index_2 c =
-    let s = c.args.made.now.plan in
+    let s = c.args.weighing.now.made.plan in
     let p = c.requires in
     let l = c.loop-c in
     let i = l.invariant in
@@ -127,13 +126,13 @@ lead_all-requires-clause-by_index_2 c =
     let goes : eqb l.c 1 ≡ false → LeadsTo s.search.template s.layout.lengths.now s.letters.now (l.c - 1) (c.args.motif / base_of s.search.template ^ (s.depth - l.size)) l.ways = λ e. i.1 (later l.c l.auto.c e) in
     let room : sum s.layout.lengths.now ≤ length l.ways = omega (arith, s.sound_set.adds, p.letters_in_bounds, l.auto.ways) in
     let is = c.support.ensures.row (omega arith) in
-    let apart = c.after-apart.ensures in
+    let apart = c.after.ensures in
     let opened = c.slot-opened.ensures in
     rw opened.slot (next_dark t _ _ s.sound_set c.args.motif _ _ (eqb l.c 1) begins goes room _ c.prefix-number.ensures is apart _ p.path)
 
 pub loop-c-preserved : goal.loop-c-preserved
 loop-c-preserved c =
-    let s = c.args.made.now.plan in
+    let s = c.args.weighing.now.made.plan in
     let p = c.requires in
     let l = c.loop-c in
     let i = l.invariant in
@@ -143,4 +142,4 @@ loop-c-preserved c =
     let room : sum s.layout.lengths.now ≤ length l.ways = omega (arith, s.sound_set.adds, p.letters_in_bounds, l.auto.ways) in
     let is = c.support.ensures.row (omega arith) in
     let z : l.c + 1 - 1 ≡ l.c = omega arith in
-    (rw z (next_letters t), (λ _. rw z (next_led t _ _ s.sound_set c.args.motif _ _ (eqb l.c 1) begins goes room _ c.prefix-number.ensures is c.after-apart.ensures _ _ c.lead_all.ensures.holds_counts)))
+    (rw z (next_letters t), (λ _. rw z (next_led t _ _ s.sound_set c.args.motif _ _ (eqb l.c 1) begins goes room _ c.prefix-number.ensures is c.after.ensures _ _ c.lead_all.ensures.holds_counts)))

@@ -9,5 +9,5 @@ use Rattle.matching.specs.Weights.{LeadsTo}
 use Rattle.matching.proofs.weights.count_ways.Given as goal
 
 abbrev pub invariant-loop-c : goal.invariant-loop-c
-invariant-loop-c l = (l.size ≡ letters_before (templates.components l.made.plan.search.template) (l.c - 1))
-    × (2 ≤ l.c → LeadsTo l.made.plan.search.template l.made.plan.layout.lengths.now l.made.plan.letters.now (l.c - 1) (l.motif / base_of l.made.plan.search.template ^ (l.made.plan.depth - l.size)) l.ways)
+invariant-loop-c l = (l.size ≡ letters_before (templates.components l.weighing.made.plan.search.template) (l.c - 1))
+    × (2 ≤ l.c → LeadsTo l.weighing.made.plan.search.template l.weighing.made.plan.layout.lengths.now l.weighing.made.plan.letters.now (l.c - 1) (l.motif / base_of l.weighing.made.plan.search.template ^ (l.weighing.made.plan.depth - l.size)) l.ways)

@@ -12,8 +12,5 @@ use Rattle.matching.proofs.weights.lead_sequences.Given as goal
 abbrev pub Led_to : ℕ → List ℕ → List ℕ → List ℕ → Bool → ℕ → ℕ → List ℕ → List ℕ → ℕ → Type 0
 Led_to w ns row opened first d n x y e = Led (is_marked row) (led_at first d n ns row x) ns opened (w * 64) (w * 64 + e) x y
 
-abbrev pub invariant-loop-rest : goal.invariant-loop-rest
-invariant-loop-rest l = Walk (Led_to l.w l.plan.layout.lengths.now l.row l.opened l.first l.apart.near l.apart.count l.initial.counts l.counts) (get_or l.row l.w 0) l.rest
-
-abbrev pub decreases-loop-rest : goal.decreases-loop-rest
-decreases-loop-rest l = l.rest
+abbrev pub invariant-loop-place : goal.invariant-loop-place
+invariant-loop-place l = Walk (Led_to l.w l.weighing.made.plan.layout.lengths.now l.row l.opened l.first l.gap.apart.near l.gap.apart.count l.initial.counts l.counts) (get_or l.row l.w 0) l.place-iterator.0

@@ -23,7 +23,7 @@ as_number e h = rw e h
 pub add_all-requires-clause-bounded : goal.add_all-requires-clause-bounded
 add_all-requires-clause-bounded c =
     let a = c.args in
-    let s = a.made.now.plan in
+    let s = a.weighing.now.made.plan in
     let p = c.requires in
     let o = s.sound_set in
     row_bounded _ _ o.adds o.few _ (prefix_long s.search.template _ _) _ p.row
@@ -31,7 +31,7 @@ add_all-requires-clause-bounded c =
 pub add_all-requires-clause-lengths_in_bounds : goal.add_all-requires-clause-lengths_in_bounds
 add_all-requires-clause-lengths_in_bounds c =
     let a = c.args in
-    let s = a.made.now.plan in
+    let s = a.weighing.now.made.plan in
     let p = c.requires in
     let j = c.if-stale in
     let ways_long : length j.ways ≡ length a.ways.now =
@@ -40,12 +40,12 @@ add_all-requires-clause-lengths_in_bounds c =
       | else-stale w ↦ ap length w.ways-is
     ] in
     let o = s.sound_set in
-    (search rules, omega (arith, o.adds, p.letters_in_bounds, ways_long))
+    omega (arith, o.adds, p.letters_in_bounds, ways_long)
 
 pub add_all-requires-clause-by_index : goal.add_all-requires-clause-by_index
 add_all-requires-clause-by_index c =
     let a = c.args in
-    let s = a.made.now.plan in
+    let s = a.weighing.now.made.plan in
     let p = c.requires in
     let o = s.sound_set in
     bits_past s.search.template s.sound_template _ _ o _ _ s.depth_value _ p.row
@@ -53,7 +53,7 @@ add_all-requires-clause-by_index c =
 pub add_all-requires-clause-counts_bound : goal.add_all-requires-clause-counts_bound
 add_all-requires-clause-counts_bound c =
     let a = c.args in
-    let s = a.made.now.plan in
+    let s = a.weighing.now.made.plan in
     let p = c.requires in
     let j = c.if-stale in
     let leads : Leads s.search.template s.layout.lengths.now s.letters.now (prefix_of s.search.template a.motif) j.ways =
@@ -67,7 +67,7 @@ add_all-requires-clause-counts_bound c =
 pub returns-clause-value : goal.returns-clause-value
 returns-clause-value c =
     let a = c.args in
-    let s = a.made.now.plan in
+    let s = a.weighing.now.made.plan in
     let p = c.requires in
     let j = c.if-stale in
     let leads : Leads s.search.template s.layout.lengths.now s.letters.now (prefix_of s.search.template a.motif) j.ways =

@@ -27,15 +27,16 @@ parts c =
       m = omega (arith, k.front_len, c.min.ensures);
     }
 
-pub add_stretch-total-requires : goal.add_stretch-total-requires
-add_stretch-total-requires c =
+pub invariant_of-add_stretch : goal.invariant_of-add_stretch
+invariant_of-add_stretch c =
     let i = c.loop-stretch.invariant in
-    let q = parts (goal.at.add_stretch-total-requires c).After-split_at in
+    let q = parts (goal.at.invariant_of-add_stretch c).After-split_at in
     let w = counted_part q i.0 in
     record {
-      row_in_bounds = (w.most, w.least);
-      by_index = w.dark;
-      counts_bound = omega (arith, sum_parts q i.0, i.1, c.requires.counts_bound);
+      most = w.most;
+      least = w.least;
+      dark = w.dark;
+      small = omega (arith, sum_parts q i.0, i.1, c.requires.counts_bound);
     }
 
 pub overflow_add-total : goal.overflow_add-total
@@ -52,13 +53,14 @@ loop-stretch-preserved c =
     let q = parts (goal.at.loop-stretch-preserved c).After-split_at in
     (counted_rest q i.0, omega (arith, sum_parts q i.0, i.1))
 
-pub add_words-requires : goal.add_words-requires
-add_words-requires c =
+pub invariant_of-add_words : goal.invariant_of-add_words
+invariant_of-add_words c =
     let i = c.loop-stretch.invariant in
     record {
-      row_in_bounds = (i.0.most, i.0.least);
-      by_index = i.0.dark;
-      counts_bound = omega (arith, i.1, c.requires.counts_bound);
+      most = i.0.most;
+      least = i.0.least;
+      dark = i.0.dark;
+      small = omega (arith, i.1, c.requires.counts_bound);
     }
 
 pub overflow_add-result : goal.overflow_add-result

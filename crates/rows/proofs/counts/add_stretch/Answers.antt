@@ -6,4 +6,4 @@ use Rattle.rows.proofs.counts.add_stretch.Goals as goal
 pub returns-then-empty : goal.returns-then-empty
 returns-then-empty c =
     let a = c.args in
-    empty_sum a.row.now a.counts.now (sym c.empty.ensures ∙ c.if-empty.true)
+    empty_sum a.part.row.now a.part.counts.now (sym c.empty.ensures ∙ c.if-empty.true)

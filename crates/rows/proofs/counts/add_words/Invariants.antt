@@ -10,6 +10,6 @@ use Rattle.rows.proofs.counts.add_words.Given as goal
 
 abbrev pub invariant-loop-q : goal.invariant-loop-q
 invariant-loop-q l =
-    let words = drop l.q l.row in
-    let counts = drop (64 * l.q) l.counts in
-    Counted words counts × (l.total + sum (masked (held words) counts) ≡ sum (masked (held l.row) l.counts))
+    let words = drop l.q l.part.row.now in
+    let counts = drop (64 * l.q) l.part.counts.now in
+    Counted words counts × (l.total + sum (masked (held words) counts) ≡ sum (masked (held l.part.row.now) l.part.counts.now))

@@ -11,4 +11,4 @@ returns-then-o-d c = sym (ago_out _ _ _ (omega arith))
 pub returns : goal.returns
 returns c =
     let a = c.args in
-    ago_held a.row.now a.counts.now a.o a.d (omega arith) refl c.when.ensures
+    ago_held a.ways.row.now a.ways.counts.now a.o a.d (omega arith) refl c.when.ensures

@@ -1,5 +1,4 @@
 use borrow.Author.Rules.{rules}
-use mathlib.Core.Path.{◌∙◌}
 use Prim.Native.Nat.{◌*◌, ◌≤◌}
 use native.Mathlib.Omega.{arith}
 use Rattle.rules.specs.Limits.{sequence_set_sequences}
@@ -13,9 +12,8 @@ pub open_sequences-requires : goal.open_sequences-requires
 open_sequences-requires c =
     let p = c.requires in
     let l = c.loop-w in record {
-      w_bound = (search rules, p.count_bound);
+      w_bound = search rules;
       bounded = same_bounds _ _ _ _ l.invariant.3.walked.kept p.bounded;
-      lengths_in_bounds = (search rules, search rules);
     }
 
 pub loop-w-preserved : goal.loop-w-preserved
@@ -24,8 +22,8 @@ loop-w-preserved c =
     let l = c.loop-w in
     let e = c.open_sequences.ensures in (
       search rules,
-      e.row_len_unchanged.1 ∙ l.invariant.1,
-      e.row_len_unchanged.0 ∙ l.invariant.2,
+      search rules,
+      search rules,
       opened_word _ _ _ _ _ l.w p.bounded (search rules) l.invariant.3 _ e.row_unchanged e.row_unchanged_2 e.by_index,
     )
 
@@ -36,5 +34,4 @@ returns c =
     let n : sequence_set_sequences ≤ l.w * 64 = omega (arith, c.loop-w-test.false) in record {
       marked = opened_marks _ _ _ _ _ _ n l.invariant.3;
       filled = opened_all _ _ _ _ _ _ n l.invariant.3 c.args.layout.now.few;
-      row_len_unchanged = (l.invariant.2, l.invariant.1);
     }

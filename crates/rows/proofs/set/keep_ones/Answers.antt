@@ -1,23 +1,20 @@
+use borrow.Author.Rules.{rules}
 use mathlib.Core.Path.{refl, ◌∙◌}
 use Prim.Native.Nat.{ℕ, ◌+◌, ◌*◌, ◌<◌}
 use native.Mathlib.Omega.{arith}
 use lib.ListN.{length, length-set}
 use Rattle.rows.specs.Set.{row_marks}
-use Rattle.rows.proofs.Sets.{first_past}
+use Rattle.rows.proofs.Arrays.{words_fit}
 use Rattle.rows.proofs.Kept.{going_begin, end_left, end_walked, word_in, kept_turn}
 use Rattle.rows.proofs.Lowest.{taken_in}
 use Rattle.rows.proofs.Tally.{bit_from}
 use Rattle.rows.proofs.set.keep_ones.Goals as goal
 use Rattle.rows.proofs.set.keep_ones.Goals.{In-Some}
 
-pub bounds-row-w : goal.bounds-row-w
-bounds-row-w c =
-    omega (arith, c.requires.w_bound, c.requires.lengths_in_bounds, first_past c.args.layout.now.lengths.now (length c.args.layout.now.lengths.now))
-
 pub loop-place-init : goal.loop-place-init
 loop-place-init c =
     let a = c.args in
-    (refl, rw c.into_iter-place-iterator.ensures.into_iter_gives (record { lost = 0; going = going_begin a.i a.layout.now.lengths.now a.letter.now a.row.now a.w (c.type_inv.row a.w).fits a.out.now }))
+    (refl, rw c.into_iter-place-iterator.ensures.into_iter_gives (record { lost = 0; going = going_begin a.by.places a.layout.now.lengths.now a.letter.now a.row.now a.w (words_fit a.row.now c.type_inv.row a.w) a.out.now }))
 
 -- at a turn there is a next mark, and the word of its sequence
 in_word : (c : In-Some) → c.in-Some.place < 64
@@ -28,7 +25,7 @@ inside c =
     let a = c.args in
     let p = c.requires in
     let l = c.loop-place in
-    word_in a.i a.layout.now.lengths.now a.letter.now a.row.now a.w (c.type_inv.row a.w).fits a.out.now l.out l.place-iterator.0 l.marks l.invariant.1 c.in-Some.ensures.steps a.layout.now.firsts.now c.args.layout.now.laid (a.layout.now.ones p.short) p.bounded p.w_bound.0 p.lengths_in_bounds.0 refl
+    word_in a.by.places a.layout.now.lengths.now a.letter.now a.row.now a.w (words_fit a.row.now c.type_inv.row a.w) a.out.now l.out l.place-iterator.0 l.marks l.invariant.1 c.in-Some.ensures.steps a.layout.now.firsts.now c.args.layout.now.laid (a.layout.now.ones p.short) p.bounded p.w_bound (omega (arith, a.layout.now.inside)) refl
 
 pub overflow_cast-at : goal.overflow_cast-at
 overflow_cast-at c = omega (arith, in_word (goal.at.overflow_cast-at c).In-Some)
@@ -46,13 +43,13 @@ pub offset_bounds-letter-at : goal.offset_bounds-letter-at
 offset_bounds-letter-at c = omega (arith, in_word (goal.at.offset_bounds-letter-at c).In-Some, c.requires.w_bound)
 
 pub bounds-letter-at : goal.bounds-letter-at
-bounds-letter-at c = omega (arith, inside (goal.at.bounds-letter-at c).In-Some, c.requires.lengths_in_bounds)
+bounds-letter-at c = omega (arith, inside (goal.at.bounds-letter-at c).In-Some)
 
 pub offset_bounds-out-at : goal.offset_bounds-out-at
 offset_bounds-out-at c = omega (arith, in_word (goal.at.offset_bounds-out-at c).In-Some, c.requires.w_bound)
 
 pub bounds-out-at : goal.bounds-out-at
-bounds-out-at c = omega (arith, inside (goal.at.bounds-out-at c).In-Some, c.requires.lengths_in_bounds, c.loop-place.invariant.0)
+bounds-out-at c = omega (arith, inside (goal.at.bounds-out-at c).In-Some, c.loop-place.invariant.0)
 
 pub overflow_shl-marks : goal.overflow_shl-marks
 overflow_shl-marks c = omega (arith, in_word (goal.at.overflow_shl-marks c).In-Some)
@@ -64,9 +61,9 @@ loop-place-preserved c =
     let l = c.loop-place in
     let at : ℕ = row_marks + a.w * 64 + c.in-Some.place in (
       length-set l.out at _ ∙ l.invariant.0,
-      kept_turn a.i a.layout.now.lengths.now a.letter.now a.row.now a.w (c.type_inv.row a.w).fits a.out.now l.out l.place-iterator.0 l.marks l.invariant.1 c.in-Some.ensures.steps a.layout.now.firsts.now c.args.layout.now.laid (a.layout.now.ones p.short) p.bounded p.w_bound.0 p.lengths_in_bounds.0 refl
-          p.w_bound.1 p.lengths_in_bounds.1 (l.invariant.0 ∙ p.lengths_in_bounds.2)
-          (c.type_inv.letter at).fits (c.type_inv.row at).fits (bit_from _ c.from.ensures),
+      kept_turn a.by.places a.layout.now.lengths.now a.letter.now a.row.now a.w (words_fit a.row.now c.type_inv.row a.w) a.out.now l.out l.place-iterator.0 l.marks l.invariant.1 c.in-Some.ensures.steps a.layout.now.firsts.now c.args.layout.now.laid (a.layout.now.ones p.short) p.bounded p.w_bound (omega (arith, a.layout.now.inside)) refl
+          a.by.in_word (search rules) (search rules)
+          (words_fit a.letter.now c.type_inv.letter at) (words_fit a.row.now c.type_inv.row at) (bit_from _ c.from.ensures),
     )
 
 pub returns : goal.returns
@@ -74,10 +71,10 @@ returns c =
     let l = c.loop-place in
     let a = c.args in
     let g = l.invariant.1.going in
-    let fits = (c.type_inv.row a.w).fits in
+    let fits = words_fit a.row.now c.type_inv.row a.w in
     let none = c.in-None.ensures.steps in
     record {
-      by_index = end_left a.i a.layout.now.lengths.now a.letter.now a.row.now a.w fits a.out.now l.out l.place-iterator.0 l.marks _ g none;
-      out_unchanged = (g.so_far.walked.kept, l.invariant.0);
-      by_index_2 = end_walked a.i a.layout.now.lengths.now a.letter.now a.row.now a.w fits a.out.now l.out l.place-iterator.0 l.marks _ g none;
+      by_index = end_left a.by.places a.layout.now.lengths.now a.letter.now a.row.now a.w fits a.out.now l.out l.place-iterator.0 l.marks _ g none;
+      out_unchanged = g.so_far.walked.kept;
+      by_index_2 = end_walked a.by.places a.layout.now.lengths.now a.letter.now a.row.now a.w fits a.out.now l.out l.place-iterator.0 l.marks _ g none;
     }

@@ -6,5 +6,5 @@ use Rattle.rows.proofs.set.keep_sequence.Goals as goal
 pub returns-then-row-eq1 : goal.returns-then-row-eq1
 returns-then-row-eq1 c =
     let a = c.args in
-    let k = alone_kept a.i a.letter.now a.row.now a.out.now (search rules) (search rules) (search rules) (search rules) (c.type_inv.letter 0).fits (c.type_inv.row 0).fits in
+    let k = alone_kept a.by.places a.letter.now a.row.now a.out.now (search rules) (search rules) (search rules) (search rules) (c.type_inv.letter 0).fits (c.type_inv.row 0).fits in
     record { out_after = k.0; value = k.1 }

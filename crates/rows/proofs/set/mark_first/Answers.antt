@@ -15,7 +15,7 @@ pub loop-k-preserved : goal.loop-k-preserved
 loop-k-preserved c =
     let l = c.loop-k in
     let h : l.k < sequence_set_sequences = omega (arith, c.requires.n_bound, c.loop-k-test.true) in
-    let long : row_marks ≤ length l.row = omega (arith, l.invariant.1, c.requires.n_bound) in
+    let long : row_marks ≤ length l.row = omega (arith, l.invariant.1) in
     (search rules, begun_long _ _ _ l.invariant.2 h long ∙ l.invariant.1, begun_turn _ _ _ l.invariant.2 h long)
 
 pub returns : goal.returns
@@ -23,5 +23,5 @@ returns c =
     let l = c.loop-k in
     record {
       marked = begun_end _ _ _ _ (search rules) l.invariant.2;
-      row_len_unchanged = (l.invariant.1, l.invariant.2.past);
+      by_index_2 = l.invariant.2.past;
     }

@@ -17,7 +17,7 @@ shift_down-requires c =
     let p = c.requires in
     let l = c.loop-k in
     let t = c.words-from.ensures.inside in
-    (mid_len _ _ l.out (omega (arith, t.1, p.lengths_in_bounds.1, l.invariant.1)) ∙ sym (mid_len _ _ c.args.row.now (omega (arith, t.1, p.lengths_in_bounds.0))), p.i_bound)
+    mid_len _ _ l.out (omega (arith, t.1, c.args.layout.now.inside, l.invariant.1)) ∙ sym (mid_len _ _ c.args.row.now (omega (arith, t.1, c.args.layout.now.inside)))
 
 pub loop-k-preserved : goal.loop-k-preserved
 unfolding between
@@ -28,15 +28,14 @@ loop-k-preserved c =
     let k = c.words-from.ensures.place in
     let t = c.words-from.ensures.inside in
     let o = c.shift_down in
-    let e = part_opened _ _ l.out t.0 (omega (arith, t.1, p.lengths_in_bounds.1, l.invariant.1)) o.new.out o.auto.out o.ensures in (
+    let e = part_opened _ _ l.out t.0 (omega (arith, t.1, c.args.layout.now.inside, l.invariant.1)) o.new.out o.auto.out o.ensures in (
       search rules,
       e.1 ∙ l.invariant.1,
-      filled_turn _ _ _ l.out _ _ h l.invariant.2 k.0 k.1 e.0 (λ _. shifted_is_at _ _ h k.0 k.1 c.args.i c.args.row.now e.2),
+      filled_turn _ _ _ l.out _ _ h l.invariant.2 k.0 k.1 e.0 (λ _. shifted_is_at _ _ h k.0 k.1 c.args.by.places c.args.row.now e.2),
     )
 
 pub returns : goal.returns
 returns c =
     let l = c.loop-k in record {
       filled = filled_end _ _ _ _ _ _ (search rules) l.invariant.2;
-      out_len_unchanged = l.invariant.1;
     }

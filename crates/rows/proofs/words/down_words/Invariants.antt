@@ -7,4 +7,4 @@ use Rattle.rows.specs.Words.{ahead_word}
 use Rattle.rows.proofs.words.down_words.Given as goal
 
 abbrev pub invariant-loop-q : goal.invariant-loop-q
-invariant-loop-q l = (l.q ≤ l.n) × (length l.out ≡ length l.initial.out) × (length l.initial.out ≡ length l.row) × (l.n < length l.row) × (l.out ≡ over (ahead_word l.i l.row) l.q l.initial.out)
+invariant-loop-q l = (l.q ≤ l.n) × (length l.out ≡ length l.initial.out) × (length l.initial.out ≡ length l.row) × (l.n < length l.row) × (l.out ≡ over (ahead_word l.by.places l.row) l.q l.initial.out)

@@ -16,7 +16,7 @@ pub loop-q-preserved : goal.loop-q-preserved
 loop-q-preserved c =
     let l = c.loop-q in
     let a = c.args in
-    let w = c.down_some.ensures ∙ ap (λ (x : ℕ). shifted_down a.i x (get_or a.letters.now (l.q + 1) 0)) l.invariant.7 in (
+    let w = c.down_some.ensures ∙ ap (λ (x : ℕ). shifted_down a.by.places x (get_or a.letters.now (l.q + 1) 0)) l.invariant.7 in (
       search rules,
       search rules,
       search rules,

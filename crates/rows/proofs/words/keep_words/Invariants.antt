@@ -13,5 +13,5 @@ use Rattle.rows.proofs.words.keep_words.Given as goal
 
 abbrev pub invariant-loop-q : goal.invariant-loop-q
 invariant-loop-q l = (l.q ≤ l.n) × (length l.out ≡ length l.initial.out) × (length l.initial.out ≡ length l.row) × (length l.letters ≡ length l.row) × (l.n < length l.row)
-    × (eqb l.all 0 ≡ not (has_left (map (extended_word l.i l.letters l.row) (run 0 l.q))))
-    × (l.out ≡ over (extended_word l.i l.letters l.row) l.q l.initial.out) × (l.low ≡ get_or l.letters l.q 0)
+    × (eqb l.all 0 ≡ not (has_left (map (extended_word l.by.places l.letters l.row) (run 0 l.q))))
+    × (l.out ≡ over (extended_word l.by.places l.letters l.row) l.q l.initial.out) × (l.low ≡ get_or l.letters l.q 0)

@@ -19,7 +19,7 @@ shift_words-requires c =
     let a = c.args in
     let u = c.up in
     let f = c.fill-2 in record {
-      out_len = (shift_length a.d a.row.now a.out.now (search rules) u.result (search rules) (f.ensures.after (λ _ e. e)) ∙ search rules, search rules, search rules);
+      out_len = (shift_length a.d a.row.now a.out.now (search rules) u.result (search rules) (f.ensures.after (λ _ e. e)) ∙ search rules, search rules);
       out_value = over_again _ _ _ (shift_begun _ _ a.out.now (search rules) (search rules) (f.ensures.after (λ _ e. e)) u.ensures);
     }
 

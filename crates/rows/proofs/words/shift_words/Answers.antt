@@ -4,12 +4,11 @@ use Rattle.rules.proofs.Over.{over_put, over_end}
 use Rattle.rows.proofs.words.shift_words.Goals as goal
 
 pub loop-q-init : goal.loop-q-init
-loop-q-init c = (search rules, search rules, search rules, search rules, search rules, search rules)
+loop-q-init c = (search rules, search rules, search rules, search rules, search rules)
 
 pub loop-q-preserved : goal.loop-q-preserved
 loop-q-preserved c =
-    let i = c.loop-q.invariant.5 in (
-      search rules,
+    let i = c.loop-q.invariant.4 in (
       search rules,
       search rules,
       search rules,
@@ -18,4 +17,4 @@ loop-q-preserved c =
     )
 
 pub returns : goal.returns
-returns c = over_end _ _ _ c.loop-q.invariant.5 (search rules)
+returns c = over_end _ _ _ c.loop-q.invariant.4 (search rules)
