@@ -21,7 +21,7 @@ use matching::{SLOTS, WORDS, path, weights};
 use rules::{Leg, Place, Search, Stop, Template};
 
 // What a leg answers that stopped at a place.
-fn stopped(stop: Stop, steps: u64, rows: usize, s: Search, place: Place) -> Leg
+pub fn stopped(stop: Stop, steps: u64, rows: usize, s: Search, place: Place) -> Leg
     ensures { result ≡ record { answer = Ok stop; steps = steps; rows = rows; search = moved s place } }
 {
     Leg {
