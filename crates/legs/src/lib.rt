@@ -11,7 +11,7 @@ ghost use Rattle.rules.specs.Told.{fine, told_leg};
 
 use matching::made::Spot;
 use matching::tables;
-use rules::{Leg, Search, SequenceSet, Sequences, Stop};
+use rules::{Leg, Search, Sequences, Stop};
 
 // A leg of a search, as `search::leg` promises it, of which 13 alone is left to check. A search that has ended is answered with no table.
 // Else the tables that it works in are its own, and have the path of its place once 13 is checked: it goes on from there. The three that
@@ -42,7 +42,6 @@ pub fn leg(
     let mut slots = [0u64; matching::SLOTS];
     let mut work = [0u64; matching::WORDS];
     let mut spare = [0u64; matching::WORDS];
-    let mut ways = [0u64; SequenceSet::LETTERS];
     let made = tables::make(
         search,
         set,
@@ -56,7 +55,7 @@ pub fn leg(
     match places::check_passes(&made, &mut slots, &mut spare) {
         Err(why) => Leg::refused(search, why),
         Ok(()) => run::run(
-            &made, budget, motifs, supports, weights, &mut slots, &mut work, &mut spare, &mut ways,
+            &made, budget, motifs, supports, weights, &mut slots, &mut work, &mut spare,
         ),
     }
 }
