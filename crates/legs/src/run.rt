@@ -14,7 +14,7 @@ ghost use Rattle.matching.specs.Path.{prefix_starts, Path};
 ghost use Rattle.matching.specs.Weights.{prefix_of, Counted};
 ghost use Rattle.legs.specs.AcceptedLeg.{room_of, told_of};
 
-use super::step;
+use super::step::Candidate;
 use matching::made::Made;
 use matching::{SLOTS, WORDS, path, weights};
 use rules::{Leg, Place, Search, SequenceSet, Stop, Template};
@@ -113,8 +113,7 @@ pub fn run(
     ensures supports_after { supports.new ≡ put (supports_of made.now.plan.letters.now made.now.plan.layout.lengths.now made.now.plan.search (stretch made.now.plan.letters.now made.now.plan.layout.lengths.now made.now.plan.search budget (room_of motifs.old supports.old weights.old)).motifs) supports.old }
     ensures weights_after { weights.new ≡ put (weights_of made.now.plan.letters.now made.now.plan.layout.lengths.now made.now.plan.search (stretch made.now.plan.letters.now made.now.plan.layout.lengths.now made.now.plan.search budget (room_of motifs.old supports.old weights.old)).motifs) weights.old }
 {
-    let plan = made.plan;
-    let s = plan.search;
+    let s = made.plan.search;
     let quorum = s.quorum;
     let room = motifs.len().min(supports.len()).min(weights.len());
     let profile = s.template.profile;
@@ -132,7 +131,7 @@ pub fn run(
         }
         let found = path::examine(made, place, quorum as u32, slots, work, spare);
         let frequent = quorum <= found as u64;
-        let hit = (place.letters == plan.depth) & frequent;
+        let hit = (place.letters == made.plan.depth) & frequent;
         if hit & (rows == room) {
             return stopped(Stop::Full, steps, rows, s, place);
         }
@@ -154,7 +153,11 @@ pub fn run(
             );
         }
         steps += 1;
-        place = step::next_place(&plan, place, frequent);
+        let at = Candidate {
+            plan: &made.plan,
+            place,
+        };
+        place = at.next_place(frequent);
     }
     stopped(Stop::Ended, steps, rows, s, place)
 }

@@ -59,10 +59,10 @@ list-rows-requires-clause-motif_bound c =
     let below = run_below _ _ _ i.0 _ _ _ _ _ i.1 in
     (below_whole (base_of s.search.template) l.place.letters l.place.number (hit_whole l.place.letters _ _ refl c.if-hit.true) below, c.prefix-prefix.ensures ∙ c.last_letters-last.ensures.0 l.place.number)
 
-pub next_place-place-requires : goal.next_place-place-requires
-next_place-place-requires c =
+pub invariant_of-at : goal.invariant_of-at
+invariant_of-at c =
     let i = c.loop-place.invariant in
-    record { place_value = (omega (arith, c.args.made.now.plan.depth_value, run_depth _ _ _ i.0 _ _ _ _ _ i.1), run_valid _ _ _ i.0 _ _ _ _ _ i.1) }
+    record { some = c.loop-place-test.true; few = run_depth _ _ _ i.0 _ _ _ _ _ i.1; allowed = run_valid _ _ _ i.0 _ _ _ _ _ i.1 }
 
 pub loop-place-preserved : goal.loop-place-preserved
 loop-place-preserved c =
