@@ -12,7 +12,7 @@ use lib.Dec.{eqb, leb, ltb}
 use Rattle.rules.specs.Calls.{moved, motif_parts, stretch, supports_of, weights_of}
 use Rattle.rules.specs.Legs.{leg}
 use Rattle.rules.specs.declared.Stop.{Stop}
-use Rattle.rules.specs.Lists.{if, put}
+use Rattle.rules.specs.Lists.{put}
 use Rattle.rules.specs.Profile.{base_of}
 use Rattle.rules.specs.Saved.{meets_place_rule}
 use Rattle.rules.specs.Sequences.{sequences}
@@ -80,19 +80,17 @@ module _ (letters lengths : List ℕ) (s : Search) (o : SoundSearch letters leng
           → Running motifs' supports' weights' (steps + 1) (rows + 1) q
       run_lists m k lm ls lw em es ew = record { follow = follow_lists _ _ _ _ _ _ _ _ _ r.follow h l e m k lm ls lw em es ew; passing = then_passing }
 
-      -- a step that lists its candidate if it is a motif: the row has its number, its support and its weighted support
-      pub run_step : {motifs' supports' weights' : List ℕ} {rows' found : ℕ} (hit : Bool) → motif (walk_of letters lengths s) p ≡ hit → hit && eqb rows room ≡ false
+      -- a candidate that is a motif: its row has its number, its support and its weighted support
+      pub run_listed : {motifs' supports' weights' : List ℕ} {found : ℕ} → motif (walk_of letters lengths s) p ≡ true → (rows ≡ room → ⊥)
           → room ≤ length motifs₀ → room ≤ length supports₀ → room ≤ length weights₀
-          → (hit ≡ true → found ≡ support (parts s.template p.letters p.number) (sequences letters lengths))
-          → motifs' ≡ if hit (set motifs rows p.number) motifs → supports' ≡ if hit (set supports rows found) supports → weights' ≡ if hit (set weights rows (weight (motif_parts s p.number) (sequences letters lengths))) weights
-          → rows' ≡ if hit (rows + 1) rows → Running motifs' supports' weights' (steps + 1) rows' q
+          → found ≡ support (parts s.template p.letters p.number) (sequences letters lengths)
+          → motifs' ≡ set motifs rows p.number → supports' ≡ set supports rows found → weights' ≡ set weights rows (weight (motif_parts s p.number) (sequences letters lengths))
+          → Running motifs' supports' weights' (steps + 1) (rows + 1) q
       unfolding motif walk_in
-      run_step {motifs'} {supports'} {weights'} {rows'} {found} true m k lm ls lw f em es ew er =
-          let u : rows < room = omega (arith, r.follow.rows, eqb-false rows room k) in
+      run_listed m free lm ls lw f em es ew =
+          let u : rows < room = omega (arith, r.follow.rows, free) in
           let d : p.letters ≡ size s.template = eqb-true _ _ ((both _ _).0 m).0 in
-          let g : found ≡ support (motif_parts s p.number) (sequences letters lengths) = rw d at (f refl) in
-          rw er (run_lists m u (omega arith) (omega arith) (omega arith) em (rw g at es) ew)
-      run_step false m k lm ls lw f em es ew er = rw (em, es, ew, er) (run_passes m)
+          run_lists m u (omega arith) (omega arith) (omega arith) em (rw (rw d at f) at es) ew
 
     -- the tables keep their lengths
     pub run_lengths : room ≡ room_of motifs₀ supports₀ weights₀ → (length motifs ≡ length motifs₀) × (length supports ≡ length supports₀) × (length weights ≡ length weights₀)
@@ -151,8 +149,7 @@ hit_reaches a {good = good} quorum found e g h = leb-true quorum found (sym g �
 pub good_reaches : {good : Bool} (quorum found : ℕ) → good ≡ leb quorum found → good ≡ true → quorum ≤ found
 good_reaches quorum found g h = leb-true quorum found (sym g ∙ h)
 
--- a motif that is not one too many has a row in each table
-pub row_left : (hit : Bool) (rows room : ℕ) (motifs supports weights : List ℕ) → hit && eqb rows room ≡ false → rows ≤ room → room ≡ room_of motifs supports weights → hit ≡ true
-    → (rows < length motifs) × (rows < length supports) × (rows < length weights)
-row_left true rows room motifs supports weights e l d h = let n = eqb-false rows room e in (omega arith, omega arith, omega arith)
-row_left false rows room motifs supports weights e l d h = absurd (false≢true h)
+-- a motif that is not one too many has a row
+pub row_free : (hit : Bool) (rows room : ℕ) → hit && eqb rows room ≡ false → hit ≡ true → rows ≡ room → ⊥
+row_free true rows room e h = eqb-false rows room e
+row_free false rows room e h = absurd (false≢true h)

@@ -2,11 +2,14 @@
 use mathlib.Core.Path.{◌≡◌, refl}
 use mathlib.Core.List.{List}
 use Prim.Native.Nat.{ℕ}
-use Rattle.rules.specs.Calls.{stretch, supports_of, weights_of, leg_rule}
+use Rattle.rules.specs.Calls.{moved, stretch, supports_of, weights_of, leg_rule}
 use Rattle.rules.specs.Lists.{put}
 use Rattle.rules.specs.Refusals.{first, search_checks}
-use Rattle.rules.specs.Told.{refuses, fine, refused, LegTold}
+use Rattle.rules.specs.Told.{gives, refuses, fine, refused, LegTold}
+use Rattle.rules.specs.Walk.{walk_of}
 use Rattle.rules.specs.declared.Search.{Search}
+use Rattle.rules.specs.declared.Stop.TheVariants.{Ended}
+use Rattle.rules.proofs.Legs.{leg_ended}
 use Rattle.legs.specs.AcceptedLeg.{room_of, told_of}
 
 module _ (letters lengths : List ℕ) (s : Search) (budget : ℕ) (motifs supports weights : List ℕ) where
@@ -23,3 +26,11 @@ module _ (letters lengths : List ℕ) (s : Search) (budget : ℕ) (motifs suppor
       (told ≡ r.told) × ((motifs' ≡ r.motifs) × ((supports' ≡ r.supports) × (weights' ≡ r.weights)))
   unfolding leg_rule
   accepted e h = rw (← e) h
+
+  -- where the search has ended, its stretch is no step: it tells that, and the tables are as they were
+  pub at_end : s.place.letters ≡ 0
+      → let t = stretch letters lengths s budget (room_of motifs supports weights) in
+      (record { answer = gives Ended; steps = 0; rows = 0; search = moved s s.place } ≡ told_of s t)
+      × ((motifs ≡ put t.motifs motifs) × ((supports ≡ put (supports_of letters lengths s t.motifs) supports) × (weights ≡ put (weights_of letters lengths s t.motifs) weights)))
+  unfolding stretch supports_of weights_of put
+  at_end h = rw (leg_ended (walk_of letters lengths s) budget (room_of motifs supports weights) s.place h) (refl, (refl, (refl, refl)))

@@ -8,7 +8,7 @@ use lib.Dec.{eqb}
 use borrow.Author.Tests.{eqb-true}
 use Rattle.rules.proofs.Tests.{both}
 use Rattle.std.proofs.lemmas.Option.{none-some}
-use Rattle.std.specs.Prelude.{Option, None}
+use Rattle.std.specs.Prelude.{None}
 use Rattle.rules.specs.Profile.{base_of}
 use Rattle.rules.specs.Support.{valid}
 use Rattle.rules.specs.Template.{size}
@@ -27,10 +27,6 @@ none_counted t ns l ways = record { leads = λ p e. absurd (none-some p e) }
 -- a listed candidate has all letters of a motif
 pub hit_whole : (j depth : ℕ) (good : Bool) {hit : Bool} → hit ≡ (eqb j depth && good) → hit ≡ true → j ≡ depth
 hit_whole j depth good e h = eqb-true j depth ((both (eqb j depth) good).0 (sym e ∙ h)).0
-
--- the ways are counted then for the prefix of a listed motif, or else for what they were
-pub counted_as : {t : Template} {ns l ways : List ℕ} {counted counted' : Option ℕ} → counted ≡ counted' → Counted t ns l counted' ways → Counted t ns l counted ways
-counted_as e h = rw e h
 
 -- where a candidate has all letters of a motif, its number, the path to it and its row are those of the motif
 pub below_whole : (base j m : ℕ) {depth : ℕ} → j ≡ depth → m < base ^ j → m < base ^ depth

@@ -11,10 +11,11 @@ ghost use Rattle.rules.specs.Told.{fine, told_leg};
 
 use matching::made::Spot;
 use matching::{WORDS, tables};
-use rules::{Leg, Search, SequenceSet, Sequences};
+use rules::{Leg, Search, Sequences, Stop};
 
-// A leg of a search, as `search::leg` promises it, of which 13 alone is left to check. The tables that it works in are its own, and
-// have the path of its place once 13 is checked: it goes on from there.
+// A leg of a search, as `search::leg` promises it, of which 13 alone is left to check. A search that has ended is answered with no table.
+// Else the tables that it works in are its own, and have the path of its place once 13 is checked: it goes on from there. The three that
+// the caller lends are no struct: C lends three, and of a struct of them each contract had to say besides that they stay the caller's.
 pub fn leg(
     set: &Sequences,
     search: Search,
@@ -29,6 +30,11 @@ pub fn leg(
     ensures supports_after { supports.new ≡ (leg_rule set.now.letters.now set.now.lengths.now search budget motifs.old supports.old weights.old).supports }
     ensures weights_after { weights.new ≡ (leg_rule set.now.letters.now set.now.lengths.now search budget motifs.old supports.old weights.old).weights }
 {
+    let place = search.place;
+    let ended = (place.letters == 0) & (place.number == 0);
+    if ended {
+        return run::stopped(Stop::Ended, 0, 0, search, place);
+    }
     let mut inside = [Spot::FIRST; matching::LETTERS];
     let mut firsts = [0u32; matching::FIRSTS];
     let mut offsets = [0u32; matching::OFFSETS];
@@ -36,7 +42,6 @@ pub fn leg(
     let mut slots = [[0u64; WORDS]; matching::SLOTS];
     let mut work = [0u64; WORDS];
     let mut spare = [0u64; WORDS];
-    let mut ways = [0u64; SequenceSet::LETTERS];
     let weighing = tables::make(
         search,
         set,
@@ -51,7 +56,6 @@ pub fn leg(
         Err(why) => Leg::refused(search, why),
         Ok(()) => run::run(
             &weighing, budget, motifs, supports, weights, &mut slots, &mut work, &mut spare,
-            &mut ways,
         ),
     }
 }

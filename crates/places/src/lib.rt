@@ -25,25 +25,10 @@ fn frequent(quorum: u64, found: Option<u32>) -> bool
     }
 }
 
-// Whether the place of a search is the ended place or a candidate: one whose prefix a letter shorter is frequent. Where there is a
-// candidate, the slots have its path then; the first of them is made before.
-fn passes(made: &Made, slots: &mut [[u64; WORDS]; SLOTS], spare: &mut [u64; WORDS]) -> bool
-    requires place_value { meets_place_rule made.now.plan.search.template made.now.plan.search.place ≡ true }
-    requires slot { Slot made.now.plan.search.template made.now.plan.layout.lengths.now made.now.plan.letters.now (row_slot 0 slots.old) 0 0 }
-    ensures value { result ≡ is_passing made.now.plan.letters.now made.now.plan.layout.lengths.now made.now.plan.search }
-    ensures path { 1 ≤ made.now.plan.search.place.letters → Path made.now.plan.search.template made.now.plan.layout.lengths.now made.now.plan.letters.now slots.new made.now.plan.search.place.letters made.now.plan.search.place.number }
-{
-    let search = made.plan.search;
-    let size = search.place.letters;
-    if size == 0 {
-        return search.place.number == 0;
-    }
-    let found = path::replay(made, slots, spare);
-    frequent(search.quorum, found)
-}
-
-// 13, of a leg: a place that the search does not pass through. Where there is a candidate, the slots have its path then, on which the leg
-// goes.
+// 13, of a leg: a place that the search does not pass through. It passes through the ended place and through each candidate: each place
+// whose prefix a letter shorter is frequent. Where there is a candidate, the slots have its path then, on which the leg goes; the first of
+// them is made before. That the place keeps its rule is a clause here and twice below, and no type: one of a search with that fact would
+// serve the two below alone, as here the search is the plan's.
 pub fn check_passes(
     made: &Made,
     slots: &mut [[u64; WORDS]; SLOTS],
@@ -54,7 +39,11 @@ pub fn check_passes(
     ensures result_value { told_checked result ≡ check13 made.now.plan.letters.now made.now.plan.layout.lengths.now made.now.plan.search }
     ensures path { 1 ≤ made.now.plan.search.place.letters → Path made.now.plan.search.template made.now.plan.layout.lengths.now made.now.plan.letters.now slots.new made.now.plan.search.place.letters made.now.plan.search.place.number }
 {
-    let through = passes(made, slots, spare);
+    let search = made.plan.search;
+    let through = match search.place.letters {
+        0 => search.place.number == 0,
+        _ => frequent(search.quorum, path::replay(made, slots, spare)),
+    };
     Refusal::NotACandidate.when(!through)
 }
 
@@ -87,29 +76,19 @@ fn candidate_alone(set: &Sequences, s: Search) -> bool
     frequent(s.quorum, found)
 }
 
-// Whether the place of a search is the ended place or a candidate, the same as `passes` for a caller that goes on with no leg: the
-// ended place and a place of one letter need no table.
-fn passes_alone(set: &Sequences, s: Search) -> bool
-    requires sound_set { SoundSet set.now.letters.now set.now.lengths.now }
-    requires sound_template { SoundTemplate s.template }
-    requires place_value { meets_place_rule s.template s.place ≡ true }
-    ensures { result ≡ is_passing set.now.letters.now set.now.lengths.now s }
-{
-    match s.place.letters {
-        0 => s.place.number == 0,
-        1 => true,
-        _ => candidate_alone(set, s),
-    }
-}
-
-// 13, for a caller that goes on with no leg.
+// 13, for a caller that goes on with no leg: the ended place and a place of one letter need no table.
 pub fn check_13(set: &Sequences, s: Search) -> Result<(), Refusal>
     requires sound_set { SoundSet set.now.letters.now set.now.lengths.now }
     requires sound_template { SoundTemplate s.template }
     requires place_value { meets_place_rule s.template s.place ≡ true }
     ensures { told_checked result ≡ check13 set.now.letters.now set.now.lengths.now s }
 {
-    let alone = passes_alone(set, s);
+    let size = s.place.letters;
+    let alone = match size {
+        0 => s.place.number == 0,
+        1 => true,
+        _ => candidate_alone(set, s),
+    };
     Refusal::NotACandidate.when(!alone)
 }
 

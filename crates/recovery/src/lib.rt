@@ -20,16 +20,8 @@ ghost use Rattle.ways.specs.Counts.{counts, aligned};
 use checks::spelled::valid;
 use checks::{check_set, check_template};
 use descent::{Descent, FLAGS, Page};
-use rules::{Offset, Recovered, Refusal, SequenceNumber, SequenceSet, Sequences, Template};
+use rules::{Motif, Offset, Recovered, Refusal, SequenceNumber, SequenceSet, Sequences, Template};
 use ways::{step, sum};
-
-// A motif of a sound template, by its number.
-#[derive(Clone, Copy)]
-struct Motif {
-    template: Template,
-    number: u64,
-    ghost sound: { SoundTemplate template },
-}
 
 // A sequence of a sound set, with its number.
 #[derive(Clone, Copy)]

@@ -1,12 +1,24 @@
--- 13 decides, the checks before it having found nothing: a leg is refused where it refuses, and else runs, as its rule has it, on from the
--- path that 13 has made.
-use mathlib.Core.Path.{sym, ap, ◌∙◌}
+-- 13 decides, the checks before it having found nothing: it refuses no search that has ended. Of another a leg is refused where 13 refuses,
+-- and else runs, as its rule has it, on from the path that 13 has made.
+use mathlib.Core.Path.{refl, sym, ap, ◌∙◌}
 use native.Mathlib.Omega.{arith}
-use Rattle.places.proofs.ChecksInTurn.{left_to_13, set_is, template_is, rule_is}
+use borrow.Author.Tests.{eqb-true}
+use Rattle.places.proofs.ChecksInTurn.{told_13, left_to_13, set_is, template_is, rule_is}
+use Rattle.places.proofs.Through.{passes_none}
 use Rattle.rules.proofs.EachKind.{base_most}
-use Rattle.legs.proofs.Ruled.{declined, accepted}
+use Rattle.rules.proofs.Tests.{both}
+use Rattle.legs.proofs.Ruled.{declined, accepted, at_end}
 use Rattle.rules.specs.Told.{told_leg}
 use Rattle.legs.proofs.leg.Goals as goal
+
+pub returns-then-ended : goal.returns-then-ended
+returns-then-ended c =
+    let a = c.args in
+    let ended = (both _ _).0 c.if-ended.true in
+    let none = eqb-true a.search.place.letters 0 ended.0 in
+    let fine = left_to_13 _ _ _ (sym c.requires) (told_13 _ _ _ (passes_none _ _ _ none) (rw (ended.1) refl)) in
+    let r = accepted _ _ _ a.budget _ _ _ fine (at_end _ _ a.search a.budget _ _ _ none) in
+    record { result_value = ap told_leg c.stopped.ensures ∙ r.0; motifs_after = r.1.0; supports_after = r.1.1.0; weights_after = r.1.1.1 }
 
 pub make-weighing-requires : goal.make-weighing-requires
 make-weighing-requires c =

@@ -1,12 +1,9 @@
-use mathlib.Core.Bool.{Bool}
-use mathlib.Core.Path.{◌≡◌, refl, sym, ap, ◌∙◌}
-use Prim.Native.Nat.{ℕ, ◌+◌, ◌≤◌, ◌<◌}
+use mathlib.Core.Path.{◌≡◌, refl, sym, ◌∙◌}
+use Prim.Native.Nat.{◌+◌, ◌≤◌, ◌<◌}
 use native.Mathlib.Omega.{arith}
 use lib.Dec.{eqb}
 use borrow.Author.Tests.{eqb-true}
-use Rattle.std.specs.Prelude.{Option, Some}
 use Rattle.rules.specs.declared.Stop.TheVariants.{Ended, Spent, Full}
-use Rattle.rules.specs.Lists.{if}
 use Rattle.rules.specs.Profile.{base_of}
 use Rattle.rules.specs.Sequences.{sequences}
 use Rattle.rules.specs.Support.{frequent}
@@ -15,9 +12,9 @@ use Rattle.rules.proofs.Tests.{both}
 use Rattle.matching.specs.Weights.{Counted}
 use Rattle.legs.specs.AcceptedLeg.{room_of}
 use Rattle.legs.proofs.Follow.{follow_ended, follow_spent, follow_full}
-use Rattle.legs.proofs.Round.{run_start, run_depth, run_valid, run_below, run_step, run_done, motif_is, next_is, frequent_is, hit_reaches, good_reaches, run_lengths}
+use Rattle.legs.proofs.Round.{Running, run_start, run_depth, run_valid, run_below, run_passes, run_listed, row_free, run_done, motif_is, next_is, frequent_is, hit_reaches, good_reaches, run_lengths}
 use Rattle.legs.proofs.Rowed.{path_first}
-use Rattle.legs.proofs.Turn.{none_counted, hit_whole, counted_as, below_whole, path_on}
+use Rattle.legs.proofs.Turn.{none_counted, hit_whole, below_whole, path_on}
 use Rattle.legs.proofs.run.run.Goals as goal
 use Rattle.legs.proofs.run.run.Goals.{then-hit, else-hit}
 
@@ -60,12 +57,12 @@ list-rows-requires-clause-motif_bound c =
     let l = c.loop-place in
     let i = l.invariant in
     let below = run_below _ _ _ i.0 _ _ _ _ _ i.1 in
-    λ h. (below_whole (base_of s.search.template) l.place.letters l.place.number (hit_whole l.place.letters _ _ refl h) below, c.prefix-prefix.ensures ∙ c.last_letters-last.ensures.0 l.place.number)
+    (below_whole (base_of s.search.template) l.place.letters l.place.number (hit_whole l.place.letters _ _ refl c.if-hit.true) below, c.prefix-prefix.ensures ∙ c.last_letters-last.ensures.0 l.place.number)
 
-pub next_place-place-requires : goal.next_place-place-requires
-next_place-place-requires c =
+pub invariant_of-at : goal.invariant_of-at
+invariant_of-at c =
     let i = c.loop-place.invariant in
-    record { place_value = (omega (arith, c.args.weighing.now.made.plan.depth_value, run_depth _ _ _ i.0 _ _ _ _ _ i.1), run_valid _ _ _ i.0 _ _ _ _ _ i.1) }
+    record { some = c.loop-place-test.true; few = run_depth _ _ _ i.0 _ _ _ _ _ i.1; allowed = run_valid _ _ _ i.0 _ _ _ _ _ i.1 }
 
 pub loop-place-preserved : goal.loop-place-preserved
 loop-place-preserved c =
@@ -73,26 +70,30 @@ loop-place-preserved c =
     let l = c.loop-place in
     let i = l.invariant in
     let v = c.examine-found.ensures in
-    let r = c.list-rows.ensures in
-    -- the slots as the examination leaves them, and the tables as the writing of the row leaves them
+    -- the slots as the examination leaves them
     let x = c.examine-found.new in
-    let w = c.list-rows.new in
     let some : 1 ≤ l.place.letters = c.loop-place-test.true in
     let less : l.steps < c.args.budget = omega (arith, i.1.follow.steps, c.if-steps-budget.false) in
     let good = frequent_is s.letters.now s.layout.lengths.now s.search l.place some v.lower_bound v.value refl in
     let listed = motif_is s.letters.now s.layout.lengths.now s.search l.place _ _ _ s.depth_value good refl in
-    -- what was found of a listed one reaches the quorum
-    let hits = hit_reaches (eqb l.place.letters s.depth) s.search.quorum _ refl refl in
     let e = c.next_place-place.ensures (frequent s.search.template s.search.quorum (sequences s.letters.now s.layout.lengths.now)) (sym good) in
-    let n = run_step s.letters.now s.layout.lengths.now s.search i.0 _ _ _ _ _ i.1 some less (next_is s.letters.now s.layout.lengths.now s.search _ l.place s.depth_value e)
-    {motifs' = w.motifs} {supports' = w.supports} {weights' = w.weights} {rows' = c.list-rows.result} {found = c.examine-found.result} _ listed c.if-hit-rows.false
-    (omega (arith, i.4)) (omega (arith, i.4)) (omega (arith, i.4)) (λ h. v.value (hits h)) r.motifs_after r.supports_after r.weights_after r.value in
-    let t = run_lengths s.letters.now s.layout.lengths.now s.search i.0 _ _ _ _ _ {motifs = w.motifs} {supports = w.supports} {weights = w.weights} n i.4 in
-    let prefix : Option ℕ = Some c.prefix-prefix.result in
-    let counted : Counted s.search.template s.layout.lengths.now s.letters.now c.if-hit.counted w.ways =
+    let q = next_is s.letters.now s.layout.lengths.now s.search _ l.place s.depth_value e in
+    let n : Running s.letters.now s.layout.lengths.now s.search i.0 c.args.budget c.min-room.result c.args.motifs.now c.args.supports.now c.args.weights.now
+    c.if-hit.motifs c.if-hit.supports c.if-hit.weights (l.steps + 1) c.if-hit.rows c.next_place-place.result =
     elim c.if-hit.branch [
-      | then-hit h ↦ counted_as (h.counted-is ∙ sym (ap (λ (b : Bool). if b prefix l.counted) h.if-hit.true)) r.counted_2
-      | else-hit h ↦ counted_as (h.counted-is ∙ sym (ap (λ (b : Bool). if b prefix l.counted) h.if-hit.false)) r.counted_2
+      | then-hit h ↦ (let r = h.list-rows.ensures in
+          -- what was found of a listed one reaches the quorum
+          let reaches = hit_reaches (eqb l.place.letters s.depth) s.search.quorum _ refl refl h.if-hit.true in
+          rw (h.motifs-is, h.supports-is, h.weights-is, h.rows-is, r.value)
+          (run_listed s.letters.now s.layout.lengths.now s.search i.0 _ _ _ _ _ i.1 some less q (listed ∙ h.if-hit.true) (row_free _ l.rows _ c.if-hit-rows.false h.if-hit.true)
+          (omega (arith, i.4)) (omega (arith, i.4)) (omega (arith, i.4)) (v.value reaches) r.motifs_after r.supports_after r.weights_after))
+      | else-hit h ↦ rw (h.motifs-is, h.supports-is, h.weights-is, h.rows-is) (run_passes s.letters.now s.layout.lengths.now s.search i.0 _ _ _ _ _ i.1 some less q (listed ∙ h.if-hit.false))
+    ] in
+    let t = run_lengths s.letters.now s.layout.lengths.now s.search i.0 _ _ _ _ _ n i.4 in
+    let counted : Counted s.search.template s.layout.lengths.now s.letters.now c.if-hit.ways.counted c.if-hit.ways.counts =
+    elim c.if-hit.branch [
+      | then-hit h ↦ rw h.ways-is h.list-rows.ensures.counted_2
+      | else-hit h ↦ rw h.ways-is i.3
     ] in (
       i.0,
       n,

@@ -11,8 +11,8 @@ use Rattle.legs.proofs.Round.{Running}
 use Rattle.legs.proofs.run.run.Given as goal
 
 abbrev pub invariant-loop-place : goal.invariant-loop-place
-invariant-loop-place l = (o : SoundSearch l.plan.letters.now l.plan.layout.lengths.now l.plan.search) × Running l.plan.letters.now l.plan.layout.lengths.now l.plan.search o l.budget l.room l.initial.motifs l.initial.supports l.initial.weights l.motifs l.supports l.weights l.steps l.rows l.place
-    × (1 ≤ l.place.letters → Path l.plan.search.template l.plan.layout.lengths.now l.plan.letters.now l.slots l.place.letters l.place.number) × Counted l.plan.search.template l.plan.layout.lengths.now l.plan.letters.now l.counted l.ways
+invariant-loop-place l = (o : SoundSearch l.weighing.made.plan.letters.now l.weighing.made.plan.layout.lengths.now l.weighing.made.plan.search) × Running l.weighing.made.plan.letters.now l.weighing.made.plan.layout.lengths.now l.weighing.made.plan.search o l.budget l.room l.initial.motifs l.initial.supports l.initial.weights l.motifs l.supports l.weights l.steps l.rows l.place
+    × (1 ≤ l.place.letters → Path l.weighing.made.plan.search.template l.weighing.made.plan.layout.lengths.now l.weighing.made.plan.letters.now l.slots l.place.letters l.place.number) × Counted l.weighing.made.plan.search.template l.weighing.made.plan.layout.lengths.now l.weighing.made.plan.letters.now l.ways.counted l.ways.counts
     × (l.room ≡ room_of l.initial.motifs l.initial.supports l.initial.weights)
     × (length l.motifs ≡ length l.initial.motifs) × (length l.supports ≡ length l.initial.supports) × (length l.weights ≡ length l.initial.weights)
 

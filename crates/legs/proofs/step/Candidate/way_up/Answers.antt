@@ -1,12 +1,12 @@
 use mathlib.Core.Path.{sym, ◌∙◌}
 use native.Mathlib.Omega.{arith}
 use Rattle.legs.proofs.Kind.{up_go, up_drop, up_none, shorter_ok, rise_fits}
-use Rattle.legs.proofs.step.way_up.Goals as goal
+use Rattle.legs.proofs.step.Candidate.way_up.Goals as goal
 
 pub overflow_add-number : goal.overflow_add-number
 overflow_add-number c =
     let l = c.loop-letters in
-    omega (arith, rise_fits _ c.args.plan.now.sound_template l.letters l.number (omega arith) l.invariant.0 l.invariant.1 (c.rises.ensures _ _) c.if-rises.true)
+    omega (arith, rise_fits _ c.args.self.plan.now.sound_template l.letters l.number (omega arith) l.invariant.0 l.invariant.1 (c.rises.ensures _ _) c.if-rises.true)
 
 pub returns-then-rises : goal.returns-then-rises
 returns-then-rises c =
