@@ -32,14 +32,9 @@ pub extern "C" fn tulfasheq_begin(
 ) -> u64
     ensures { outcome (count_answer result place.new size.new) saved.new ≡ begin_outcome letters.now lengths.now profile components shape.now allowances.now quorum saved.old }
 {
+    let set = Sequences { letters, lengths };
     let t = shape::read(profile, components, shape, allowances);
-    let told = Count::from(chain::begin(
-        &Sequences { letters, lengths },
-        profile,
-        t,
-        quorum,
-        saved,
-    ));
+    let told = Count::from(chain::begin(&set, profile, t, quorum, saved));
     *place = told.place;
     *size = told.count;
     told.number
@@ -63,14 +58,8 @@ pub extern "C" fn tulfasheq_leg(
 ) -> u64
     ensures { leg_of (stopped_answer result place.new stop.new steps.new rows.new) saved.new motifs.new supports.new weights.new ≡ leg_outcome letters.now lengths.now saved.old budget motifs.old supports.old weights.old }
 {
-    let told = chain::leg(
-        &Sequences { letters, lengths },
-        budget,
-        saved,
-        motifs,
-        supports,
-        weights,
-    );
+    let set = Sequences { letters, lengths };
+    let told = chain::leg(&set, budget, saved, motifs, supports, weights);
     *place = told.place;
     *stop = told.stop;
     *steps = told.steps;
@@ -99,7 +88,8 @@ pub extern "C" fn tulfasheq_restore(
 ) -> u64
     ensures { restore_of (restored_answer result place.new profile.new components.new quorum.new sequences.new total.new next_letters.new next_number.new) shape.new allowances.new ≡ restore_outcome letters.now lengths.now saved.now shape.old allowances.old }
 {
-    let answer = saved::restore(&Sequences { letters, lengths }, saved);
+    let set = Sequences { letters, lengths };
+    let answer = saved::restore(&set, saved);
     let told = Restored::from(answer);
     chain::write(answer, shape, allowances);
     *place = told.place;
@@ -134,11 +124,12 @@ pub extern "C" fn tulfasheq_save(
 ) -> u64
     ensures { outcome (count_answer result place.new size.new) out.new ≡ save_outcome letters.now lengths.now profile (search_of profile components shape.now allowances.now quorum sequences total next_letters next_number) out.old }
 {
+    let set = Sequences { letters, lengths };
     let template = shape::read(profile, components, shape, allowances);
-    let set = SequenceSet::new(sequences, total);
+    let asked = SequenceSet::new(sequences, total);
     let next = Place::new(next_letters, next_number);
-    let search = Search::new(template, quorum, set, next);
-    let told = Count::from(chain::save(&Sequences { letters, lengths }, profile, search, out));
+    let search = Search::new(template, quorum, asked, next);
+    let told = Count::from(chain::save(&set, profile, search, out));
     *place = told.place;
     *size = told.count;
     told.number
@@ -164,15 +155,9 @@ pub extern "C" fn tulfasheq_recover(
 ) -> u64
     ensures { outcome (page_answer result place.new rows.new length.new) out.new ≡ recover_outcome letters.now lengths.now profile components shape.now allowances.now motif first out.old }
 {
+    let set = Sequences { letters, lengths };
     let t = shape::read(profile, components, shape, allowances);
-    let told = Page::from(chain::recover(
-        &Sequences { letters, lengths },
-        profile,
-        t,
-        motif,
-        first,
-        out,
-    ));
+    let told = Page::from(chain::recover(&set, profile, t, motif, first, out));
     *place = told.place;
     *rows = told.rows;
     *length = told.length;

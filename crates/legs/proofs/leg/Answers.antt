@@ -32,10 +32,8 @@ make-weighing-requires c =
       template_in_bounds = (template.deep, omega (arith, set.few), omega (arith, set.few), omega (arith, base_most a.search.template), omega arith);
     }
 
-pub check_passes-requires : goal.check_passes-requires
-check_passes-requires c =
-    let m = c.make-weighing.ensures in
-    record { place_value = rw (m.plan.0) (rule_is _ _ _ (sym c.requires)); slot = rw (m.plan.0, m.plan.1, m.plan.2) m.slot }
+pub check_passes-requires-clause-place_value : goal.check_passes-requires-clause-place_value
+check_passes-requires-clause-place_value c = rw c.make-weighing.ensures.plan.0 (rule_is _ _ _ (sym c.requires))
 
 pub run-requires-clause-s_value : goal.run-requires-clause-s_value
 run-requires-clause-s_value c =
