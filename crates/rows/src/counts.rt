@@ -74,7 +74,8 @@ fn shifted(row: &[u64], d: usize, q: usize) -> u64
 // Opens a gap at the places of one word, those from `from` on: each gets the counts of all the places that reach it and at which the row
 // has a bit, added. It goes from the last place to the first, so that what is still to be read is not written yet, and one sum slides
 // along: `total` is that past the last place, and the answer that at `from`. Most often no place comes into reach in a word and none is
-// gone from it: then the sum stays.
+// gone from it: then the sum stays. Here and below, what `Ways` holds stays in clauses: with `counts` as a `&mut` it would want one more,
+// that this is the caller's buffer still.
 fn slide(row: &[u64], gap: Gap, from: usize, total: u64, counts: &mut [u64]) -> u64
     requires from_in_bounds { (from < length counts.old) × (from % 64 ≡ 0) × (length counts.old ≤ from + 64) × (length counts.old ≤ 64 * length row.now) }
     requires total_value { total ≡ recent (masked (held row.now) counts.old) (length counts.old) gap.apart.near gap.apart.count }
