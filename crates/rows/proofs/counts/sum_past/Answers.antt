@@ -11,9 +11,3 @@ pub returns-then-to-eq0 : goal.returns-then-to-eq0
 returns-then-to-eq0 c =
     let a = c.args in
     λ h. sym (recent_out (masked (held a.at.row.now) a.counts.now) (length a.counts.now) a.at.gap.apart.near a.at.gap.apart.count (omega arith))
-
-pub returns-then-opened-to-eq0 : goal.returns-then-opened-to-eq0
-returns-then-opened-to-eq0 c = λ h. absurd (omega (arith, h, c.if-opened-to-eq0.true))
-
-pub returns : goal.returns
-returns c = λ h. c.window.ensures

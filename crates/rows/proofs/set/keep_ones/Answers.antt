@@ -33,9 +33,6 @@ overflow_cast-at c = omega (arith, in_word (goal.at.overflow_cast-at c).In-Some)
 pub overflow_add-at : goal.overflow_add-at
 overflow_add-at c = omega (arith, in_word (goal.at.overflow_add-at c).In-Some, c.requires.w_bound)
 
-pub offset_bounds-row-at : goal.offset_bounds-row-at
-offset_bounds-row-at c = omega (arith, in_word (goal.at.offset_bounds-row-at c).In-Some, c.requires.w_bound)
-
 pub bounds-row-at : goal.bounds-row-at
 bounds-row-at c = omega (arith, inside (goal.at.bounds-row-at c).In-Some)
 
