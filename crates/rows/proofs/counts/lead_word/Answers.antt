@@ -1,6 +1,5 @@
 -- Where the word is empty nothing reaches its places; else the callee goes over them, and where the opened row has no bit there is 0.
 use mathlib.Core.Path.{refl}
-use native.Mathlib.Omega.{arith}
 use Rattle.rows.proofs.Leading.{none_sum, none_written, front_kept, word_written}
 use Rattle.rows.proofs.counts.lead_word.Goals as goal
 
@@ -12,14 +11,6 @@ returns-then-opened-from-eq0 c =
       value = none_sum a.at.row.now a.at.opened.now a.counts.now a.at.gap.apart.near a.at.gap.apart.count a.from p.by_index_2 i.0 i.1 i.2 c.if-opened-from-eq0.true;
       counts_unchanged = refl;
       counts_after = none_written a.at.row.now a.at.opened.now a.counts.now a.at.gap.apart.near a.at.gap.apart.count a.from p.by_index_2 i.0 i.1 i.2 c.if-opened-from-eq0.true;
-    }
-
-pub slide-requires : goal.slide-requires
-slide-requires c =
-    let p = c.requires in record {
-      from_in_bounds = p.from_in_bounds;
-      total_value = p.total_value (omega (arith, c.if-opened-from-eq0.false));
-      by_index = p.by_index;
     }
 
 pub returns : goal.returns
