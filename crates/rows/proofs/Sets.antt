@@ -94,9 +94,6 @@ module _ (on : ℕ → Bool) (g : ℕ → List ℕ) (ns : List ℕ) where
   pub filled_none : (x : List ℕ) (n : ℕ) → n ≡ 0 → Filled on g ns x n
   filled_none x n z = record { same = λ k h e. absurd (omega arith) }
 
-  pub filled_end : (x : List ℕ) (k n : ℕ) → k ≡ n → Filled on g ns x k → Filled on g ns x n
-  filled_end x k n e q = rw e at q
-
   -- a turn: the words of sequence k
   module _ (x y : List ℕ) (k : ℕ) (h : k < length ns) (before : Filled on g ns x k) where
     module _ (left : take (first_word ns k) y ≡ take (first_word ns k) x) (here : on k ≡ true → bits_at ns k y ≡ g k) where

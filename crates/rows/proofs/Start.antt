@@ -7,7 +7,7 @@ use native.Mathlib.Decide.{dec_lt}
 use native.Mathlib.Omega.{arith}
 use lib.Bits.{bit_or}
 use lib.Dec.{eqb, ltb}
-use lib.ListN.{length, take, drop, get_or, set, replicate, length-set, length-append, length-replicate, length-drop, get_or-append, get_or-replicate}
+use lib.ListN.{length, take, drop, get_or, set, replicate, length-set, length-replicate, get_or-append, get_or-replicate}
 use lib.Seq.{get_or-set_same, get_or-set_other, get_or-append-add, get_or-drop, length-take-le}
 use borrow.Author.Tests.{lt-ltb, le-ltb}
 use Rattle.rules.specs.Limits.{sequence_set_sequences}
@@ -23,9 +23,6 @@ use Rattle.rows.proofs.LetterRow.{zero_word}
 pub record Begun (n : ℕ) (x y : List ℕ) : Type 0 where
   pub marks : (j : ℕ) → j < sequence_set_sequences → get_or (held y) j 0 ≡ bit (ltb j n)
   pub past : (q : ℕ) → row_marks ≤ q → get_or y q 0 ≡ get_or x q 0
-
-pub begun_none : (x : List ℕ) → ((k : ℕ) → k < sequence_set_sequences → get_or (held x) k 0 ≡ 0) → Begun 0 x x
-begun_none x h = record { marks = λ j l. h j l ∙ sym (ap bit (le-ltb j 0 (omega arith))); past = λ q l. refl }
 
 module _ (k : ℕ) (x y : List ℕ) (before : Begun k x y) (h : k < sequence_set_sequences) (long : row_marks ≤ length y) where
   one_more : held (set y (k / 64) (bit_or (get_or y (k / 64) 0) ((1 * 2 ^ (k % 64)) % 2 ^ 64))) ≡ set (held y) k 1
@@ -71,9 +68,6 @@ module _ (x : List ℕ) (v : ℕ) (long : row_marks ≤ length x) (y : List ℕ)
 
     none_long : length z ≡ row_marks
     none_long = ap length none_is ∙ length-replicate {A = ℕ} row_marks 0
-
-    pub cleared_long : length (z ++ drop row_marks y) ≡ length x
-    cleared_long = length-append z (drop row_marks y) ∙ rw (length-drop row_marks y, none_long, all_long) (omega arith)
 
     cleared_word : (q : ℕ) → q < row_marks → get_or (z ++ drop row_marks y) q 0 ≡ 0
     cleared_word q h =

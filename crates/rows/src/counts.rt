@@ -74,7 +74,8 @@ fn shifted(row: &[u64], d: usize, q: usize) -> u64
 // Opens a gap at the places of one word, those from `from` on: each gets the counts of all the places that reach it and at which the row
 // has a bit, added. It goes from the last place to the first, so that what is still to be read is not written yet, and one sum slides
 // along: `total` is that past the last place, and the answer that at `from`. Most often no place comes into reach in a word and none is
-// gone from it: then the sum stays.
+// gone from it: then the sum stays. Here and below, what `Ways` holds stays in clauses: with `counts` as a `&mut` it would want one more,
+// that this is the caller's buffer still.
 fn slide(row: &[u64], gap: Gap, from: usize, total: u64, counts: &mut [u64]) -> u64
     requires from_in_bounds { (from < length counts.old) × (from % 64 ≡ 0) × (length counts.old ≤ from + 64) × (length counts.old ≤ 64 * length row.now) }
     requires total_value { total ≡ recent (masked (held row.now) counts.old) (length counts.old) gap.apart.near gap.apart.count }
@@ -99,45 +100,49 @@ fn slide(row: &[u64], gap: Gap, from: usize, total: u64, counts: &mut [u64]) -> 
     sum
 }
 
+// A row, that row with a gap opened, and the gap.
+#[derive(Clone, Copy)]
+struct Opened<'a> {
+    row: &'a [u64],
+    opened: &'a [u64],
+    gap: Gap,
+    ghost same: { length opened.now ≡ length row.now },
+}
+
 // The same, at once where the opened row has no bit in that word: nothing reaches its places, and its counts stay what they are, for they
 // are not read.
-fn lead_word(
-    row: &[u64],
-    opened: &[u64],
-    gap: Gap,
-    from: usize,
-    total: u64,
-    counts: &mut [u64],
-) -> u64
-    requires opened_len { length opened.now ≡ length row.now }
-    requires from_in_bounds { (from < length counts.old) × (from % 64 ≡ 0) × (length counts.old ≤ from + 64) × (length counts.old ≤ 64 * length row.now) }
-    requires total_value { 0 < get_or opened.now (from / 64) 0 → total ≡ recent (masked (held row.now) counts.old) (length counts.old) gap.apart.near gap.apart.count }
-    requires by_index { (i : ℕ) → get_or (masked (held row.now) counts.old) i 0 ≤ count_most }
-    requires by_index_2 { (p : ℕ) → p < length counts.old → get_or (held opened.now) p 0 ≡ 0 → recent (masked (held row.now) counts.old) p gap.apart.near gap.apart.count ≡ 0 }
-    ensures value { result ≡ recent (masked (held row.now) counts.old) from gap.apart.near gap.apart.count }
+fn lead_word(at: Opened, from: usize, total: u64, counts: &mut [u64]) -> u64
+    requires from_in_bounds { (from < length counts.old) × (from % 64 ≡ 0) × (length counts.old ≤ from + 64) × (length counts.old ≤ 64 * length at.row.now) }
+    requires total_value { 0 < get_or at.opened.now (from / 64) 0 → total ≡ recent (masked (held at.row.now) counts.old) (length counts.old) at.gap.apart.near at.gap.apart.count }
+    requires by_index { (i : ℕ) → get_or (masked (held at.row.now) counts.old) i 0 ≤ count_most }
+    requires by_index_2 { (p : ℕ) → p < length counts.old → get_or (held at.opened.now) p 0 ≡ 0 → recent (masked (held at.row.now) counts.old) p at.gap.apart.near at.gap.apart.count ≡ 0 }
+    ensures value { result ≡ recent (masked (held at.entry.row.now) counts.old) from at.entry.gap.apart.near at.entry.gap.apart.count }
     ensures counts_unchanged { take from counts.new ≡ take from counts.old }
-    ensures counts_after { masked (held opened.now) counts.new ≡ back (around (masked (held row.now) counts.old) gap.apart.near gap.apart.count) from (masked (held opened.now) counts.old) }
+    ensures counts_after { masked (held at.entry.opened.now) counts.new ≡ back (around (masked (held at.entry.row.now) counts.old) at.entry.gap.apart.near at.entry.gap.apart.count) from (masked (held at.entry.opened.now) counts.old) }
 {
+    let opened = at.opened;
     if opened[from / 64] == 0 {
         return 0;
     }
-    slide(row, gap, from, total, counts)
+    slide(at.row, at.gap, from, total, counts)
 }
 
 // The sum past the last place, if the last word will need it: if the opened row has a bit there.
-fn sum_past(row: &[u64], opened: &[u64], gap: Gap, counts: &[u64]) -> u64
-    requires opened_len { (length opened.now ≡ length row.now) × (length counts.now ≤ 64 * length row.now) }
-    requires by_index { (i : ℕ) → get_or (masked (held row.now) counts.now) i 0 ≤ count_most }
-    ensures { 0 < get_or opened.now ((length counts.now - 1) / 64) 0 → result ≡ recent (masked (held row.now) counts.now) (length counts.now) gap.apart.near gap.apart.count }
+fn sum_past(at: Opened, counts: &[u64]) -> u64
+    requires counts_len_bound { length counts.now ≤ 64 * length at.row.now }
+    requires by_index { (i : ℕ) → get_or (masked (held at.row.now) counts.now) i 0 ≤ count_most }
+    ensures { 0 < get_or at.entry.opened.now ((length counts.now - 1) / 64) 0 → result ≡ recent (masked (held at.entry.row.now) counts.now) (length counts.now) at.entry.gap.apart.near at.entry.gap.apart.count }
 {
     let to = counts.len();
     if to == 0 {
         return 0;
     }
+    let opened = at.opened;
     if opened[(to - 1) / 64] == 0 {
         return 0;
     }
-    window(Ways { row, counts }, to, gap)
+    let row = at.row;
+    window(Ways { row, counts }, to, at.gap)
 }
 
 // Opens a gap after the counts at which a row has a bit. The other row is that row with the gap opened: only where a word of it has a bit
@@ -148,12 +153,13 @@ pub fn lead(row: &[u64], opened: &[u64], gap: Gap, counts: &mut [u64])
     requires by_index_2 { (p : ℕ) → get_or (held opened.now) p 0 ≡ 0 → get_or (added gap.apart.near (gap.apart.near + gap.apart.count - 1) (masked (held row.now) counts.old)) p 0 ≡ 0 }
     ensures { masked (held opened.now) counts.new ≡ added gap.apart.near (gap.apart.near + gap.apart.count - 1) (masked (held row.now) counts.old) }
 {
-    let mut total = sum_past(row, opened, gap, counts);
+    let at = Opened { row, opened, gap };
+    let mut total = sum_past(at, counts);
     let mut to = counts.len();
     // No `for`: one over the words has a value more to hold while the sum slides, and takes 15.6 in 100 more instructions.
     while 0 < to {
         let from = (to - 1) / 64 * 64;
-        total = lead_word(row, opened, gap, from, total, &mut counts[..to]);
+        total = lead_word(at, from, total, &mut counts[..to]);
         to = from;
     }
 }

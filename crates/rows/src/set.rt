@@ -94,8 +94,9 @@ pub struct Kept {
 }
 
 // One letter more in the sequences of one word of marks, those that have one. It stops where more than `most` of them have lost theirs.
-// Here and below, what the layout wants of a row stays in clauses: a type of layout and row would leave those on the lengths of `letter`
-// and `out` as they are, and where the row itself is written, as in `open_all`, there would have to be a second one.
+// Here and below two facts stay clauses. That no mark stands past the last sequence (`Bounded`): a type of layout and row would hold it of
+// rows that are read, but `open_all` writes its row, and where a plan has the layout, a clause would have to say that both are one. That
+// `w` is one of the words of marks: a type would hold it of one number, which each caller counts up to that bound.
 fn keep_sequences(
     layout: &Layout,
     w: usize,

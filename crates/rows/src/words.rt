@@ -91,7 +91,9 @@ pub fn letter_words(sequence: &[u8]) -> Bases
     }
 }
 
-// The first `n` words of a row with the first letter of a part more, for which nothing is shifted, and all of them joined in one.
+// The first `n` words of a row with the first letter of a part more, for which nothing is shifted, and all of them joined in one. Here and
+// below, that all are of one length stays a clause: a type that held it would have `out` in it, a `&mut`, and each function would want a
+// clause more, that this is the caller's buffer still; one of `row` and `letters` alone would leave the clause on `out`.
 fn keep_plain(row: &[u64], letters: &[u64], n: usize, out: &mut [u64]) -> u64
     requires { (length letters.now ≡ length row.now) × (length out.old ≡ length row.now) × (n ≤ length row.now) }
     ensures result_value { eqb result 0 ≡ not (has_left (map (words.extended_word 0 letters.now row.now) (run 0 n))) }

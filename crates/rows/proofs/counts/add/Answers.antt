@@ -52,19 +52,3 @@ loop-stretch-preserved c =
     let i = c.loop-stretch.invariant in
     let q = parts (goal.at.loop-stretch-preserved c).After-split_at in
     (counted_rest q i.0, omega (arith, sum_parts q i.0, i.1))
-
-pub invariant_of-add_words : goal.invariant_of-add_words
-invariant_of-add_words c =
-    let i = c.loop-stretch.invariant in
-    record {
-      most = i.0.most;
-      least = i.0.least;
-      dark = i.0.dark;
-      small = omega (arith, i.1, c.requires.counts_bound);
-    }
-
-pub overflow_add-result : goal.overflow_add-result
-overflow_add-result c = omega (arith, c.loop-stretch.invariant.1, c.requires.counts_bound)
-
-pub returns : goal.returns
-returns c = omega (arith, c.loop-stretch.invariant.1)

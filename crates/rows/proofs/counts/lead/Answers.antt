@@ -35,7 +35,6 @@ lead_word-total-requires c =
     let w : (to - 1) / 64 * 64 / 64 ≡ (to - 1) / 64 = omega arith in
     let total : 0 < get_or opened ((to - 1) / 64 * 64 / 64) 0 → c.loop-to.total ≡ recent (masked (held row) (take to x)) (length (take to x)) d n =
     λ h. i.4 (rw w at h) ∙ rw many (sym (sums to (omega arith))) in record {
-      opened_len = search rules;
       from_in_bounds = (omega (arith, many), omega arith, omega (arith, many), omega (arith, many));
       total_value = total;
       by_index = λ k. omega (arith, most k, p.by_index k);

@@ -10,10 +10,4 @@ use Rattle.rows.proofs.counts.sum_past.Goals as goal
 pub returns-then-to-eq0 : goal.returns-then-to-eq0
 returns-then-to-eq0 c =
     let a = c.args in
-    λ h. sym (recent_out (masked (held a.row.now) a.counts.now) (length a.counts.now) a.gap.apart.near a.gap.apart.count (omega arith))
-
-pub returns-then-opened-to-eq0 : goal.returns-then-opened-to-eq0
-returns-then-opened-to-eq0 c = λ h. absurd (omega (arith, h, c.if-opened-to-eq0.true))
-
-pub returns : goal.returns
-returns c = λ h. c.window.ensures
+    λ h. sym (recent_out (masked (held a.at.row.now) a.counts.now) (length a.counts.now) a.at.gap.apart.near a.at.gap.apart.count (omega arith))

@@ -1,4 +1,4 @@
-use mathlib.Core.Path.{◌≡◌, refl, sym, ◌∙◌}
+use mathlib.Core.Path.{◌≡◌, refl, ◌∙◌}
 use Prim.Native.Nat.{◌≤◌, ◌+◌, ◌*◌}
 use native.Mathlib.Omega.{arith}
 use lib.ListN.{length}
@@ -23,21 +23,11 @@ turn c =
     let p = c.requires in
     next_taken c.args.row.now c.args.w c.loop-place.invariant.2.rests c.in-Some.ensures.steps c.args.layout.now.lengths.now c.args.layout.now.firsts.now p.bounded c.args.layout.now.laid p.w_bound
 
-pub overflow_cast-at : goal.overflow_cast-at
-overflow_cast-at c = omega (arith, (turn (goal.at.overflow_cast-at c).In-Some).in_word)
-
 pub overflow_add-at : goal.overflow_add-at
 overflow_add-at c = omega (arith, (turn (goal.at.overflow_add-at c).In-Some).in_word)
 
 pub words-from-requires : goal.words-from-requires
 words-from-requires c = (turn (goal.at.words-from-requires c).In-Some).inside
-
-pub open_sequence-requires : goal.open_sequence-requires
-open_sequence-requires c =
-    let p = c.requires in
-    let l = c.loop-place in
-    let t = c.words-from.ensures.inside in
-    mid_len _ _ l.spare (omega (arith, t.1, c.args.layout.now.inside, l.invariant.0)) ∙ sym (mid_len _ _ l.row (omega (arith, t.1, c.args.layout.now.inside, l.invariant.1)))
 
 pub loop-place-preserved : goal.loop-place-preserved
 unfolding between

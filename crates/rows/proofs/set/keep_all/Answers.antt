@@ -6,12 +6,6 @@ use Rattle.rows.proofs.Offsets.{words_marks}
 use Rattle.rows.proofs.Possible.{possible_begin, stopped, ended, lost_most, possible_turn}
 use Rattle.rows.proofs.set.keep_all.Goals as goal
 
-pub returns-then-by-eq0 : goal.returns-then-by-eq0
-returns-then-by-eq0 c = rw c.if-by-eq0.true c.keep_short.ensures
-
-pub returns-then-layout : goal.returns-then-layout
-returns-then-layout c = c.keep_short-then-layout.ensures
-
 pub count-possible-requires : goal.count-possible-requires
 count-possible-requires c =
     let m = words_marks _ c.args.layout.now.few c.words_of-used.ensures in

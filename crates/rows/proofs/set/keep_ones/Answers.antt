@@ -27,29 +27,14 @@ inside c =
     let l = c.loop-place in
     word_in a.by.places a.layout.now.lengths.now a.letter.now a.row.now a.w (words_fit a.row.now c.type_inv.row a.w) a.out.now l.out l.place-iterator.0 l.marks l.invariant.1 c.in-Some.ensures.steps a.layout.now.firsts.now c.args.layout.now.laid (a.layout.now.ones p.short) p.bounded p.w_bound (omega (arith, a.layout.now.inside)) refl
 
-pub overflow_cast-at : goal.overflow_cast-at
-overflow_cast-at c = omega (arith, in_word (goal.at.overflow_cast-at c).In-Some)
-
 pub overflow_add-at : goal.overflow_add-at
 overflow_add-at c = omega (arith, in_word (goal.at.overflow_add-at c).In-Some, c.requires.w_bound)
-
-pub offset_bounds-row-at : goal.offset_bounds-row-at
-offset_bounds-row-at c = omega (arith, in_word (goal.at.offset_bounds-row-at c).In-Some, c.requires.w_bound)
 
 pub bounds-row-at : goal.bounds-row-at
 bounds-row-at c = omega (arith, inside (goal.at.bounds-row-at c).In-Some)
 
-pub offset_bounds-letter-at : goal.offset_bounds-letter-at
-offset_bounds-letter-at c = omega (arith, in_word (goal.at.offset_bounds-letter-at c).In-Some, c.requires.w_bound)
-
 pub bounds-letter-at : goal.bounds-letter-at
 bounds-letter-at c = omega (arith, inside (goal.at.bounds-letter-at c).In-Some)
-
-pub offset_bounds-out-at : goal.offset_bounds-out-at
-offset_bounds-out-at c = omega (arith, in_word (goal.at.offset_bounds-out-at c).In-Some, c.requires.w_bound)
-
-pub bounds-out-at : goal.bounds-out-at
-bounds-out-at c = omega (arith, inside (goal.at.bounds-out-at c).In-Some, c.loop-place.invariant.0)
 
 pub overflow_shl-marks : goal.overflow_shl-marks
 overflow_shl-marks c = omega (arith, in_word (goal.at.overflow_shl-marks c).In-Some)

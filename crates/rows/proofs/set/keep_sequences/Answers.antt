@@ -2,7 +2,6 @@ use mathlib.Core.Bool.{not}
 use mathlib.Core.Path.{refl, sym, ◌∙◌}
 use Prim.Native.Nat.{◌+◌, ◌*◌}
 use native.Mathlib.Omega.{arith}
-use borrow.Rule.Slice.PartMut.{mid_len}
 use Rattle.rows.specs.Set.{between}
 use Rattle.rows.proofs.Arrays.{words_fit}
 use Rattle.rows.proofs.Sets.{kept_from, extended_is_at, bits_are_at, part_kept}
@@ -46,14 +45,6 @@ overflow_add-at c = omega (arith, (turn (goal.at.overflow_add-at c).In-Some).in_
 
 pub words-from-requires : goal.words-from-requires
 words-from-requires c = (turn (goal.at.words-from-requires c).In-Some).inside
-
-pub keep_sequence-found-requires : goal.keep_sequence-found-requires
-keep_sequence-found-requires c =
-    let p = c.requires in
-    let t = c.words-from.ensures.inside in
-    let w = c.words-from.result in
-    let n = mid_len w.0 w.1 c.args.row.now (omega (arith, t.1, c.args.layout.now.inside)) in
-    (mid_len _ _ c.args.letter.now (omega (arith, t.1, c.args.layout.now.inside)) ∙ sym n, mid_len _ _ c.loop-place.out (omega (arith, t.1, c.args.layout.now.inside, c.loop-place.invariant.0)) ∙ sym n)
 
 pub overflow_shl-left : goal.overflow_shl-left
 overflow_shl-left c = omega (arith, (turn (goal.at.overflow_shl-left c).In-Some).in_word)

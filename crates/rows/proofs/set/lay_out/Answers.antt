@@ -35,16 +35,6 @@ overflow_add-offset c =
     let l = c.loop-k in
     omega (arith, l.invariant.4, offset_next c.args.lengths.now l.k (search rules), offset_most c.args.lengths.now (l.k + 1), c.requires)
 
-pub bounds-firsts-k : goal.bounds-firsts-k
-bounds-firsts-k c =
-    let l = c.loop-k in
-    omega (arith, l.invariant.1, length-set c.args.firsts.now 0 row_marks, c.requires.lengths_in_bounds.0, c.loop-k-test.true)
-
-pub bounds-offsets-k : goal.bounds-offsets-k
-bounds-offsets-k c =
-    let l = c.loop-k in
-    omega (arith, l.invariant.2, length-set c.args.offsets.now 0 0, c.requires.lengths_in_bounds.1, c.loop-k-test.true)
-
 pub loop-k-preserved : goal.loop-k-preserved
 loop-k-preserved c =
     let l = c.loop-k in

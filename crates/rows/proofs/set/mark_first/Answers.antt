@@ -1,15 +1,12 @@
 use borrow.Author.Rules.{rules}
-use mathlib.Core.Path.{refl, ◌∙◌}
+use mathlib.Core.Path.{◌∙◌}
 use Prim.Native.Nat.{◌≤◌, ◌<◌}
 use native.Mathlib.Omega.{arith}
 use lib.ListN.{length}
 use Rattle.rules.specs.Limits.{sequence_set_sequences}
 use Rattle.rows.specs.Set.{row_marks}
-use Rattle.rows.proofs.Start.{begun_none, begun_long, begun_turn, begun_end}
+use Rattle.rows.proofs.Start.{begun_long, begun_turn, begun_end}
 use Rattle.rows.proofs.set.mark_first.Goals as goal
-
-pub loop-k-init : goal.loop-k-init
-loop-k-init c = (search rules, refl, begun_none _ c.requires.by_index)
 
 pub loop-k-preserved : goal.loop-k-preserved
 loop-k-preserved c =

@@ -1,23 +1,15 @@
 use borrow.Author.Rules.{rules}
-use mathlib.Core.Path.{refl, sym, ◌∙◌}
+use mathlib.Core.Path.{refl, ◌∙◌}
 use Prim.Native.Nat.{◌<◌}
 use native.Mathlib.Omega.{arith}
 use lib.ListN.{length}
-use borrow.Rule.Slice.PartMut.{mid_len}
 use Rattle.rows.specs.Set.{between}
-use Rattle.rows.proofs.Sets.{filled_none, filled_end, filled_turn, part_opened}
+use Rattle.rows.proofs.Sets.{filled_none, filled_turn, part_opened}
 use Rattle.rows.proofs.Shifted.{shifted_is_at}
 use Rattle.rows.proofs.shift.shift_all.Goals as goal
 
 pub loop-k-init : goal.loop-k-init
 loop-k-init c = (search rules, refl, filled_none _ _ _ _ _ refl)
-
-pub shift_down-requires : goal.shift_down-requires
-shift_down-requires c =
-    let p = c.requires in
-    let l = c.loop-k in
-    let t = c.words-from.ensures.inside in
-    mid_len _ _ l.out (omega (arith, t.1, c.args.layout.now.inside, l.invariant.1)) ∙ sym (mid_len _ _ c.args.row.now (omega (arith, t.1, c.args.layout.now.inside)))
 
 pub loop-k-preserved : goal.loop-k-preserved
 unfolding between
@@ -33,9 +25,3 @@ loop-k-preserved c =
       e.1 ∙ l.invariant.1,
       filled_turn _ _ _ l.out _ _ h l.invariant.2 k.0 k.1 e.0 (λ _. shifted_is_at _ _ h k.0 k.1 c.args.by.places c.args.row.now e.2),
     )
-
-pub returns : goal.returns
-returns c =
-    let l = c.loop-k in record {
-      filled = filled_end _ _ _ _ _ _ (search rules) l.invariant.2;
-    }

@@ -1,8 +1,7 @@
 -- The first words get no bits, the next those of the first word alone, and the others, by the loop, those of two; a shift past all words leaves nothing.
 use borrow.Author.Rules.{rules}
-use lib.Seq.{length-take-le}
 use Rattle.rows.proofs.WordByWord.{shift_begun, shift_length, shift_whole, shift_out}
-use mathlib.Core.Path.{sym, ◌∙◌}
+use mathlib.Core.Path.{◌∙◌}
 use Rattle.rules.proofs.Over.{over_again}
 use Rattle.rows.proofs.words.shift_up.Goals as goal
 
@@ -10,9 +9,6 @@ pub returns-then-n-e : goal.returns-then-n-e
 returns-then-n-e c =
     let a = c.args in
     shift_out _ _ a.out.now (search rules) (λ q. (c.type_inv.row q).fits) (search rules) (c.fill.ensures.after (λ _ e. e))
-
-pub slice_bounds-fill-end-2 : goal.slice_bounds-fill-end-2
-slice_bounds-fill-end-2 c = sym (length-take-le _ _ (search rules))
 
 pub shift_words-requires : goal.shift_words-requires
 shift_words-requires c =

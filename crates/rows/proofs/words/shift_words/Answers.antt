@@ -1,10 +1,7 @@
 use borrow.Author.Rules.{rules}
 use Rattle.rows.proofs.WordByWord.{behind_is}
-use Rattle.rules.proofs.Over.{over_put, over_end}
+use Rattle.rules.proofs.Over.{over_put}
 use Rattle.rows.proofs.words.shift_words.Goals as goal
-
-pub loop-q-init : goal.loop-q-init
-loop-q-init c = (search rules, search rules, search rules, search rules, search rules)
 
 pub loop-q-preserved : goal.loop-q-preserved
 loop-q-preserved c =
@@ -15,6 +12,3 @@ loop-q-preserved c =
       search rules,
       over_put _ _ _ i (behind_is _ _ _ _ (search rules) c.up.ensures) (search rules),
     )
-
-pub returns : goal.returns
-returns c = over_end _ _ _ c.loop-q.invariant.4 (search rules)
