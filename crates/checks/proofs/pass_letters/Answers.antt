@@ -1,14 +1,6 @@
-use mathlib.Core.Path.{◌∙◌, sym, ap}
-use native.Mathlib.Nat.{zero-add}
-use native.Mathlib.Omega.{arith}
+use mathlib.Core.Path.{◌∙◌, sym}
 use Rattle.checks.proofs.Laws.{block_passed}
 use Rattle.checks.proofs.pass_letters.Goals as goal
-
-pub loop-block-init : goal.loop-block-init
-loop-block-init c =
-    let e = c.into_iter-block-iterator.ensures.into_iter_gives in
-    let k = c.chunks_exact-block-items.ensures in
-    ((omega arith, λ o. rw zero-add), ap (λ i. i.rest.now) e ∙ k.rest, ap (λ i. i.size) e ∙ k.size)
 
 pub loop-block-preserved : goal.loop-block-preserved
 loop-block-preserved c =

@@ -1,12 +1,9 @@
 -- A leg is refused where the checks before 13 refuse, and else is the one that is left to 13.
-use mathlib.Core.Path.{sym, ap, ◌∙◌}
+use mathlib.Core.Path.{ap, ◌∙◌}
 use Rattle.legs.proofs.Ruled.{declined}
 use Rattle.places.proofs.ChecksInTurn.{refused_before}
 use Rattle.rules.specs.Told.{told_leg}
 use Rattle.search.proofs.leg.Goals as goal
-
-pub leg-requires : goal.leg-requires
-leg-requires c = sym c.in-Ok.ensures
 
 pub returns-in-Err : goal.returns-in-Err
 returns-in-Err c =

@@ -1,8 +1,5 @@
-use Rattle.checks.proofs.Dealt.{none_given, one_given, all_given}
+use Rattle.checks.proofs.Dealt.{one_given, all_given}
 use Rattle.checks.proofs.spelled.allowed.Goals as goal
-
-pub loop-c-init : goal.loop-c-init
-loop-c-init c = let a = c.args in none_given a.t.profile a.number a.letters _
 
 pub loop-c-preserved : goal.loop-c-preserved
 loop-c-preserved c =
