@@ -8,17 +8,19 @@ use Rattle.legs.proofs.Ruled.{declined, accepted}
 use Rattle.rules.specs.Told.{told_leg}
 use Rattle.legs.proofs.leg.Goals as goal
 
+pub invariant_of-over : goal.invariant_of-over
+invariant_of-over c =
+    let a = c.args in
+    let e = sym c.requires in
+    record { sound_template = template_is _ _ _ e; sound_set = set_is a.set.now.letters.now a.set.now.lengths.now a.search e }
+
 pub make-weighing-requires : goal.make-weighing-requires
 make-weighing-requires c =
     let a = c.args in
     let e = sym c.requires in
     let set = set_is a.set.now.letters.now a.set.now.lengths.now a.search e in
     let template = template_is _ _ _ e in
-    record {
-      sound_template = template;
-      sound_set = set;
-      template_in_bounds = (template.deep, omega (arith, set.few), omega (arith, set.few), omega (arith, base_most a.search.template), omega arith);
-    }
+    record { template_in_bounds = (template.deep, omega (arith, set.few), omega (arith, set.few), omega (arith, base_most a.search.template), omega arith) }
 
 pub check_passes-requires : goal.check_passes-requires
 check_passes-requires c =
