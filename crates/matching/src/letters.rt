@@ -147,18 +147,23 @@ pub fn letter_rows(plan: &Plan, work: &mut [u64; WORDS], standing: &mut [[u64; W
     }
 }
 
-// The row that the last letter of a candidate is tested by, and how far it is shifted as it is used.
+// A candidate, the row that its last letter is tested by, and how far that is shifted as it is used.
 #[derive(Clone, Copy)]
 pub struct Test<'a> {
+    pub plan: &'a Plan<'a>,
+    pub place: Place,
     pub row: &'a [u64; WORDS],
     pub by: Shift,
+    pub ghost le_letters: { (1 ≤ place.letters) × (place.letters ≤ plan.now.depth) },
+    pub ghost tests_last: { TestsLast plan.now.search.template plan.now.layout.lengths.now plan.now.letters.now place.letters place.number row.now by.places },
 }
 
-// The row of the letter shifted so far, where it is kept, and else the row as it is.
-pub fn test_for<'a>(made: &Made<'a>, place: Place) -> Test<'a>
-    requires le_letters { (1 ≤ place.letters) × (place.letters ≤ made.now.plan.depth) }
-    ensures tests_last { TestsLast made.now.plan.search.template made.now.plan.layout.lengths.now made.now.plan.letters.now place.letters place.number result.row.now result.by.places }
+// A candidate with the row of its last letter shifted so far, where it is kept, and else the row as it is.
+pub fn test_for<'a>(made: &'a Made<'a>, place: Place) -> Test<'a>
+    requires { (1 ≤ place.letters) × (place.letters ≤ made.now.plan.depth) }
+    ensures { (result.plan.now ≡ made.now.plan) × (result.place ≡ place) }
 {
+    let plan = &made.plan;
     let standing = made.standing;
     let below = place.letters as usize - 1;
     let profile = made.plan.search.template.profile;
@@ -167,14 +172,17 @@ pub fn test_for<'a>(made: &Made<'a>, place: Place) -> Test<'a>
     let base = profile.base() as usize;
     let kept = (i + 1) * base <= standing.len();
     if kept {
-        Test {
+        return Test {
+            plan,
+            place,
             row: &standing[i * base + x],
             by: Shift { places: 0 },
-        }
-    } else {
-        Test {
-            row: &standing[x],
-            by: Shift { places: i },
-        }
+        };
+    }
+    Test {
+        plan,
+        place,
+        row: &standing[x],
+        by: Shift { places: i },
     }
 }
