@@ -1,7 +1,7 @@
 // The path of a search: the rows of the prefixes of its place, kept from step to step.
 ghost use Rattle.std.specs.Prelude.{List, Option, Some, None, ◌≡◌, ℕ, ◌+◌, ◌-◌, ◌*◌, ◌/◌, ◌^◌, ◌≤◌, ◌<◌, length};
 ghost use Rattle.rules.specs.Limits.{sequence_set_sequences, template_letters};
-ghost use Rattle.rules.specs.Profile.{base_of};
+ghost use Rattle.rules.specs.Profile.{base_of, profile_by};
 ghost use Rattle.rules.specs.Sequences.{sequences};
 ghost use Rattle.rules.specs.Sound.{SoundSet};
 ghost use Rattle.rules.specs.Support.{support, parts};
@@ -15,7 +15,7 @@ use super::{SLOTS, WORDS};
 use rows::gap::{self, Gap};
 use rows::set;
 use rows::words::Shift;
-use rules::Place;
+use rules::{Place, Profile};
 
 // The slot of the prefix of so many letters.
 pub fn slot<'a>(size: usize, slots: &'a [[u64; WORDS]; SLOTS]) -> &'a [u64; WORDS]
@@ -157,6 +157,18 @@ pub fn examine(
     support(made, place, slots, quorum, work)
 }
 
+// The prefix of a place that has so many letters.
+fn prefix(profile: Profile, place: Place, letters: u8) -> Place
+    requires { letters ≤ place.letters }
+    ensures { result ≡ record { letters = letters; number = place.number / (profile_by profile).base ^ (place.letters - letters) } }
+{
+    let left = (place.letters - letters) as u32;
+    Place {
+        letters,
+        number: profile.prefix(place.number, left),
+    }
+}
+
 // Makes the rows of the path to the search's place, from the first slot on, and answers the support of the prefix one letter shorter, if it
 // has a letter.
 pub fn replay(
@@ -174,10 +186,7 @@ pub fn replay(
     let profile = made.plan.search.template.profile;
     let mut found: Option<u32> = None;
     for d in 1..place.letters {
-        let left = (place.letters - d) as u32;
-        let number = profile.prefix(place.number, left);
-        let prefix = Place { letters: d, number };
-        found = Some(push(made, prefix, 0, slots, spare));
+        found = Some(push(made, prefix(profile, place, d), 0, slots, spare));
     }
     found
 }
@@ -217,6 +226,8 @@ fn take_turn(
 
 // The support of the prefix of the search's place that is one letter shorter, if it has a letter: the prefixes one after another, in two
 // slots, the first of which is at first that of the prefix with no letters.
+// It stands beside `replay`: one walk for both, which takes the step as a closure, is no plainer, as its contract would have to say what
+// steps make of slots that it does not see.
 pub fn shorter(
     plan: &Plan,
     bases: &[[u64; WORDS]],
@@ -236,9 +247,7 @@ pub fn shorter(
     let mut slot = &mut *odd;
     let mut found: Option<u32> = None;
     for d in 1..place.letters {
-        let left = (place.letters - d) as u32;
-        let number = profile.prefix(place.number, left);
-        let prefix = Place { letters: d, number };
+        let prefix = prefix(profile, place, d);
         found = Some(take_turn(plan, prefix, bases, letter, before, slot));
         (before, slot) = (slot, before);
     }
