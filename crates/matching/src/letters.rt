@@ -16,7 +16,8 @@ use rows::words::{Bases, Shift};
 use rows::{BITS, shift, words};
 use rules::{Letter, Offset, Place, Profile, SequenceSet};
 
-// Word `q` of each letter's row, in its slot for the first place of a component.
+// Word `q` of each letter's row, in its slot for the first place of a component. Here and below, that the table has four rows stays a
+// clause: it may have more, and of such a one the first four as an array would be an `Option`.
 fn put_words(q: usize, bases: Bases, standing: &mut [[u64; WORDS]])
     requires { (q < row_words) × (letter_bases ≤ length standing.old) }
     ensures by_index { (x : ℕ) → x < letter_bases → row_slot x standing.new ≡ set (row_slot x standing.old) q (word_of bases x) }
@@ -158,7 +159,9 @@ pub struct Test<'a> {
     pub ghost tests_last: { TestsLast plan.now.search.template plan.now.layout.lengths.now plan.now.letters.now place.letters place.number row.now by.places },
 }
 
-// A candidate with the row of its last letter shifted so far, where it is kept, and else the row as it is.
+// A candidate with the row of its last letter shifted so far, where it is kept, and else the row as it is. What it asks of the candidate
+// stays a clause here, where a `Test` is made of one, and in `path` where one is handed in: `examine`, `replay` and `support` take any
+// place, and the pages name them.
 pub fn test_for<'a>(made: &'a Made<'a>, place: Place) -> Test<'a>
     requires { (1 ≤ place.letters) × (place.letters ≤ made.now.plan.depth) }
     ensures { (result.plan.now ≡ made.now.plan) × (result.place ≡ place) }

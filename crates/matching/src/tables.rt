@@ -26,7 +26,7 @@ fn place_component(k: u8, n: u8, from: usize, inside: &mut [Spot])
     }
 }
 
-// The places of all letters of a motif.
+// The places of all letters of a motif. Here and below, that a table is long enough stays a clause: whichever is may be lent.
 fn place_letters(over: &SearchOver, inside: &mut [Spot])
     requires template_in_bounds { templates.size over.now.search.template ≤ length inside.old }
     ensures inside { Inside over.now.search.template inside.new }
