@@ -16,7 +16,8 @@ use rows::words::{Bases, Shift};
 use rows::{BITS, shift, words};
 use rules::{Letter, Offset, Place, Profile, SequenceSet};
 
-// Word `q` of each letter's row, in its slot for the first place of a component.
+// Word `q` of each letter's row, in its slot for the first place of a component. Here and below, that the table has four rows stays a
+// clause: it may have more, and of such a one the first four as an array would be an `Option`.
 fn put_words(q: usize, bases: Bases, standing: &mut [[u64; WORDS]])
     requires { (q < row_words) × (letter_bases ≤ length standing.old) }
     ensures by_index { (x : ℕ) → x < letter_bases → row_slot x standing.new ≡ set (row_slot x standing.old) q (word_of bases x) }
@@ -147,18 +148,25 @@ pub fn letter_rows(plan: &Plan, work: &mut [u64; WORDS], standing: &mut [[u64; W
     }
 }
 
-// The row that the last letter of a candidate is tested by, and how far it is shifted as it is used.
+// A candidate, the row that its last letter is tested by, and how far that is shifted as it is used.
 #[derive(Clone, Copy)]
 pub struct Test<'a> {
+    pub plan: &'a Plan<'a>,
+    pub place: Place,
     pub row: &'a [u64; WORDS],
     pub by: Shift,
+    pub ghost le_letters: { (1 ≤ place.letters) × (place.letters ≤ plan.now.depth) },
+    pub ghost tests_last: { TestsLast plan.now.search.template plan.now.layout.lengths.now plan.now.letters.now place.letters place.number row.now by.places },
 }
 
-// The row of the letter shifted so far, where it is kept, and else the row as it is.
-pub fn test_for<'a>(made: &Made<'a>, place: Place) -> Test<'a>
-    requires le_letters { (1 ≤ place.letters) × (place.letters ≤ made.now.plan.depth) }
-    ensures tests_last { TestsLast made.now.plan.search.template made.now.plan.layout.lengths.now made.now.plan.letters.now place.letters place.number result.row.now result.by.places }
+// A candidate with the row of its last letter shifted so far, where it is kept, and else the row as it is. What it asks of the candidate
+// stays a clause here, where a `Test` is made of one, and in `path` where one is handed in: `examine`, `replay` and `support` take any
+// place, and the pages name them.
+pub fn test_for<'a>(made: &'a Made<'a>, place: Place) -> Test<'a>
+    requires { (1 ≤ place.letters) × (place.letters ≤ made.now.plan.depth) }
+    ensures { (result.plan.now ≡ made.now.plan) × (result.place ≡ place) }
 {
+    let plan = &made.plan;
     let standing = made.standing;
     let below = place.letters as usize - 1;
     let profile = made.plan.search.template.profile;
@@ -167,14 +175,17 @@ pub fn test_for<'a>(made: &Made<'a>, place: Place) -> Test<'a>
     let base = profile.base() as usize;
     let kept = (i + 1) * base <= standing.len();
     if kept {
-        Test {
+        return Test {
+            plan,
+            place,
             row: &standing[i * base + x],
             by: Shift { places: 0 },
-        }
-    } else {
-        Test {
-            row: &standing[x],
-            by: Shift { places: i },
-        }
+        };
+    }
+    Test {
+        plan,
+        place,
+        row: &standing[x],
+        by: Shift { places: i },
     }
 }

@@ -7,7 +7,7 @@ ghost use Rattle.rules.specs.Template as templates;
 
 use super::WORDS;
 use rows::layout::Layout;
-use rules::Search;
+use rules::{Search, Sequences};
 
 // Where a letter of a motif stands: its component, and its place there.
 #[derive(Clone, Copy)]
@@ -22,6 +22,15 @@ impl Spot {
         component: 0,
         letter: 0,
     };
+}
+
+// A search, and the set of sequences that it goes over.
+#[derive(Clone, Copy)]
+pub struct SearchOver<'a> {
+    pub search: Search,
+    pub set: Sequences<'a>,
+    pub ghost sound_template: { SoundTemplate search.template },
+    pub ghost sound_set: { SoundSet set.letters.now set.lengths.now },
 }
 
 // A search whose motifs have `depth` letters, and its set of sequences; where each letter of a motif stands, and where the words of each

@@ -1,7 +1,7 @@
 // The path of a search: the rows of the prefixes of its place, kept from step to step.
 ghost use Rattle.std.specs.Prelude.{List, Option, Some, None, ◌≡◌, ℕ, ◌+◌, ◌-◌, ◌*◌, ◌/◌, ◌^◌, ◌≤◌, ◌<◌, length};
 ghost use Rattle.rules.specs.Limits.{sequence_set_sequences, template_letters};
-ghost use Rattle.rules.specs.Profile.{base_of};
+ghost use Rattle.rules.specs.Profile.{base_of, profile_by};
 ghost use Rattle.rules.specs.Sequences.{sequences};
 ghost use Rattle.rules.specs.Sound.{SoundSet};
 ghost use Rattle.rules.specs.Support.{support, parts};
@@ -15,7 +15,7 @@ use super::{SLOTS, WORDS};
 use rows::gap::{self, Gap};
 use rows::set;
 use rows::words::Shift;
-use rules::Place;
+use rules::{Place, Profile};
 
 // The slot of the prefix of so many letters.
 pub fn slot<'a>(size: usize, slots: &'a [[u64; WORDS]; SLOTS]) -> &'a [u64; WORDS]
@@ -27,21 +27,13 @@ pub fn slot<'a>(size: usize, slots: &'a [[u64; WORDS]; SLOTS]) -> &'a [u64; WORD
 
 // The support of a candidate, and its row, from the slot of the prefix that is one letter shorter. Where the support is below `quorum`, a
 // number may be answered that is below it too, and the row may not be whole.
-fn extend(
-    plan: &Plan,
-    place: Place,
-    test: Test,
-    slot: &[u64; WORDS],
-    quorum: u32,
-    work: &mut [u64; WORDS],
-) -> u32
-    requires le_size { (1 ≤ place.letters) × (place.letters ≤ templates.size plan.now.search.template) }
-    requires tests_last { TestsLast plan.now.search.template plan.now.layout.lengths.now plan.now.letters.now place.letters place.number test.row.now test.by.places }
-    requires slot { Slot plan.now.search.template plan.now.layout.lengths.now plan.now.letters.now slot.now (place.letters - 1) (place.number / base_of plan.now.search.template) }
-    ensures lower_bound { support (parts plan.now.search.template place.letters place.number) (sequences plan.now.letters.now plan.now.layout.lengths.now) ≤ result }
-    ensures value { quorum ≤ result → result ≡ support (parts plan.now.search.template place.letters place.number) (sequences plan.now.letters.now plan.now.layout.lengths.now) }
-    ensures row { quorum ≤ result → Row (prefix_starts plan.now.search.template place.letters place.number) plan.now.layout.lengths.now plan.now.letters.now work.new }
+fn extend(test: &Test, slot: &[u64; WORDS], quorum: u32, work: &mut [u64; WORDS]) -> u32
+    requires { Slot test.now.plan.now.search.template test.now.plan.now.layout.lengths.now test.now.plan.now.letters.now slot.now (test.now.place.letters - 1) (test.now.place.number / base_of test.now.plan.now.search.template) }
+    ensures lower_bound { support (parts test.now.plan.now.search.template test.now.place.letters test.now.place.number) (sequences test.now.plan.now.letters.now test.now.plan.now.layout.lengths.now) ≤ result }
+    ensures value { quorum ≤ result → result ≡ support (parts test.now.plan.now.search.template test.now.place.letters test.now.place.number) (sequences test.now.plan.now.letters.now test.now.plan.now.layout.lengths.now) }
+    ensures row { quorum ≤ result → Row (prefix_starts test.now.plan.now.search.template test.now.place.letters test.now.place.number) test.now.plan.now.layout.lengths.now test.now.plan.now.letters.now work.new }
 {
+    let plan = test.plan;
     set::keep_all(&plan.layout, slot, test.row, test.by, quorum, work)
 }
 
@@ -60,14 +52,8 @@ pub fn support(
     ensures row { quorum ≤ result → Row (prefix_starts made.now.plan.search.template place.letters place.number) made.now.plan.layout.lengths.now made.now.plan.letters.now work.new }
 {
     let before = slot(place.letters as usize - 1, slots);
-    extend(
-        &made.plan,
-        place,
-        test_for(made, place),
-        before,
-        quorum,
-        work,
-    )
+    let test = test_for(made, place);
+    extend(&test, before, quorum, work)
 }
 
 // Opens the gap before a component in a slot that has the row of a prefix which ends the one before it.
@@ -104,26 +90,23 @@ fn end_slot(plan: &Plan, size: u8, spare: &mut [u64; WORDS], slot: &mut [u64; WO
 // stands inside a component, and else to that row with the gap opened. Where the support is below `quorum`, a number may be answered that
 // is below it too, and the slot may not be whole.
 fn fill_slot(
-    plan: &Plan,
-    place: Place,
-    test: Test,
+    test: &Test,
     before: &[u64; WORDS],
     quorum: u32,
     spare: &mut [u64; WORDS],
     slot: &mut [u64; WORDS],
 ) -> u32
-    requires le_size { (1 ≤ place.letters) × (place.letters < templates.size plan.now.search.template) }
-    requires tests_last { TestsLast plan.now.search.template plan.now.layout.lengths.now plan.now.letters.now place.letters place.number test.row.now test.by.places }
-    requires slot { Slot plan.now.search.template plan.now.layout.lengths.now plan.now.letters.now before.now (place.letters - 1) (place.number / base_of plan.now.search.template) }
-    ensures lower_bound { support (parts plan.now.search.template place.letters place.number) (sequences plan.now.letters.now plan.now.layout.lengths.now) ≤ result }
-    ensures value { quorum ≤ result → result ≡ support (parts plan.now.search.template place.letters place.number) (sequences plan.now.letters.now plan.now.layout.lengths.now) }
-    ensures slot_2 { quorum ≤ result → Slot plan.now.search.template plan.now.layout.lengths.now plan.now.letters.now slot.new place.letters place.number }
+    requires le_size { test.now.place.letters < templates.size test.now.plan.now.search.template }
+    requires slot { Slot test.now.plan.now.search.template test.now.plan.now.layout.lengths.now test.now.plan.now.letters.now before.now (test.now.place.letters - 1) (test.now.place.number / base_of test.now.plan.now.search.template) }
+    ensures lower_bound { support (parts test.now.plan.now.search.template test.now.place.letters test.now.place.number) (sequences test.now.plan.now.letters.now test.now.plan.now.layout.lengths.now) ≤ result }
+    ensures value { quorum ≤ result → result ≡ support (parts test.now.plan.now.search.template test.now.place.letters test.now.place.number) (sequences test.now.plan.now.letters.now test.now.plan.now.layout.lengths.now) }
+    ensures slot_2 { quorum ≤ result → Slot test.now.plan.now.search.template test.now.plan.now.layout.lengths.now test.now.plan.now.letters.now slot.new test.now.place.letters test.now.place.number }
 {
-    let found = extend(plan, place, test, before, quorum, slot);
+    let found = extend(test, before, quorum, slot);
     if found < quorum {
         return found;
     }
-    end_slot(plan, place.letters, spare, slot);
+    end_slot(test.plan, test.place.letters, spare, slot);
     found
 }
 
@@ -145,15 +128,7 @@ fn push(
     let test = test_for(made, place);
     let size = place.letters as usize;
     let (below, rest) = slots.split_at_mut(size);
-    fill_slot(
-        &made.plan,
-        place,
-        test,
-        &below[size - 1],
-        quorum,
-        spare,
-        &mut rest[0],
-    )
+    fill_slot(&test, &below[size - 1], quorum, spare, &mut rest[0])
 }
 
 // Examines a candidate whose path stands in the slots, and answers its support. Where that reaches `quorum`, there is then the path to each
@@ -182,6 +157,18 @@ pub fn examine(
     support(made, place, slots, quorum, work)
 }
 
+// The prefix of a place that has so many letters.
+fn prefix(profile: Profile, place: Place, letters: u8) -> Place
+    requires { letters ≤ place.letters }
+    ensures { result ≡ record { letters = letters; number = place.number / (profile_by profile).base ^ (place.letters - letters) } }
+{
+    let left = (place.letters - letters) as u32;
+    Place {
+        letters,
+        number: profile.prefix(place.number, left),
+    }
+}
+
 // Makes the rows of the path to the search's place, from the first slot on, and answers the support of the prefix one letter shorter, if it
 // has a letter.
 pub fn replay(
@@ -199,10 +186,7 @@ pub fn replay(
     let profile = made.plan.search.template.profile;
     let mut found: Option<u32> = None;
     for d in 1..place.letters {
-        let left = (place.letters - d) as u32;
-        let number = profile.prefix(place.number, left);
-        let prefix = Place { letters: d, number };
-        found = Some(push(made, prefix, 0, slots, spare));
+        found = Some(push(made, prefix(profile, place, d), 0, slots, spare));
     }
     found
 }
@@ -229,13 +213,21 @@ fn take_turn(
     };
     let profile = plan.search.template.profile;
     letter_row(profile.last(place.number), bases, letter);
-    let found = extend(plan, place, Test { row: letter, by }, before, 0, slot);
+    let test = Test {
+        plan: &*plan,
+        place,
+        row: letter,
+        by,
+    };
+    let found = extend(&test, before, 0, slot);
     end_slot(plan, place.letters, letter, slot);
     found
 }
 
 // The support of the prefix of the search's place that is one letter shorter, if it has a letter: the prefixes one after another, in two
 // slots, the first of which is at first that of the prefix with no letters.
+// It stands beside `replay`: one walk for both, which takes the step as a closure, is no plainer, as its contract would have to say what
+// steps make of slots that it does not see.
 pub fn shorter(
     plan: &Plan,
     bases: &[[u64; WORDS]],
@@ -255,9 +247,7 @@ pub fn shorter(
     let mut slot = &mut *odd;
     let mut found: Option<u32> = None;
     for d in 1..place.letters {
-        let left = (place.letters - d) as u32;
-        let number = profile.prefix(place.number, left);
-        let prefix = Place { letters: d, number };
+        let prefix = prefix(profile, place, d);
         found = Some(take_turn(plan, prefix, bases, letter, before, slot));
         (before, slot) = (slot, before);
     }

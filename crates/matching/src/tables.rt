@@ -3,15 +3,13 @@
 ghost use Rattle.std.specs.Prelude.{true, ◌≡◌, ℕ, ◌+◌, ◌*◌, ◌≤◌, ◌<◌, length, take, get_or};
 ghost use Rattle.rules.specs.Limits.{letter_bases, template_length, template_components};
 ghost use Rattle.rules.specs.Profile.{base_of};
-ghost use Rattle.rules.specs.Sound.{SoundSet, SoundTemplate};
 ghost use Rattle.rules.specs.Template as templates;
 ghost use Rattle.matching.specs.Path.{letter_shifts, row_slot, spot, Slot, Inside, BaseRows};
 ghost use Rattle.rows.specs.Set.{Offsets};
 
 use super::letters::{letter_rows, letter_slots};
-use super::made::{Made, Plan, Spot, Weighing};
+use super::made::{Made, Plan, SearchOver, Spot, Weighing};
 use super::{SLOTS, WORDS};
-use rules::{Search, Sequences, Template};
 
 // The places of the `n` letters of component `k`, the first of which is letter `from` of a motif.
 fn place_component(k: u8, n: u8, from: usize, inside: &mut [Spot])
@@ -28,13 +26,13 @@ fn place_component(k: u8, n: u8, from: usize, inside: &mut [Spot])
     }
 }
 
-// The places of all letters of a motif.
-fn place_letters(template: Template, inside: &mut [Spot])
-    requires sound_template { SoundTemplate template }
-    requires template_in_bounds { templates.size template ≤ length inside.old }
-    ensures inside { Inside template inside.new }
+// The places of all letters of a motif. Here and below, that a table is long enough stays a clause: whichever is may be lent.
+fn place_letters(over: &SearchOver, inside: &mut [Spot])
+    requires template_in_bounds { templates.size over.now.search.template ≤ length inside.old }
+    ensures inside { Inside over.now.search.template inside.new }
     ensures inside_len_unchanged { length inside.new ≡ length inside.old }
 {
+    let template = over.search.template;
     let components = template.components();
     let count = template.count as usize;
     let mut from = 0;
@@ -46,41 +44,37 @@ fn place_letters(template: Template, inside: &mut [Spot])
 }
 
 // The slot of the prefix with no letters, which the first letter is added to: it has every mark and every bit.
-fn first_slot(template: Template, set: &Sequences, slot: &mut [u64; WORDS])
-    requires sound_template { SoundTemplate template }
-    requires sound_set { SoundSet set.now.letters.now set.now.lengths.now }
-    ensures slot { Slot template set.now.lengths.now set.now.letters.now slot.new 0 0 }
+fn first_slot(over: &SearchOver, slot: &mut [u64; WORDS])
+    ensures slot { Slot over.now.search.template over.now.set.lengths.now over.now.set.letters.now slot.new 0 0 }
 {
-    let n = set.lengths.len();
+    let n = over.set.lengths.len();
     rows::set::begin(n, slot);
 }
 
 // All but the rows of the letters that only a motif has.
 pub fn begin<'a, 's: 'a>(
-    search: Search,
-    set: &Sequences<'s>,
+    over: &SearchOver<'s>,
     inside: &'a mut [Spot],
     firsts: &'a mut [u32],
     offsets: &mut [u32],
     standing: &mut [[u64; WORDS]],
     slot: &mut [u64; WORDS],
 ) -> Plan<'a>
-    requires sound_template { SoundTemplate search.template }
-    requires sound_set { SoundSet set.now.letters.now set.now.lengths.now }
-    requires template_in_bounds { (templates.size search.template ≤ length inside.old) × (length set.now.lengths.now < length firsts.old) × (length set.now.lengths.now < length offsets.old) × (letter_bases ≤ length standing.old) }
-    ensures plan { (result.search ≡ search) × (result.letters.now ≡ set.now.letters.now) × (result.layout.lengths.now ≡ set.now.lengths.now) }
-    ensures offsets { Offsets set.now.lengths.now offsets.new }
-    ensures base_rows { BaseRows set.now.lengths.now set.now.letters.now standing.new }
-    ensures slot { Slot search.template set.now.lengths.now set.now.letters.now slot.new 0 0 }
+    requires template_in_bounds { (templates.size over.now.search.template ≤ length inside.old) × (length over.now.set.lengths.now < length firsts.old) × (length over.now.set.lengths.now < length offsets.old) × (letter_bases ≤ length standing.old) }
+    ensures plan { (result.search ≡ over.now.search) × (result.letters.now ≡ over.now.set.letters.now) × (result.layout.lengths.now ≡ over.now.set.lengths.now) }
+    ensures offsets { Offsets over.now.set.lengths.now offsets.new }
+    ensures base_rows { BaseRows over.now.set.lengths.now over.now.set.letters.now standing.new }
+    ensures slot { Slot over.now.search.template over.now.set.lengths.now over.now.set.letters.now slot.new 0 0 }
     ensures standing_len_unchanged { (length offsets.new ≡ length offsets.old) × (length standing.new ≡ length standing.old) }
 {
-    let template = search.template;
-    place_letters(template, inside);
+    let search = over.search;
+    let set = over.set;
+    place_letters(over, inside);
     let layout = rows::set::lay_out(set.lengths, firsts, offsets);
-    first_slot(template, set, slot);
+    first_slot(over, slot);
     let plan = Plan {
         search,
-        depth: template.letters() as u8,
+        depth: search.template.letters() as u8,
         letters: set.letters,
         layout,
         inside,
@@ -92,8 +86,7 @@ pub fn begin<'a, 's: 'a>(
 // All of it, and the first slot of the path. `work` is lent for a row. The letters' rows are kept for as many places as `standing` has room
 // for, at least one.
 pub fn make<'a, 's: 'a>(
-    search: Search,
-    set: &Sequences<'s>,
+    over: &SearchOver<'s>,
     inside: &'a mut [Spot],
     firsts: &'a mut [u32],
     offsets: &'a mut [u32],
@@ -101,21 +94,11 @@ pub fn make<'a, 's: 'a>(
     slots: &mut [[u64; WORDS]; SLOTS],
     work: &mut [u64; WORDS],
 ) -> Weighing<'a>
-    requires sound_template { SoundTemplate search.template }
-    requires sound_set { SoundSet set.now.letters.now set.now.lengths.now }
-    requires template_in_bounds { (templates.size search.template ≤ length inside.old) × (length set.now.lengths.now < length firsts.old) × (length set.now.lengths.now < length offsets.old) × (base_of search.template ≤ length standing.old) × (length standing.old ≤ letter_shifts * letter_bases) }
-    ensures plan { (result.made.plan.search ≡ search) × (result.made.plan.letters.now ≡ set.now.letters.now) × (result.made.plan.layout.lengths.now ≡ set.now.lengths.now) }
-    ensures slot { Slot search.template set.now.lengths.now set.now.letters.now (row_slot 0 slots.new) 0 0 }
+    requires template_in_bounds { (templates.size over.now.search.template ≤ length inside.old) × (length over.now.set.lengths.now < length firsts.old) × (length over.now.set.lengths.now < length offsets.old) × (base_of over.now.search.template ≤ length standing.old) × (length standing.old ≤ letter_shifts * letter_bases) }
+    ensures plan { (result.made.plan.search ≡ over.now.search) × (result.made.plan.letters.now ≡ over.now.set.letters.now) × (result.made.plan.layout.lengths.now ≡ over.now.set.lengths.now) }
+    ensures slot { Slot over.now.search.template over.now.set.lengths.now over.now.set.letters.now (row_slot 0 slots.new) 0 0 }
 {
-    let plan = begin(
-        search,
-        set,
-        inside,
-        firsts,
-        offsets,
-        standing,
-        &mut slots[0],
-    );
+    let plan = begin(over, inside, firsts, offsets, standing, &mut slots[0]);
     letter_rows(&plan, work, standing);
     let made = Made { plan, standing };
     Weighing { made, offsets }

@@ -54,7 +54,8 @@ fn lead_between(
     counts::lead(&row[from..to], &opened[from..to], gap, &mut counts[x..y]);
 }
 
-// The same in the sequences of one word of marks, those that have one.
+// The same in the sequences of one word of marks, those that have one. Here and below, what is asked of a row stays in clauses: most of it
+// is on the counts as well, and a type for the rest, that no sequence past the last has a mark, would be no plainer.
 fn lead_sequences(
     weighing: &Weighing,
     w: usize,

@@ -10,7 +10,7 @@ ghost use Rattle.rules.specs.Told.{told_checked};
 ghost use Rattle.matching.specs.Path.{row_slot, Slot, Path};
 ghost use Rattle.places.specs.SearchOrder.{before_13};
 
-use matching::made::{Made, Spot};
+use matching::made::{Made, SearchOver, Spot};
 use matching::{SLOTS, WORDS, path, tables};
 use rules::{Refusal, Search, Sequences};
 
@@ -63,9 +63,12 @@ fn candidate_alone(set: &Sequences, s: Search) -> bool
     let mut letter = [0u64; WORDS];
     let mut even = [0u64; WORDS];
     let mut odd = [0u64; WORDS];
+    let over = SearchOver {
+        search: s,
+        set: *set,
+    };
     let plan = tables::begin(
-        s,
-        set,
+        &over,
         &mut inside,
         &mut firsts,
         &mut offsets,

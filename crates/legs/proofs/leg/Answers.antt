@@ -20,17 +20,19 @@ returns-then-ended c =
     let r = accepted _ _ _ a.budget _ _ _ fine (at_end _ _ a.search a.budget _ _ _ none) in
     record { result_value = ap told_leg c.stopped.ensures ∙ r.0; motifs_after = r.1.0; supports_after = r.1.1.0; weights_after = r.1.1.1 }
 
+pub invariant_of-over : goal.invariant_of-over
+invariant_of-over c =
+    let a = c.args in
+    let e = sym c.requires in
+    record { sound_template = template_is _ _ _ e; sound_set = set_is a.set.now.letters.now a.set.now.lengths.now a.search e }
+
 pub make-weighing-requires : goal.make-weighing-requires
 make-weighing-requires c =
     let a = c.args in
     let e = sym c.requires in
     let set = set_is a.set.now.letters.now a.set.now.lengths.now a.search e in
     let template = template_is _ _ _ e in
-    record {
-      sound_template = template;
-      sound_set = set;
-      template_in_bounds = (template.deep, omega (arith, set.few), omega (arith, set.few), omega (arith, base_most a.search.template), omega arith);
-    }
+    record { template_in_bounds = (template.deep, omega (arith, set.few), omega (arith, set.few), omega (arith, base_most a.search.template), omega arith) }
 
 pub check_passes-requires-clause-place_value : goal.check_passes-requires-clause-place_value
 check_passes-requires-clause-place_value c = rw c.make-weighing.ensures.plan.0 (rule_is _ _ _ (sym c.requires))

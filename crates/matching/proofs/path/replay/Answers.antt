@@ -17,7 +17,7 @@ loop-d-preserved c =
     let q = s.search.place in
     let l = c.loop-d in
     let p = c.push.ensures in
-    let e = c.prefix-number.ensures in
+    let e = c.prefix.ensures in
     let z : l.d + 1 - 1 ≡ l.d = omega arith in
     let path = replay_more s.search.template q.letters q.number s.layout.lengths.now s.letters.now _ l.d c.loop-d-test.true (rw e at (p.path_2 (omega arith))) in
     (path, (λ h. absurd (omega (arith, h, l.auto.d))), (λ h. ap Some (rw z (rw e at (p.value (omega arith))))))
@@ -46,4 +46,4 @@ returns-clause-path c =
 pub push-requires-clause-le_size : goal.push-requires-clause-le_size
 push-requires-clause-le_size c =
     let s = c.args.made.now.plan in
-    (c.loop-d.auto.d, omega (arith, c.loop-d-test.true, c.requires.le_letters.1, s.depth_value))
+    rw c.prefix.ensures (c.loop-d.auto.d, omega (arith, c.loop-d-test.true, c.requires.le_letters.1, s.depth_value))

@@ -18,7 +18,7 @@ loop-d-preserved c =
     let q = s.search.place in
     let l = c.loop-d in
     let t = c.take_turn.ensures in
-    let e = c.prefix-number.ensures in
+    let e = c.prefix-prefix.ensures in
     let z : l.d + 1 - 1 ≡ l.d = omega arith in
     let slot = slot_more s.search.template q.letters q.number s.layout.lengths.now s.letters.now _ l.d c.loop-d-test.true (rw e at t.slot_2) in
     (slot, (λ h. absurd (omega (arith, h, l.auto.d))), (λ h. ap Some (rw z (rw e at t.value))))
@@ -33,5 +33,4 @@ returns-clause-value c =
 
 pub take_turn-requires-clause-le_size : goal.take_turn-requires-clause-le_size
 take_turn-requires-clause-le_size c =
-    let s = c.args.plan.now in
-    (c.loop-d.auto.d, omega (arith, c.loop-d-test.true, c.requires.le_letters.1))
+    rw c.prefix-prefix.ensures (c.loop-d.auto.d, omega (arith, c.loop-d-test.true, c.requires.le_letters.1))

@@ -4,7 +4,6 @@ use Rattle.matching.proofs.tables.first_slot.Goals as goal
 
 pub returns : goal.returns
 returns c =
-    let a = c.args in
-    let p = c.requires in
+    let a = c.args.over.now in
     let o = c.begin.ensures in
-    record { slot = first_slot a.set.now.letters.now a.set.now.lengths.now p.sound_set _ o.marked o.by_index a.template p.sound_template }
+    record { slot = first_slot a.set.letters.now a.set.lengths.now a.sound_set _ o.marked o.by_index a.search.template a.sound_template }

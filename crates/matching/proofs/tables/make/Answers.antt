@@ -3,7 +3,7 @@ use native.Mathlib.Omega.{arith}
 use Rattle.rules.proofs.EachKind.{base_least}
 use Rattle.matching.proofs.tables.make.Goals as goal
 
-pub begin-plan-requires-clause-template_in_bounds : goal.begin-plan-requires-clause-template_in_bounds
-begin-plan-requires-clause-template_in_bounds c =
+pub begin-plan-requires : goal.begin-plan-requires
+begin-plan-requires c =
     let z = c.requires.template_in_bounds in
-    (z.0, z.1, z.2, omega (arith, z.3, base_least c.args.search.template))
+    record { template_in_bounds = (z.0, z.1, z.2, omega (arith, z.3, base_least c.args.over.now.search.template)) }
