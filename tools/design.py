@@ -45,13 +45,40 @@ def parameters(text):
     return count + bool(last.strip())
 
 
+# A clause that asks something, its facts, and what may stand before a value that has the same name wherever it comes from.
+ASKS = re.compile(r"^\s*requires (?:\w+ )?\{ (.*) \}$")
+OWNER = re.compile(r"\b(made|plan|self|layout|weighing|set|search|template)\.(now\.|old\.)?(?=\w)")
+
+
+def facts(clause):
+    """The facts that a clause joins by ×, without the parentheses around each."""
+    depth, last, all_of_it = 0, "", []
+    for part in re.split(r"( × )", clause):
+        if part == " × " and depth == 0:
+            all_of_it.append(last)
+            last = ""
+            continue
+        last += part
+        depth += part.count("(") - part.count(")")
+    for fact in [*all_of_it, last]:
+        fact = fact.strip()
+        yield OWNER.sub("", fact[1:-1].strip() if fact.startswith("(") and fact.endswith(")") else fact)
+
+
+asked = {}
 found = {}
 for path in sorted(glob.glob(folder + "/crates/*/src/*.rt")):
     text = open(path, encoding="utf-8").read()
     short = path[len(folder) + len("/crates/"):]
+    function = ""
     for n, line in enumerate(text.split("\n"), 1):
         if line.lstrip().startswith("//"):
             continue
+        head = re.match(r"^ *(?:pub(?:\(crate\))? )?(?:extern \"C\" )?fn (\w+)", line)
+        function = head[1] if head else function
+        clause = ASKS.match(line)
+        for fact in facts(clause[1]) if clause else []:
+            asked.setdefault((short.split("/")[0], fact), set()).add(function)
         for point, name, pattern in LINES:
             if re.search(pattern, line):
                 found.setdefault((point, name), []).append(f"{short}:{n}: {line.strip()}")
@@ -63,6 +90,9 @@ for path in sorted(glob.glob(folder + "/crates/*/src/*.rt")):
         if re.search(r"\bletters: &\[u8\]", head[2]) and re.search(r"\blengths: &\[u32\]", head[2]):
             n = text.count("\n", 0, head.start()) + 1
             found.setdefault(("5", "functions with letters and lengths apart"), []).append(f"{short}:{n}: {head[1]}")
+for (crate, fact), functions in sorted(asked.items()):
+    if len(functions) >= 3:
+        found.setdefault(("5", "facts that three functions of a crate ask or more"), []).append(f"{crate}: {fact}: {', '.join(sorted(functions))}")
 for key in sorted(found):
     print(f"{key[0]}  {key[1]}: {len(found[key])}")
     if listed:
