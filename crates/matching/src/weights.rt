@@ -28,49 +28,47 @@ fn begin(first: bool, row: &[u64], counts: &mut [u64])
     }
 }
 
-// In one sequence, whose words are those from `from` up to `to` and whose counts are those from `a` up to `e`: opens a gap after the counts
-// at which the row has a bit. `opened` is that row with the gap opened: where it has a bit the counts are right then, and elsewhere they
-// are anything.
-fn lead_between(
-    from: usize,
-    to: usize,
-    a: Offset,
-    e: Offset,
-    row: &[u64; WORDS],
-    opened: &[u64; WORDS],
+// How the ways to a component are led on to the next one: the row of where that one stands, the gap between them, and the row with the gap
+// opened; and whether it is the first, whose ways begin.
+#[derive(Clone, Copy)]
+struct Lead<'a> {
+    row: &'a [u64; WORDS],
+    opened: &'a [u64; WORDS],
     first: bool,
     gap: Gap,
-    counts: &mut [u64],
-)
+}
+
+// In one sequence, whose words are those from `from` up to `to` and whose counts are those from `a` up to `e`: opens a gap after the counts
+// at which the row has a bit. Where the opened row has a bit the counts are right then, and elsewhere they are anything.
+fn lead_between(from: usize, to: usize, a: Offset, e: Offset, lead: &Lead, counts: &mut [u64])
     requires from_le_to { (from ≤ to) × (to ≤ row_words) × (a.0 ≤ e.0) × (e.0 ≤ length counts.old) × (e.0 - a.0 ≤ 64 * (to - from)) }
-    requires by_index { (i : ℕ) → get_or (masked (held (between from to row.now)) (counted_from first (between a.0 e.0 counts.old))) i 0 ≤ count_most }
-    requires by_index_2 { (i : ℕ) → get_or (held (between from to opened.now)) i 0 ≡ 0 → get_or (added gap.apart.near (gap.apart.near + gap.apart.count - 1) (masked (held (between from to row.now)) (counted_from first (between a.0 e.0 counts.old)))) i 0 ≡ 0 }
+    requires by_index { (i : ℕ) → get_or (masked (held (between from to lead.now.row.now)) (counted_from lead.now.first (between a.0 e.0 counts.old))) i 0 ≤ count_most }
+    requires by_index_2 { (i : ℕ) → get_or (held (between from to lead.now.opened.now)) i 0 ≡ 0 → get_or (added lead.now.gap.apart.near (lead.now.gap.apart.near + lead.now.gap.apart.count - 1) (masked (held (between from to lead.now.row.now)) (counted_from lead.now.first (between a.0 e.0 counts.old)))) i 0 ≡ 0 }
     ensures counts_unchanged { (take a.0 counts.new ≡ take a.0 counts.old) × (drop e.0 counts.new ≡ drop e.0 counts.old) × (length counts.new ≡ length counts.old) }
-    ensures counts_after { masked (held (between from to opened.now)) (between a.0 e.0 counts.new) ≡ added gap.apart.near (gap.apart.near + gap.apart.count - 1) (masked (held (between from to row.now)) (counted_from first (between a.0 e.0 counts.old))) }
+    ensures counts_after { masked (held (between from to lead.now.opened.now)) (between a.0 e.0 counts.new) ≡ added lead.now.gap.apart.near (lead.now.gap.apart.near + lead.now.gap.apart.count - 1) (masked (held (between from to lead.now.row.now)) (counted_from lead.now.first (between a.0 e.0 counts.old))) }
 {
     let x = a.0;
     let y = e.0;
-    begin(first, &row[from..to], &mut counts[x..y]);
-    counts::lead(&row[from..to], &opened[from..to], gap, &mut counts[x..y]);
+    let row = lead.row;
+    let opened = lead.opened;
+    begin(lead.first, &row[from..to], &mut counts[x..y]);
+    counts::lead(
+        &row[from..to],
+        &opened[from..to],
+        lead.gap,
+        &mut counts[x..y],
+    );
 }
 
 // The same in the sequences of one word of marks, those that have one. Here and below, what is asked of a row stays in clauses: most of it
 // is on the counts as well, and a type for the rest, that no sequence past the last has a mark, would be no plainer.
-fn lead_sequences(
-    weighing: &Weighing,
-    w: usize,
-    row: &[u64; WORDS],
-    opened: &[u64; WORDS],
-    first: bool,
-    gap: Gap,
-    counts: &mut [u64],
-)
+fn lead_sequences(weighing: &Weighing, w: usize, lead: &Lead, counts: &mut [u64])
     requires w_bound { w < row_marks }
-    requires bounded { Bounded weighing.now.made.plan.layout.lengths.now row.now }
+    requires bounded { Bounded weighing.now.made.plan.layout.lengths.now lead.now.row.now }
     requires lengths_in_bounds { lists.sum weighing.now.made.plan.layout.lengths.now ≤ length counts.old }
-    requires by_index { (k : ℕ) → w * 64 ≤ k → k < length weighing.now.made.plan.layout.lengths.now → is_marked row.now k ≡ true → (i : ℕ) → get_or (begun_counts first weighing.now.made.plan.layout.lengths.now row.now counts.old k) i 0 ≤ count_most }
-    requires by_index_2 { (k : ℕ) → w * 64 ≤ k → k < length weighing.now.made.plan.layout.lengths.now → is_marked row.now k ≡ true → (i : ℕ) → get_or (bits_at weighing.now.made.plan.layout.lengths.now k opened.now) i 0 ≡ 0 → get_or (added gap.apart.near (gap.apart.near + gap.apart.count - 1) (begun_counts first weighing.now.made.plan.layout.lengths.now row.now counts.old k)) i 0 ≡ 0 }
-    ensures by_index_3 { (k : ℕ) → w * 64 ≤ k → k < w * 64 + 64 → is_marked row.now k ≡ true → kept_counts weighing.now.made.plan.layout.lengths.now opened.now counts.new k ≡ added gap.apart.near (gap.apart.near + gap.apart.count - 1) (begun_counts first weighing.now.made.plan.layout.lengths.now row.now counts.old k) }
+    requires by_index { (k : ℕ) → w * 64 ≤ k → k < length weighing.now.made.plan.layout.lengths.now → is_marked lead.now.row.now k ≡ true → (i : ℕ) → get_or (begun_counts lead.now.first weighing.now.made.plan.layout.lengths.now lead.now.row.now counts.old k) i 0 ≤ count_most }
+    requires by_index_2 { (k : ℕ) → w * 64 ≤ k → k < length weighing.now.made.plan.layout.lengths.now → is_marked lead.now.row.now k ≡ true → (i : ℕ) → get_or (bits_at weighing.now.made.plan.layout.lengths.now k lead.now.opened.now) i 0 ≡ 0 → get_or (added lead.now.gap.apart.near (lead.now.gap.apart.near + lead.now.gap.apart.count - 1) (begun_counts lead.now.first weighing.now.made.plan.layout.lengths.now lead.now.row.now counts.old k)) i 0 ≡ 0 }
+    ensures by_index_3 { (k : ℕ) → w * 64 ≤ k → k < w * 64 + 64 → is_marked lead.now.row.now k ≡ true → kept_counts weighing.now.made.plan.layout.lengths.now lead.now.opened.now counts.new k ≡ added lead.now.gap.apart.near (lead.now.gap.apart.near + lead.now.gap.apart.count - 1) (begun_counts lead.now.first weighing.now.made.plan.layout.lengths.now lead.now.row.now counts.old k) }
     ensures by_index_4 { (k : ℕ) → k < w * 64 → k < length weighing.now.made.plan.layout.lengths.now → counts_at weighing.now.made.plan.layout.lengths.now k counts.new ≡ counts_at weighing.now.made.plan.layout.lengths.now k counts.old }
     ensures by_index_5 { (k : ℕ) → w * 64 + 64 ≤ k → k < length weighing.now.made.plan.layout.lengths.now → counts_at weighing.now.made.plan.layout.lengths.now k counts.new ≡ counts_at weighing.now.made.plan.layout.lengths.now k counts.old }
     ensures counts_len_unchanged { length counts.new ≡ length counts.old }
@@ -78,45 +76,28 @@ fn lead_sequences(
     let layout = weighing.made.plan.layout;
     let offsets = weighing.offsets;
     let base = w * BITS;
-    for place in SetBits(row[w]) {
+    for place in SetBits(lead.row[w]) {
         let at = base + place as usize;
         let (from, to) = layout.words(at);
         let a = offsets[at] as usize;
         let e = offsets[at + 1] as usize;
-        lead_between(
-            from,
-            to,
-            Offset(a),
-            Offset(e),
-            row,
-            opened,
-            first,
-            gap,
-            counts,
-        );
+        lead_between(from, to, Offset(a), Offset(e), lead, counts);
     }
 }
 
 // The same in every sequence that has a mark. It stays a function of its own: as a part of a leg its loops lacked registers, and a leg over
 // long sequences took a quarter longer.
 #[inline(never)]
-fn lead_all(
-    weighing: &Weighing,
-    row: &[u64; WORDS],
-    opened: &[u64; WORDS],
-    first: bool,
-    gap: Gap,
-    counts: &mut [u64],
-)
-    requires bounded { Bounded weighing.now.made.plan.layout.lengths.now row.now }
+fn lead_all(weighing: &Weighing, lead: &Lead, counts: &mut [u64])
+    requires bounded { Bounded weighing.now.made.plan.layout.lengths.now lead.now.row.now }
     requires lengths_in_bounds { lists.sum weighing.now.made.plan.layout.lengths.now ≤ length counts.old }
-    requires by_index { (k : ℕ) → k < length weighing.now.made.plan.layout.lengths.now → is_marked row.now k ≡ true → (i : ℕ) → get_or (begun_counts first weighing.now.made.plan.layout.lengths.now row.now counts.old k) i 0 ≤ count_most }
-    requires by_index_2 { (k : ℕ) → k < length weighing.now.made.plan.layout.lengths.now → is_marked row.now k ≡ true → (i : ℕ) → get_or (bits_at weighing.now.made.plan.layout.lengths.now k opened.now) i 0 ≡ 0 → get_or (added gap.apart.near (gap.apart.near + gap.apart.count - 1) (begun_counts first weighing.now.made.plan.layout.lengths.now row.now counts.old k)) i 0 ≡ 0 }
-    ensures holds_counts { HoldsCounts (is_marked row.now) (λ k. added gap.apart.near (gap.apart.near + gap.apart.count - 1) (begun_counts first weighing.now.made.plan.layout.lengths.now row.now counts.old k)) weighing.now.made.plan.layout.lengths.now opened.now counts.new (length weighing.now.made.plan.layout.lengths.now) }
+    requires by_index { (k : ℕ) → k < length weighing.now.made.plan.layout.lengths.now → is_marked lead.now.row.now k ≡ true → (i : ℕ) → get_or (begun_counts lead.now.first weighing.now.made.plan.layout.lengths.now lead.now.row.now counts.old k) i 0 ≤ count_most }
+    requires by_index_2 { (k : ℕ) → k < length weighing.now.made.plan.layout.lengths.now → is_marked lead.now.row.now k ≡ true → (i : ℕ) → get_or (bits_at weighing.now.made.plan.layout.lengths.now k lead.now.opened.now) i 0 ≡ 0 → get_or (added lead.now.gap.apart.near (lead.now.gap.apart.near + lead.now.gap.apart.count - 1) (begun_counts lead.now.first weighing.now.made.plan.layout.lengths.now lead.now.row.now counts.old k)) i 0 ≡ 0 }
+    ensures holds_counts { HoldsCounts (is_marked lead.now.row.now) (λ k. added lead.now.gap.apart.near (lead.now.gap.apart.near + lead.now.gap.apart.count - 1) (begun_counts lead.now.first weighing.now.made.plan.layout.lengths.now lead.now.row.now counts.old k)) weighing.now.made.plan.layout.lengths.now lead.now.opened.now counts.new (length weighing.now.made.plan.layout.lengths.now) }
     ensures counts_len_unchanged { length counts.new ≡ length counts.old }
 {
     for w in 0..MARKS {
-        lead_sequences(weighing, w, row, opened, first, gap, counts);
+        lead_sequences(weighing, w, lead, counts);
     }
 }
 
@@ -205,7 +186,13 @@ fn count_ways(
         };
         path::support(&weighing.made, prefix, slots, 0, spare);
         let opened = path::slot(size as usize, slots);
-        lead_all(weighing, spare, opened, c == 1, gap, ways);
+        let lead = Lead {
+            row: spare,
+            opened,
+            first: c == 1,
+            gap,
+        };
+        lead_all(weighing, &lead, ways);
     }
 }
 

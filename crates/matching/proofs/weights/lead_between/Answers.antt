@@ -24,7 +24,7 @@ unfolding between
 lead-requires-clause-by_index c =
     let p = c.requires in
     let a = c.args in
-    let k = kept a.first (between a.from a.to a.row.now) a.a.0 a.e.0 a.counts.now c.begin.new.counts p.from_le_to.2 p.from_le_to.3 c.begin.auto.counts c.begin.ensures in
+    let k = kept a.lead.now.first (between a.from a.to a.lead.now.row.now) a.a.0 a.e.0 a.counts.now c.begin.new.counts p.from_le_to.2 p.from_le_to.3 c.begin.auto.counts c.begin.ensures in
     λ i. rw k (p.by_index i)
 
 pub lead-requires-clause-by_index_2 : goal.lead-requires-clause-by_index_2
@@ -32,7 +32,7 @@ unfolding between
 lead-requires-clause-by_index_2 c =
     let p = c.requires in
     let a = c.args in
-    let k = kept a.first (between a.from a.to a.row.now) a.a.0 a.e.0 a.counts.now c.begin.new.counts p.from_le_to.2 p.from_le_to.3 c.begin.auto.counts c.begin.ensures in
+    let k = kept a.lead.now.first (between a.from a.to a.lead.now.row.now) a.a.0 a.e.0 a.counts.now c.begin.new.counts p.from_le_to.2 p.from_le_to.3 c.begin.auto.counts c.begin.ensures in
     λ i z. rw k (p.by_index_2 i z)
 
 pub returns-clause-counts_unchanged : goal.returns-clause-counts_unchanged
@@ -52,6 +52,6 @@ returns-clause-counts_after c =
     let a = c.args in
     let m = c.begin in
     let r = c.lead in
-    let k = kept a.first (between a.from a.to a.row.now) a.a.0 a.e.0 a.counts.now m.new.counts p.from_le_to.2 p.from_le_to.3 m.auto.counts m.ensures in
+    let k = kept a.lead.now.first (between a.from a.to a.lead.now.row.now) a.a.0 a.e.0 a.counts.now m.new.counts p.from_le_to.2 p.from_le_to.3 m.auto.counts m.ensures in
     let q = part_led a.a.0 a.e.0 a.counts.now m.new.counts p.from_le_to.2 p.from_le_to.3 m.auto.counts r.new.counts r.auto.counts in
-    ap (masked (held (between a.from a.to a.opened.now))) q.1 ∙ r.ensures ∙ ap (added a.gap.apart.near (a.gap.apart.near + a.gap.apart.count - 1)) k
+    ap (masked (held (between a.from a.to a.lead.now.opened.now))) q.1 ∙ r.ensures ∙ ap (added a.lead.now.gap.apart.near (a.lead.now.gap.apart.near + a.lead.now.gap.apart.count - 1)) k

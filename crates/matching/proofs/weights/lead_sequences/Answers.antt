@@ -25,10 +25,10 @@ own : (first : Bool) (ns row x y : List ℕ) (at : ℕ) → at < length ns → {
 own first ns row x y at h begins ends starts stops q = begun_are_at ns at h begins ends first starts stops row y ∙ begun_same first ns row x y at q
 
 -- at a turn there is a next mark
-turn : (c : In-Some) → Next c.args.weighing.now.made.plan.layout.lengths.now c.args.weighing.now.made.plan.layout.firsts.now c.args.row.now c.args.w (c.args.w * 64 + c.loop-place.invariant.upto) (c.args.w * 64 + c.in-Some.place)
+turn : (c : In-Some) → Next c.args.weighing.now.made.plan.layout.lengths.now c.args.weighing.now.made.plan.layout.firsts.now c.args.lead.now.row.now c.args.w (c.args.w * 64 + c.loop-place.invariant.upto) (c.args.w * 64 + c.in-Some.place)
 turn c =
     let s = c.args.weighing.now.made.plan in
-    next_taken c.args.row.now c.args.w c.loop-place.invariant.rests c.in-Some.ensures.steps s.layout.lengths.now s.layout.firsts.now c.requires.bounded s.layout.laid c.requires.w_bound
+    next_taken c.args.lead.now.row.now c.args.w c.loop-place.invariant.rests c.in-Some.ensures.steps s.layout.lengths.now s.layout.firsts.now c.requires.bounded s.layout.laid c.requires.w_bound
 
 pub loop-place-init : goal.loop-place-init
 loop-place-init c =
@@ -69,7 +69,7 @@ lead_between-requires-clause-by_index c =
     let q = c.words-from.ensures.place in
     let begins = a.weighing.now.offsets_laid.same at (omega (arith, n.inside)) in
     let ends = a.weighing.now.offsets_laid.same (at + 1) (omega (arith, n.inside)) in
-    let k = own a.first s.layout.lengths.now a.row.now a.counts.now l.counts at n.inside begins ends q.0 q.1 (l.invariant.so_far.later at n.later n.inside) in
+    let k = own a.lead.now.first s.layout.lengths.now a.lead.now.row.now a.counts.now l.counts at n.inside begins ends q.0 q.1 (l.invariant.so_far.later at n.later n.inside) in
     λ i. rw k (c.requires.by_index at (omega arith) n.inside n.marked i)
 
 pub lead_between-requires-clause-by_index_2 : goal.lead_between-requires-clause-by_index_2
@@ -82,8 +82,8 @@ lead_between-requires-clause-by_index_2 c =
     let q = c.words-from.ensures.place in
     let begins = a.weighing.now.offsets_laid.same at (omega (arith, n.inside)) in
     let ends = a.weighing.now.offsets_laid.same (at + 1) (omega (arith, n.inside)) in
-    let k = own a.first s.layout.lengths.now a.row.now a.counts.now l.counts at n.inside begins ends q.0 q.1 (l.invariant.so_far.later at n.later n.inside) in
-    λ i z. rw k (c.requires.by_index_2 at (omega arith) n.inside n.marked i (sym (ap (λ (ks : List ℕ). get_or ks i 0) (bits_are_at s.layout.lengths.now at n.inside q.0 q.1 a.opened.now)) ∙ z))
+    let k = own a.lead.now.first s.layout.lengths.now a.lead.now.row.now a.counts.now l.counts at n.inside begins ends q.0 q.1 (l.invariant.so_far.later at n.later n.inside) in
+    λ i z. rw k (c.requires.by_index_2 at (omega arith) n.inside n.marked i (sym (ap (λ (ks : List ℕ). get_or ks i 0) (bits_are_at s.layout.lengths.now at n.inside q.0 q.1 a.lead.now.opened.now)) ∙ z))
 
 pub loop-place-preserved : goal.loop-place-preserved
 loop-place-preserved c =
@@ -95,7 +95,7 @@ loop-place-preserved c =
     let q = c.words-from.ensures.place in
     let begins = a.weighing.now.offsets_laid.same at (omega (arith, n.inside)) in
     let ends = a.weighing.now.offsets_laid.same (at + 1) (omega (arith, n.inside)) in
-    let k = own a.first s.layout.lengths.now a.row.now a.counts.now l.counts at n.inside begins ends q.0 q.1 (l.invariant.so_far.later at n.later n.inside) in
+    let k = own a.lead.now.first s.layout.lengths.now a.lead.now.row.now a.counts.now l.counts at n.inside begins ends q.0 q.1 (l.invariant.so_far.later at n.later n.inside) in
     let g = l.invariant in
     let e = c.lead_between.ensures in
     let forth : at + 1 ≡ a.w * 64 + (c.in-Some.place + 1) = omega arith in
@@ -105,7 +105,7 @@ pub returns-clause-by_index_3 : goal.returns-clause-by_index_3
 returns-clause-by_index_3 c =
     let a = c.args in
     let g = c.loop-place.invariant in
-    led_end _ _ _ _ _ _ _ _ g.so_far (a.w * 64 + 64) (no_rest a.row.now a.w g.rests c.in-None.ensures.steps)
+    led_end _ _ _ _ _ _ _ _ g.so_far (a.w * 64 + 64) (no_rest a.lead.now.row.now a.w g.rests c.in-None.ensures.steps)
 
 pub bounds-offsets-at : goal.bounds-offsets-at
 bounds-offsets-at c =
