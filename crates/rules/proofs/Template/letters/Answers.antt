@@ -22,12 +22,6 @@ more cs i h = rw (sum_more (map (λ c. c.length) cs) i (rw length-map h), get_or
 over : (cs : List Component) (i : ℕ) → length cs ≤ i → sum (drop i (map (λ c. c.length) cs)) ≡ 0
 over cs i h = sum_over (map (λ c. c.length) cs) i (rw length-map h)
 
-pub loop-c-init : goal.loop-c-init
-loop-c-init c = (omega arith, omega arith)
-
-pub overflow_add-k : goal.overflow_add-k
-overflow_add-k c = omega (arith, few c.args.self c.held.result c.components-slots.ensures, c.loop-c.invariant.0, c.loop-c-test.true)
-
 pub loop-c-preserved : goal.loop-c-preserved
 loop-c-preserved c =
     let l = c.loop-c in
