@@ -27,13 +27,21 @@ pub fn slot<'a>(size: usize, slots: &'a [[u64; WORDS]; SLOTS]) -> &'a [u64; WORD
 
 // The support of a candidate, and its row, from the slot of the prefix that is one letter shorter. Where the support is below `quorum`, a
 // number may be answered that is below it too, and the row may not be whole.
-fn extend(test: &Test, slot: &[u64; WORDS], quorum: u32, work: &mut [u64; WORDS]) -> u32
-    requires { Slot test.now.plan.now.search.template test.now.plan.now.layout.lengths.now test.now.plan.now.letters.now slot.now (test.now.place.letters - 1) (test.now.place.number / base_of test.now.plan.now.search.template) }
-    ensures lower_bound { support (parts test.now.plan.now.search.template test.now.place.letters test.now.place.number) (sequences test.now.plan.now.letters.now test.now.plan.now.layout.lengths.now) ≤ result }
-    ensures value { quorum ≤ result → result ≡ support (parts test.now.plan.now.search.template test.now.place.letters test.now.place.number) (sequences test.now.plan.now.letters.now test.now.plan.now.layout.lengths.now) }
-    ensures row { quorum ≤ result → Row (prefix_starts test.now.plan.now.search.template test.now.place.letters test.now.place.number) test.now.plan.now.layout.lengths.now test.now.plan.now.letters.now work.new }
+fn extend(
+    plan: &Plan,
+    place: Place,
+    test: Test,
+    slot: &[u64; WORDS],
+    quorum: u32,
+    work: &mut [u64; WORDS],
+) -> u32
+    requires le_size { (1 ≤ place.letters) × (place.letters ≤ templates.size plan.now.search.template) }
+    requires tests_last { TestsLast plan.now.search.template plan.now.layout.lengths.now plan.now.letters.now place.letters place.number test.row.now test.by.places }
+    requires slot { Slot plan.now.search.template plan.now.layout.lengths.now plan.now.letters.now slot.now (place.letters - 1) (place.number / base_of plan.now.search.template) }
+    ensures lower_bound { support (parts plan.now.search.template place.letters place.number) (sequences plan.now.letters.now plan.now.layout.lengths.now) ≤ result }
+    ensures value { quorum ≤ result → result ≡ support (parts plan.now.search.template place.letters place.number) (sequences plan.now.letters.now plan.now.layout.lengths.now) }
+    ensures row { quorum ≤ result → Row (prefix_starts plan.now.search.template place.letters place.number) plan.now.layout.lengths.now plan.now.letters.now work.new }
 {
-    let plan = test.plan;
     set::keep_all(&plan.layout, slot, test.row, test.by, quorum, work)
 }
 
@@ -52,8 +60,14 @@ pub fn support(
     ensures row { quorum ≤ result → Row (prefix_starts made.now.plan.search.template place.letters place.number) made.now.plan.layout.lengths.now made.now.plan.letters.now work.new }
 {
     let before = slot(place.letters as usize - 1, slots);
-    let test = test_for(made, place);
-    extend(&test, before, quorum, work)
+    extend(
+        &made.plan,
+        place,
+        test_for(made, place),
+        before,
+        quorum,
+        work,
+    )
 }
 
 // Opens the gap before a component in a slot that has the row of a prefix which ends the one before it.
@@ -90,23 +104,26 @@ fn end_slot(plan: &Plan, size: u8, spare: &mut [u64; WORDS], slot: &mut [u64; WO
 // stands inside a component, and else to that row with the gap opened. Where the support is below `quorum`, a number may be answered that
 // is below it too, and the slot may not be whole.
 fn fill_slot(
-    test: &Test,
+    plan: &Plan,
+    place: Place,
+    test: Test,
     before: &[u64; WORDS],
     quorum: u32,
     spare: &mut [u64; WORDS],
     slot: &mut [u64; WORDS],
 ) -> u32
-    requires le_size { test.now.place.letters < templates.size test.now.plan.now.search.template }
-    requires slot { Slot test.now.plan.now.search.template test.now.plan.now.layout.lengths.now test.now.plan.now.letters.now before.now (test.now.place.letters - 1) (test.now.place.number / base_of test.now.plan.now.search.template) }
-    ensures lower_bound { support (parts test.now.plan.now.search.template test.now.place.letters test.now.place.number) (sequences test.now.plan.now.letters.now test.now.plan.now.layout.lengths.now) ≤ result }
-    ensures value { quorum ≤ result → result ≡ support (parts test.now.plan.now.search.template test.now.place.letters test.now.place.number) (sequences test.now.plan.now.letters.now test.now.plan.now.layout.lengths.now) }
-    ensures slot_2 { quorum ≤ result → Slot test.now.plan.now.search.template test.now.plan.now.layout.lengths.now test.now.plan.now.letters.now slot.new test.now.place.letters test.now.place.number }
+    requires le_size { (1 ≤ place.letters) × (place.letters < templates.size plan.now.search.template) }
+    requires tests_last { TestsLast plan.now.search.template plan.now.layout.lengths.now plan.now.letters.now place.letters place.number test.row.now test.by.places }
+    requires slot { Slot plan.now.search.template plan.now.layout.lengths.now plan.now.letters.now before.now (place.letters - 1) (place.number / base_of plan.now.search.template) }
+    ensures lower_bound { support (parts plan.now.search.template place.letters place.number) (sequences plan.now.letters.now plan.now.layout.lengths.now) ≤ result }
+    ensures value { quorum ≤ result → result ≡ support (parts plan.now.search.template place.letters place.number) (sequences plan.now.letters.now plan.now.layout.lengths.now) }
+    ensures slot_2 { quorum ≤ result → Slot plan.now.search.template plan.now.layout.lengths.now plan.now.letters.now slot.new place.letters place.number }
 {
-    let found = extend(test, before, quorum, slot);
+    let found = extend(plan, place, test, before, quorum, slot);
     if found < quorum {
         return found;
     }
-    end_slot(test.plan, test.place.letters, spare, slot);
+    end_slot(plan, place.letters, spare, slot);
     found
 }
 
@@ -128,7 +145,15 @@ fn push(
     let test = test_for(made, place);
     let size = place.letters as usize;
     let (below, rest) = slots.split_at_mut(size);
-    fill_slot(&test, &below[size - 1], quorum, spare, &mut rest[0])
+    fill_slot(
+        &made.plan,
+        place,
+        test,
+        &below[size - 1],
+        quorum,
+        spare,
+        &mut rest[0],
+    )
 }
 
 // Examines a candidate whose path stands in the slots, and answers its support. Where that reaches `quorum`, there is then the path to each
@@ -213,13 +238,7 @@ fn take_turn(
     };
     let profile = plan.search.template.profile;
     letter_row(profile.last(place.number), bases, letter);
-    let test = Test {
-        plan: &*plan,
-        place,
-        row: letter,
-        by,
-    };
-    let found = extend(&test, before, 0, slot);
+    let found = extend(plan, place, Test { row: letter, by }, before, 0, slot);
     end_slot(plan, place.letters, letter, slot);
     found
 }

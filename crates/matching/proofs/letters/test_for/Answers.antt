@@ -24,33 +24,30 @@ offset_bounds-standing-i c =
     let kept = kept_there p.search.template m.standing.now _ c.base-base.ensures c.if-kept.true in
     omega (arith, near_inside p.search.template p.sound_template p.inside.now p.placed c.args.place.letters c.args.place.number m.standing.now kept c.last-x.ensures c.base-base.ensures, c.well_formed)
 
+pub returns-then-kept : goal.returns-then-kept
+returns-then-kept c =
+    let m = c.args.made.now in
+    let p = m.plan in
+    let kept = kept_there p.search.template m.standing.now _ c.base-base.ensures c.if-kept.true in
+    record { tests_last = near_last p.search.template p.sound_template p.inside.now p.placed c.args.place.letters c.args.place.number m.standing.now kept c.last-x.ensures c.base-base.ensures p.layout.lengths.now p.letters.now m.rows }
+
+-- or not
+pub returns-else-kept : goal.returns-else-kept
+returns-else-kept c =
+    let m = c.args.made.now in
+    let p = m.plan in
+    record { tests_last = far_last p.search.template p.sound_template p.inside.now p.placed c.args.place.letters c.args.place.number m.standing.now c.last-x.ensures p.layout.lengths.now p.letters.now m.rows }
+
 pub overflow_mul-kept : goal.overflow_mul-kept
 overflow_mul-kept c =
     let p = c.args.made.now.plan in
-    let n = c.requires in
+    let n = c.requires.le_letters in
     let i = letter_small p.search.template p.sound_template p.inside.now p.placed (c.args.place.letters - 1) (omega (arith, n, p.depth_value)) in
     let most : c.base-base.result ≤ 16 = omega (arith, base_most p.search.template, c.base-base.ensures) in
     omega (arith, mul-le-mul {n₁ = (get_or p.inside.now (c.args.place.letters - 1) (spot 0 0)).letter + 1} {n₂ = 16} (omega (arith, i)) most)
 
-pub invariant_of-result-2 : goal.invariant_of-result-2
-invariant_of-result-2 c =
+pub invariant_of-result-else-kept : goal.invariant_of-result-else-kept
+invariant_of-result-else-kept c =
     let p = c.args.made.now.plan in
-    record { in_word = omega (arith, letter_small p.search.template p.sound_template p.inside.now p.placed (c.args.place.letters - 1) (omega (arith, c.requires, p.depth_value))) }
-
-pub invariant_of-result-then-kept : goal.invariant_of-result-then-kept
-invariant_of-result-then-kept c =
-    let m = c.args.made.now in
-    let p = m.plan in
-    let kept = kept_there p.search.template m.standing.now _ c.base-base.ensures c.if-kept.true in record {
-      le_letters = c.requires;
-      tests_last = near_last p.search.template p.sound_template p.inside.now p.placed c.args.place.letters c.args.place.number m.standing.now kept c.last-x.ensures c.base-base.ensures p.layout.lengths.now p.letters.now m.rows;
-    }
-
--- or not
-pub invariant_of-result-3 : goal.invariant_of-result-3
-invariant_of-result-3 c =
-    let m = c.args.made.now in
-    let p = m.plan in record {
-      le_letters = c.requires;
-      tests_last = far_last p.search.template p.sound_template p.inside.now p.placed c.args.place.letters c.args.place.number m.standing.now c.last-x.ensures p.layout.lengths.now p.letters.now m.rows;
-    }
+    let n = c.requires.le_letters in
+    record { in_word = omega (arith, letter_small p.search.template p.sound_template p.inside.now p.placed (c.args.place.letters - 1) (omega (arith, n, p.depth_value))) }

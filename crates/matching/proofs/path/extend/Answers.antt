@@ -7,31 +7,31 @@ use Rattle.matching.proofs.path.extend.Goals as goal
 
 pub keep_all-requires : goal.keep_all-requires
 keep_all-requires c =
-    let t = c.args.test.now in
-    let s = t.plan.now in
-    let q = t.place in
-    record { bounded = below_bounded s.search.template s.sound_template s.letters.now s.layout.lengths.now s.sound_set q.letters q.number t.le_letters.0 (omega (arith, t.le_letters.1, s.depth_value)) c.args.slot.now c.requires }
+    let s = c.args.plan.now in
+    let q = c.args.place in
+    let deep = c.requires.le_size in
+    record { bounded = below_bounded s.search.template s.sound_template s.letters.now s.layout.lengths.now s.sound_set q.letters q.number deep.0 deep.1 c.args.slot.now c.requires.slot }
 
 pub returns-clause-lower_bound : goal.returns-clause-lower_bound
 returns-clause-lower_bound c =
-    let t = c.args.test.now in
-    let s = t.plan.now in
-    let q = t.place in
-    let all = kept_support s.search.template s.sound_template s.letters.now s.layout.lengths.now s.sound_set q.letters q.number t.le_letters.0 (omega (arith, t.le_letters.1, s.depth_value)) c.args.slot.now c.requires (search rules) t.row.now t.by.places t.tests_last in
+    let s = c.args.plan.now in
+    let q = c.args.place in
+    let p = c.requires in
+    let all = kept_support s.search.template s.sound_template s.letters.now s.layout.lengths.now s.sound_set q.letters q.number p.le_size.0 p.le_size.1 c.args.slot.now p.slot (search rules) c.args.test.row.now c.args.test.by.places p.tests_last in
     omega (arith, all, c.keep_all.ensures.lower_bound)
 
 pub returns-clause-value : goal.returns-clause-value
 returns-clause-value c =
-    let t = c.args.test.now in
-    let s = t.plan.now in
-    let q = t.place in
-    let all = kept_support s.search.template s.sound_template s.letters.now s.layout.lengths.now s.sound_set q.letters q.number t.le_letters.0 (omega (arith, t.le_letters.1, s.depth_value)) c.args.slot.now c.requires (search rules) t.row.now t.by.places t.tests_last in
+    let s = c.args.plan.now in
+    let q = c.args.place in
+    let p = c.requires in
+    let all = kept_support s.search.template s.sound_template s.letters.now s.layout.lengths.now s.sound_set q.letters q.number p.le_size.0 p.le_size.1 c.args.slot.now p.slot (search rules) c.args.test.row.now c.args.test.by.places p.tests_last in
     λ h. c.keep_all.ensures.value h ∙ all
 
 pub returns-clause-row : goal.returns-clause-row
 returns-clause-row c =
-    let t = c.args.test.now in
-    let s = t.plan.now in
-    let q = t.place in
+    let s = c.args.plan.now in
+    let q = c.args.place in
+    let p = c.requires in
     let k = c.keep_all.ensures in
-    λ h. kept_row s.search.template s.sound_template s.letters.now s.layout.lengths.now s.sound_set q.letters q.number t.le_letters.0 (omega (arith, t.le_letters.1, s.depth_value)) c.args.slot.now c.requires (search rules) t.row.now t.by.places t.tests_last _ (k.filled h) (k.marked h)
+    λ h. kept_row s.search.template s.sound_template s.letters.now s.layout.lengths.now s.sound_set q.letters q.number p.le_size.0 p.le_size.1 c.args.slot.now p.slot (search rules) c.args.test.row.now c.args.test.by.places p.tests_last _ (k.filled h) (k.marked h)

@@ -6,7 +6,7 @@ use Rattle.matching.proofs.path.fill_slot.Goals as goal
 
 pub end_slot-requires-clause-bounded : goal.end_slot-requires-clause-bounded
 end_slot-requires-clause-bounded c =
-    let s = c.args.test.now.plan.now in
+    let s = c.args.plan.now in
     let set = s.sound_set in
     let row = c.extend-found.ensures.row (omega (arith, c.if-found-quorum.false)) in
-    row_bounded s.layout.lengths.now s.letters.now set.adds set.few _ (prefix_long s.search.template c.args.test.now.place.letters c.args.test.now.place.number) _ row
+    row_bounded s.layout.lengths.now s.letters.now set.adds set.few _ (prefix_long s.search.template c.args.place.letters c.args.place.number) _ row

@@ -9,8 +9,7 @@ pub fill_slot-requires-clause-slot : goal.fill_slot-requires-clause-slot
 fill_slot-requires-clause-slot c =
     let s = c.args.made.now.plan in
     let q = c.args.place in
-    let e = c.test_for-test.ensures in
-    rw (e.0, e.1) (before_cut s.search.template s.layout.lengths.now s.letters.now c.args.slots.now q.letters q.number c.requires.path _ c.split_at_mut-below.ensures.front c.requires.le_size.0)
+    before_cut s.search.template s.layout.lengths.now s.letters.now c.args.slots.now q.letters q.number c.requires.path _ c.split_at_mut-below.ensures.front c.requires.le_size.0
 
 pub returns-clause-path_2 : goal.returns-clause-path_2
 returns-clause-path_2 c =
@@ -18,8 +17,7 @@ returns-clause-path_2 c =
     let q = c.args.place in
     let b = c.split_at_mut-below.ensures in
     let room : 0 < length c.split_at_mut-below.result.1.now = omega (arith, b.back_len, c.requires.le_size, s.depth_value, s.sound_template.deep) in
-    let e = c.test_for-test.ensures in
-    λ h. path_goes_on s.search.template s.layout.lengths.now s.letters.now c.args.slots.now q.letters q.number c.requires.path _ b.front _ _ b.front_len room (rw (e.0, e.1) at (c.fill_slot.ensures.slot_2 h))
+    λ h. path_goes_on s.search.template s.layout.lengths.now s.letters.now c.args.slots.now q.letters q.number c.requires.path _ b.front _ _ b.front_len room (c.fill_slot.ensures.slot_2 h)
 
 pub returns-clause-path_3 : goal.returns-clause-path_3
 returns-clause-path_3 c =

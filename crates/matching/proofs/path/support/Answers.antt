@@ -2,8 +2,8 @@
 use Rattle.matching.proofs.Slots.{parent}
 use Rattle.matching.proofs.path.support.Goals as goal
 
-pub extend-requires : goal.extend-requires
-extend-requires c =
+pub extend-requires-clause-slot : goal.extend-requires-clause-slot
+extend-requires-clause-slot c =
     let s = c.args.made.now.plan in
     let q = c.args.place in
-    rw (c.test_for-test.ensures.0, c.test_for-test.ensures.1, c.slot-before.ensures.slot) (parent s.search.template s.layout.lengths.now s.letters.now c.args.slots.now q.letters q.number c.requires.path c.requires.le_size.0)
+    rw c.slot-before.ensures.slot (parent s.search.template s.layout.lengths.now s.letters.now c.args.slots.now q.letters q.number c.requires.path c.requires.le_size.0)

@@ -8,12 +8,10 @@ use Rattle.matching.proofs.Steps.{prefix_long}
 use Rattle.matching.proofs.LetterTests.{made_last}
 use Rattle.matching.proofs.path.take_turn.Goals as goal
 
-pub invariant_of-test : goal.invariant_of-test
-invariant_of-test c =
-    let s = c.args.plan.now in record {
-      le_letters = (c.requires.le_size.0, omega (arith, c.requires.le_size.1, s.depth_value));
-      tests_last = made_last s.search.template s.sound_template s.inside.now s.placed c.args.place.letters c.args.place.number s.layout.lengths.now s.letters.now c.args.bases.now _ s.sound_set c.requires.base_rows (from_letter c.args.bases.now c.last.ensures c.letter_row.ensures.from_bases);
-    }
+pub extend-found-requires-clause-tests_last : goal.extend-found-requires-clause-tests_last
+extend-found-requires-clause-tests_last c =
+    let s = c.args.plan.now in
+    made_last s.search.template s.sound_template s.inside.now s.placed c.args.place.letters c.args.place.number s.layout.lengths.now s.letters.now c.args.bases.now _ s.sound_set c.requires.base_rows (from_letter c.args.bases.now c.last.ensures c.letter_row.ensures.from_bases)
 
 pub end_slot-requires-clause-bounded : goal.end_slot-requires-clause-bounded
 end_slot-requires-clause-bounded c =
