@@ -25,6 +25,14 @@ pub fn slot<'a>(size: usize, slots: &'a [[u64; WORDS]; SLOTS]) -> &'a [u64; WORD
     &slots[size]
 }
 
+// Makes the slot of the prefix with no letters, which the first letter is added to: it has every mark and every bit.
+pub fn first_slot(plan: &Plan, slot: &mut [u64; WORDS])
+    ensures slot { Slot plan.now.search.template plan.now.layout.lengths.now plan.now.letters.now slot.new 0 0 }
+{
+    let n = plan.layout.lengths.len();
+    set::begin(n, slot);
+}
+
 // The support of a candidate, and its row, from the slot of the prefix that is one letter shorter. Where the support is below `quorum`, a
 // number may be answered that is below it too, and the row may not be whole.
 fn extend(
@@ -202,13 +210,13 @@ pub fn replay(
     spare: &mut [u64; WORDS],
 ) -> Option<u32>
     requires le_letters { (1 ≤ made.now.plan.search.place.letters) × (made.now.plan.search.place.letters ≤ templates.size made.now.plan.search.template) × (made.now.plan.search.place.number < base_of made.now.plan.search.template ^ made.now.plan.search.place.letters) }
-    requires slot { Slot made.now.plan.search.template made.now.plan.layout.lengths.now made.now.plan.letters.now (row_slot 0 slots.old) 0 0 }
     ensures none { made.now.plan.search.place.letters ≡ 1 → result ≡ None }
     ensures value { 2 ≤ made.now.plan.search.place.letters → result ≡ Some (support (parts made.now.plan.search.template (made.now.plan.search.place.letters - 1) (made.now.plan.search.place.number / base_of made.now.plan.search.template)) (sequences made.now.plan.letters.now made.now.plan.layout.lengths.now)) }
     ensures path { Path made.now.plan.search.template made.now.plan.layout.lengths.now made.now.plan.letters.now slots.new made.now.plan.search.place.letters made.now.plan.search.place.number }
 {
     let place = made.plan.search.place;
     let profile = made.plan.search.template.profile;
+    first_slot(&made.plan, &mut slots[0]);
     let mut found: Option<u32> = None;
     for d in 1..place.letters {
         found = Some(push(made, prefix(profile, place, d), 0, slots, spare));

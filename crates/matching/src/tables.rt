@@ -9,6 +9,7 @@ ghost use Rattle.rows.specs.Set.{Offsets};
 
 use super::letters::{letter_rows, letter_slots};
 use super::made::{Made, Plan, SearchOver, Spot, Weighing};
+use super::path::first_slot;
 use super::{SLOTS, WORDS};
 
 // The places of the `n` letters of component `k`, the first of which is letter `from` of a motif.
@@ -43,14 +44,6 @@ fn place_letters(over: &SearchOver, inside: &mut [Spot])
     }
 }
 
-// The slot of the prefix with no letters, which the first letter is added to: it has every mark and every bit.
-fn first_slot(over: &SearchOver, slot: &mut [u64; WORDS])
-    ensures slot { Slot over.now.search.template over.now.set.lengths.now over.now.set.letters.now slot.new 0 0 }
-{
-    let n = over.set.lengths.len();
-    rows::set::begin(n, slot);
-}
-
 // All but the rows of the letters that only a motif has.
 pub fn begin<'a, 's: 'a>(
     over: &SearchOver<'s>,
@@ -65,13 +58,13 @@ pub fn begin<'a, 's: 'a>(
     ensures offsets { Offsets over.now.set.lengths.now offsets.new }
     ensures base_rows { BaseRows over.now.set.lengths.now over.now.set.letters.now standing.new }
     ensures slot { Slot over.now.search.template over.now.set.lengths.now over.now.set.letters.now slot.new 0 0 }
+    ensures inside_len_unchanged { (length result.inside.now ≡ length inside.old) × (length result.layout.firsts.now ≡ length firsts.old) }
     ensures standing_len_unchanged { (length offsets.new ≡ length offsets.old) × (length standing.new ≡ length standing.old) }
 {
     let search = over.search;
     let set = over.set;
     place_letters(over, inside);
     let layout = rows::set::lay_out(set.lengths, firsts, offsets);
-    first_slot(over, slot);
     let plan = Plan {
         search,
         depth: search.template.letters() as u8,
@@ -79,6 +72,7 @@ pub fn begin<'a, 's: 'a>(
         layout,
         inside,
     };
+    first_slot(&plan, slot);
     letter_slots(&plan, offsets, standing);
     plan
 }
@@ -97,6 +91,8 @@ pub fn make<'a, 's: 'a>(
     requires template_in_bounds { (templates.size over.now.search.template ≤ length inside.old) × (length over.now.set.lengths.now < length firsts.old) × (length over.now.set.lengths.now < length offsets.old) × (base_of over.now.search.template ≤ length standing.old) × (length standing.old ≤ letter_shifts * letter_bases) }
     ensures plan { (result.made.plan.search ≡ over.now.search) × (result.made.plan.letters.now ≡ over.now.set.letters.now) × (result.made.plan.layout.lengths.now ≡ over.now.set.lengths.now) }
     ensures slot { Slot over.now.search.template over.now.set.lengths.now over.now.set.letters.now (row_slot 0 slots.new) 0 0 }
+    ensures inside_len_unchanged { (length result.made.plan.inside.now ≡ length inside.old) × (length result.made.plan.layout.firsts.now ≡ length firsts.old) }
+    ensures standing_len_unchanged { (length result.offsets.now ≡ length offsets.old) × (length result.made.standing.now ≡ length standing.old) }
 {
     let plan = begin(over, inside, firsts, offsets, standing, &mut slots[0]);
     letter_rows(&plan, work, standing);

@@ -7,7 +7,7 @@ ghost use Rattle.rules.specs.Refusals.{first, check13, is_passing, search_checks
 ghost use Rattle.rules.specs.Saved.{meets_place_rule};
 ghost use Rattle.rules.specs.Sound.{SoundSet, SoundTemplate};
 ghost use Rattle.rules.specs.Told.{told_checked};
-ghost use Rattle.matching.specs.Path.{row_slot, Slot, Path};
+ghost use Rattle.matching.specs.Path.{Path};
 ghost use Rattle.places.specs.SearchOrder.{before_13};
 
 use matching::made::{Made, SearchOver, Spot};
@@ -26,8 +26,7 @@ fn frequent(quorum: u64, found: Option<u32>) -> bool
 }
 
 // 13, of a leg: a place that the search does not pass through. It passes through the ended place and through each candidate: each place
-// whose prefix a letter shorter is frequent. Where there is a candidate, the slots have its path then, on which the leg goes; the first of
-// them is made before. That the place keeps its rule is a clause here and twice below, and no type: one of a search with that fact would
+// whose prefix a letter shorter is frequent. Where there is a candidate, the slots have its path then, on which the leg goes. That the place keeps its rule is a clause here and twice below, and no type: one of a search with that fact would
 // serve the two below alone, as here the search is the plan's.
 pub fn check_passes(
     made: &Made,
@@ -35,7 +34,6 @@ pub fn check_passes(
     spare: &mut [u64; WORDS],
 ) -> Result<(), Refusal>
     requires place_value { meets_place_rule made.now.plan.search.template made.now.plan.search.place ≡ true }
-    requires slot { Slot made.now.plan.search.template made.now.plan.layout.lengths.now made.now.plan.letters.now (row_slot 0 slots.old) 0 0 }
     ensures result_value { told_checked result ≡ check13 made.now.plan.letters.now made.now.plan.layout.lengths.now made.now.plan.search }
     ensures path { 1 ≤ made.now.plan.search.place.letters → Path made.now.plan.search.template made.now.plan.layout.lengths.now made.now.plan.letters.now slots.new made.now.plan.search.place.letters made.now.plan.search.place.number }
 {

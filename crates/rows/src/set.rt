@@ -25,6 +25,7 @@ pub fn lay_out<'a>(lengths: &'a [u32], firsts: &'a mut [u32], offsets: &mut [u32
     requires lengths_len_bound { (length lengths.now ≤ sequence_set_sequences) × (lists.sum lengths.now ≤ sequence_set_letters) }
     requires lengths_in_bounds { (length lengths.now < length firsts.old) × (length lengths.now < length offsets.old) }
     ensures layout { result.lengths.now ≡ lengths.now }
+    ensures firsts_len_unchanged { length result.firsts.now ≡ length firsts.old }
     ensures offsets { Offsets lengths.now offsets.new }
     ensures offsets_len_unchanged { length offsets.new ≡ length offsets.old }
 {

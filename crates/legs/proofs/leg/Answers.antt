@@ -34,8 +34,8 @@ make-weighing-requires c =
     let template = template_is _ _ _ e in
     record { template_in_bounds = (template.deep, omega (arith, set.few), omega (arith, set.few), omega (arith, base_most a.search.template), omega arith) }
 
-pub check_passes-requires-clause-place_value : goal.check_passes-requires-clause-place_value
-check_passes-requires-clause-place_value c = rw c.make-weighing.ensures.plan.0 (rule_is _ _ _ (sym c.requires))
+pub check_passes-requires : goal.check_passes-requires
+check_passes-requires c = record { place_value = rw c.make-weighing.ensures.plan.0 (rule_is _ _ _ (sym c.requires)) }
 
 pub run-requires-clause-s_value : goal.run-requires-clause-s_value
 run-requires-clause-s_value c =

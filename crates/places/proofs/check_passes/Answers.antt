@@ -9,11 +9,11 @@ use Rattle.rules.proofs.Spells.{place_rule_says}
 use Rattle.places.proofs.check_passes.Goals as goal
 use Rattle.places.proofs.check_passes.Goals.{in-0, in_default}
 
-pub replay-requires-clause-le_letters : goal.replay-requires-clause-le_letters
-replay-requires-clause-le_letters c =
+pub replay-requires : goal.replay-requires
+replay-requires c =
     let s = c.args.made.now.plan.search in
     let rule = (place_rule_says s.template s.place).0 c.requires.place_value in
-    (omega (arith, c.in_default), rule.most, rule.spells.below)
+    record { le_letters = (omega (arith, c.in_default), rule.most, rule.spells.below) }
 
 pub returns-clause-result_value : goal.returns-clause-result_value
 returns-clause-result_value c =

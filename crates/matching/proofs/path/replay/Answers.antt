@@ -1,6 +1,9 @@
 use mathlib.Core.Path.{◌≡◌, refl, ap}
 use Prim.Native.Nat.{◌+◌, ◌-◌}
 use native.Mathlib.Omega.{arith}
+use borrow.Author.Rules.{rules}
+use mathlib.Core.List.{[]}
+use Rattle.std.proofs.lemmas.List.{get_or-set_same}
 use Rattle.std.specs.Prelude.{Some}
 use Rattle.matching.proofs.Replay.{replay_begin, replay_more, replay_end, last_prefix}
 use Rattle.matching.proofs.path.replay.Goals as goal
@@ -9,7 +12,8 @@ pub loop-d-init : goal.loop-d-init
 loop-d-init c =
     let s = c.args.made.now.plan in
     let q = s.search.place in
-    (replay_begin s.search.template q.letters q.number s.layout.lengths.now s.letters.now c.args.slots.now c.requires.le_letters.0 c.requires.le_letters.2 c.requires.slot, (λ _. refl), (λ h. absurd (omega arith)))
+    let first = get_or-set_same c.args.slots.now 0 c.first_slot.new.slot [] (search rules) in
+    (replay_begin s.search.template q.letters q.number s.layout.lengths.now s.letters.now _ c.requires.le_letters.0 c.requires.le_letters.2 (rw first c.first_slot.ensures.slot), (λ _. refl), (λ h. absurd (omega arith)))
 
 pub loop-d-preserved : goal.loop-d-preserved
 loop-d-preserved c =
