@@ -1,10 +1,6 @@
 -- The slot stands in the table, and its row is the letter's for its place, or shifted so far is.
-use Prim.Native.Nat.{◌+◌, ◌-◌, ◌≤◌}
-use native.Mathlib.Nat.{mul-le-mul}
+use Prim.Native.Nat.{◌-◌}
 use native.Mathlib.Omega.{arith}
-use lib.ListN.{get_or}
-use Rattle.rules.proofs.EachKind.{base_most}
-use Rattle.matching.specs.Path.{spot}
 use Rattle.matching.proofs.Extend.{letter_small}
 use Rattle.matching.proofs.LetterTests.{kept_there, near_inside, near_last, far_last}
 use Rattle.matching.proofs.letters.test_for.Goals as goal
@@ -37,14 +33,6 @@ returns-else-kept c =
     let m = c.args.made.now in
     let p = m.plan in
     record { tests_last = far_last p.search.template p.sound_template p.inside.now p.placed c.args.place.letters c.args.place.number m.standing.now c.last-x.ensures p.layout.lengths.now p.letters.now m.rows }
-
-pub overflow_mul-kept : goal.overflow_mul-kept
-overflow_mul-kept c =
-    let p = c.args.made.now.plan in
-    let n = c.requires.le_letters in
-    let i = letter_small p.search.template p.sound_template p.inside.now p.placed (c.args.place.letters - 1) (omega (arith, n, p.depth_value)) in
-    let most : c.base-base.result ≤ 16 = omega (arith, base_most p.search.template, c.base-base.ensures) in
-    omega (arith, mul-le-mul {n₁ = (get_or p.inside.now (c.args.place.letters - 1) (spot 0 0)).letter + 1} {n₂ = 16} (omega (arith, i)) most)
 
 pub invariant_of-result-else-kept : goal.invariant_of-result-else-kept
 invariant_of-result-else-kept c =

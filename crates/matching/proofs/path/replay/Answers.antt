@@ -26,11 +26,6 @@ loop-d-preserved c =
     let path = replay_more s.search.template q.letters q.number s.layout.lengths.now s.letters.now _ l.d c.loop-d-test.true (rw e at (p.path_2 (omega arith))) in
     (path, (λ h. absurd (omega (arith, h, l.auto.d))), (λ h. ap Some (rw z (rw e at (p.value (omega arith))))))
 
-pub returns-clause-none : goal.returns-clause-none
-returns-clause-none c =
-    let l = c.loop-d in
-    λ h. l.invariant.1 (omega (arith, h, l.auto.d-end, l.auto.d, c.loop-d-test.false))
-
 pub returns-clause-value : goal.returns-clause-value
 returns-clause-value c =
     let s = c.args.made.now.plan in
@@ -46,8 +41,3 @@ returns-clause-path c =
     let l = c.loop-d in
     let e : l.d ≡ q.letters = omega (arith, l.auto.d-end, c.requires.le_letters.0, c.loop-d-test.false) in
     replay_end s.search.template q.letters q.number s.layout.lengths.now s.letters.now _ l.d e l.invariant.0
-
-pub push-requires-clause-le_size : goal.push-requires-clause-le_size
-push-requires-clause-le_size c =
-    let s = c.args.made.now.plan in
-    rw c.prefix.ensures (c.loop-d.auto.d, omega (arith, c.loop-d-test.true, c.requires.le_letters.1, s.depth_value))

@@ -30,7 +30,3 @@ returns-clause-value c =
     let l = c.loop-d in
     let e : l.d ≡ q.letters = omega (arith, l.auto.d-end, c.requires.le_letters.0, c.loop-d-test.false) in
     λ h. rw (← e, ← (last_prefix s.search.template q.letters q.number l.d e l.auto.d)) (l.invariant.2 (omega arith))
-
-pub take_turn-requires-clause-le_size : goal.take_turn-requires-clause-le_size
-take_turn-requires-clause-le_size c =
-    rw c.prefix-prefix.ensures (c.loop-d.auto.d, omega (arith, c.loop-d-test.true, c.requires.le_letters.1))

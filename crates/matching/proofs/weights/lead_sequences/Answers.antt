@@ -1,4 +1,3 @@
-use borrow.Author.Rules.{rules}
 use mathlib.Core.Bool.{Bool}
 use mathlib.Core.List.{List}
 use mathlib.Core.Path.{◌≡◌, sym, ap, ◌∙◌}
@@ -10,10 +9,10 @@ use Rattle.rows.specs.Bits.{held}
 use Rattle.rows.specs.Flags.{added, masked}
 use Rattle.rows.specs.Set.{first_word, between}
 use Rattle.matching.specs.Weights.{counts_at, counted_from, begun_counts}
-use Rattle.matching.proofs.Leads.{led_none, led_end, led_turn, begun_are_at, begun_same, counts_lie, counts_room}
+use Rattle.matching.proofs.Leads.{led_end, led_turn, begun_are_at, begun_same, counts_lie, counts_room}
 use Rattle.matching.proofs.Slots.{enough}
 use Rattle.rows.proofs.Sets.{bits_are_at, turn_lies}
-use Rattle.rows.proofs.Lowest.{walk_begin, walk_take}
+use Rattle.rows.proofs.Lowest.{walk_take}
 use Rattle.rows.proofs.MarksWalk.{Next, no_rest, next_taken}
 use Rattle.matching.proofs.weights.lead_sequences.Goals as goal
 use Rattle.matching.proofs.weights.lead_sequences.Goals.{In-Some}
@@ -29,16 +28,6 @@ turn : (c : In-Some) → Next c.args.weighing.now.made.plan.layout.lengths.now c
 turn c =
     let s = c.args.weighing.now.made.plan in
     next_taken c.args.lead.now.row.now c.args.w c.loop-place.invariant.rests c.in-Some.ensures.steps s.layout.lengths.now s.layout.firsts.now c.requires.bounded s.layout.laid c.requires.w_bound
-
-pub loop-place-init : goal.loop-place-init
-loop-place-init c =
-    rw c.into_iter-place-iterator.ensures.into_iter_gives (walk_begin _ _ (search rules) (led_none _ _ _ _ _ _ _ (omega arith)))
-
-pub overflow_cast-at : goal.overflow_cast-at
-overflow_cast-at c = omega (arith, (turn (goal.at.overflow_cast-at c).In-Some).in_word)
-
-pub overflow_add-at : goal.overflow_add-at
-overflow_add-at c = omega (arith, (turn (goal.at.overflow_add-at c).In-Some).in_word)
 
 pub words-from-requires : goal.words-from-requires
 words-from-requires c = (turn (goal.at.words-from-requires c).In-Some).inside
