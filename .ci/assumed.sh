@@ -1,9 +1,8 @@
 #!/bin/sh
 # Prints what the proofs take on trust and what they ask of a caller: for each crate that is linked, a program or the library, the C
-# functions whose contracts its verdict rests on (`axioms=`), and each public function that has a `requires` (from the sources). The gate
-# compares it with assumed.txt, and fails where they differ. After a change that is meant: .ci/assumed.sh >.ci/assumed.txt
-#
-# What the ghost fields of a type ask of whoever makes a value of it stands at the type, and is proved where one is made; it is not listed.
+# functions whose contracts its verdict rests on (`axioms=`), and, from the sources, each public function that has a `requires` and each
+# fact that a public type holds (`pub ghost`), which whoever makes a value of it has to show. The gate compares it with assumed.txt, and
+# fails where they differ. After a change that is meant: .ci/assumed.sh >.ci/assumed.txt
 #
 # The prover is asked, over what was proved: where the gate has just proved all, over that; else rt check proves first what is not.
 # A verdict that has a word which is not known here is told too, and the status is 1.
@@ -29,7 +28,7 @@ ask() { # NAME
     fi
 }
 
-echo "# Printed by assumed.sh: what is assumed of C functions, and which public functions have a requires."
+echo "# Printed by assumed.sh: what is assumed of C functions, which public functions have a requires, and which facts public types hold."
 
 for crate in $crates; do
     is_program "$crate" || is_static "$crate" || continue
@@ -66,6 +65,8 @@ for crate in $crates; do
         FNR == 1 { file = FILENAME; sub(/.*\/src\//, "", file); sub(/\.rt$/, "", file); public["lib"] = 1 }
         { sub(/\/\/.*/, "") }
         file == "lib" && /^pub (mod|use) / { module = $3; sub(/[:;].*/, "", module); public[module] = 1 }
+        /^pub struct / { type = $3; sub(/[<({].*/, "", type) }
+        /^ *pub ghost / { fact = $3; sub(/:.*/, "", fact); print "holds " crate "::" type " " fact }
         /^impl[ <]/ { type = $0; sub(/^impl(<[^>]*>)? +/, "", type); sub(/[ <{].*/, "", type) }
         /(^| )fn / {
             name = $0; sub(/.*fn /, "", name); sub(/[^a-z0-9_].*/, "", name)

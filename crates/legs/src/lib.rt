@@ -9,7 +9,7 @@ ghost use Rattle.places.specs.SearchOrder.{before_13};
 ghost use Rattle.rules.specs.Calls.{leg_rule};
 ghost use Rattle.rules.specs.Told.{fine, told_leg};
 
-use matching::made::{SearchOver, Spot};
+use matching::made::{Spot, Task};
 use matching::{WORDS, tables};
 use rules::{Leg, Search, Sequences, Stop};
 
@@ -42,9 +42,9 @@ pub fn leg(
     let mut slots = [[0u64; WORDS]; matching::SLOTS];
     let mut work = [0u64; WORDS];
     let mut spare = [0u64; WORDS];
-    let over = SearchOver { search, set: *set };
+    let task = Task { search, set: *set };
     let weighing = tables::make(
-        &over,
+        &task,
         &mut inside,
         &mut firsts,
         &mut offsets,

@@ -44,7 +44,7 @@ fn last_letters(template: Template) -> u32
 
 // In how many ways the components before a motif's last can be placed, as `Counted` has it, and after which prefix, once they are counted.
 #[derive(Drop)]
-struct Ways {
+struct CountedWays {
     counted: Option<u64>,
     counts: [u64; SequenceSet::LETTERS],
 }
@@ -63,7 +63,7 @@ fn list(
     slots: &[[u64; WORDS]; SLOTS],
     work: &[u64; WORDS],
     spare: &mut [u64; WORDS],
-    ways: &mut Ways,
+    ways: &mut CountedWays,
 ) -> usize
     requires rows_in_bounds { (rows < length motifs.old) × (rows < length supports.old) × (rows < length weights.old) }
     requires motif_bound { (motif < base_of weighing.now.made.plan.search.template ^ weighing.now.made.plan.depth) × (prefix ≡ prefix_of weighing.now.made.plan.search.template motif) }
@@ -121,7 +121,7 @@ pub fn run(
     let mut place = s.place;
     let mut steps: u64 = 0;
     let mut rows: usize = 0;
-    let mut ways = Ways {
+    let mut ways = CountedWays {
         counted: None,
         counts: [0; SequenceSet::LETTERS],
     };
@@ -153,11 +153,11 @@ pub fn run(
             );
         }
         steps += 1;
-        let at = Candidate {
+        let candidate = Candidate {
             plan: &weighing.made.plan,
             place,
         };
-        place = at.next_place(frequent);
+        place = candidate.next_place(frequent);
     }
     stopped(Stop::Ended, steps, rows, s, place)
 }

@@ -65,11 +65,11 @@ impl<'a> Candidate<'a> {
         let plan = self.plan;
         let mut number = self.place.number;
         for letters in (1..=self.place.letters).rev() {
-            let at = Candidate {
+            let candidate = Candidate {
                 plan,
                 place: Place { letters, number },
             };
-            if at.rises() {
+            if candidate.rises() {
                 return Place::new(letters, number + 1);
             }
             number = plan.search.template.profile.shorter(number);

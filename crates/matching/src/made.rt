@@ -26,7 +26,7 @@ impl Spot {
 
 // A search, and the set of sequences that it goes over.
 #[derive(Clone, Copy)]
-pub struct SearchOver<'a> {
+pub struct Task<'a> {
     pub search: Search,
     pub set: Sequences<'a>,
     pub ghost sound_template: { SoundTemplate search.template },
@@ -34,7 +34,7 @@ pub struct SearchOver<'a> {
 }
 
 // A search whose motifs have `depth` letters, and its set of sequences; where each letter of a motif stands, and where the words of each
-// sequence begin.
+// sequence begin. What a task holds is spread out here: nearly every clause below speaks of it, and would be longer by a name.
 #[derive(Clone, Copy)]
 pub struct Plan<'a> {
     pub search: Search,

@@ -12,13 +12,13 @@ ghost use Rattle.rows.specs.Set.{is_marked, window_at, Filled, Marked, Bounded, 
 use super::letters::{Test, letter_row, test_for};
 use super::made::{Made, Plan};
 use super::{SLOTS, WORDS};
-use rows::gap::{self, Gap};
+use rows::gap::{self, Reach};
 use rows::set;
 use rows::words::Shift;
 use rules::{Place, Profile};
 
 // The slot of the prefix of so many letters.
-pub fn slot<'a>(size: usize, slots: &'a [[u64; WORDS]; SLOTS]) -> &'a [u64; WORDS]
+pub(crate) fn slot<'a>(size: usize, slots: &'a [[u64; WORDS]; SLOTS]) -> &'a [u64; WORDS]
     requires { size < template_letters }
     ensures slot { result.now ≡ row_slot size slots.now }
 {
@@ -88,10 +88,10 @@ fn open_slot(plan: &Plan, component: usize, spare: &mut [u64; WORDS], slot: &mut
     let components = plan.search.template.components();
     let before = components[component - 1];
     let here = components[component];
-    let gap = Gap {
+    let reach = Reach {
         apart: here.after(before),
     };
-    gap::open_all(&plan.layout, gap, spare, slot);
+    gap::open_all(&plan.layout, reach, spare, slot);
 }
 
 // Makes a slot that has the row of a prefix what a further letter is added to: where that stands inside a component the row as it is, and

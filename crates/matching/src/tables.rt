@@ -8,7 +8,7 @@ ghost use Rattle.matching.specs.Path.{letter_shifts, row_slot, spot, Slot, Insid
 ghost use Rattle.rows.specs.Set.{Offsets};
 
 use super::letters::{letter_rows, letter_slots};
-use super::made::{Made, Plan, SearchOver, Spot, Weighing};
+use super::made::{Made, Plan, Spot, Task, Weighing};
 use super::path::first_slot;
 use super::{SLOTS, WORDS};
 
@@ -27,13 +27,14 @@ fn place_component(k: u8, n: u8, from: usize, inside: &mut [Spot])
     }
 }
 
-// The places of all letters of a motif. Here and below, that a table is long enough stays a clause: whichever is may be lent.
-fn place_letters(over: &SearchOver, inside: &mut [Spot])
-    requires template_in_bounds { templates.size over.now.search.template ≤ length inside.old }
-    ensures inside { Inside over.now.search.template inside.new }
+// The places of all letters of a motif. Here and below, that a table is long enough stays a clause:
+// whichever is long enough may be lent, as before, and these are the crate's outermost calls, in which a clause is met once.
+fn place_letters(task: &Task, inside: &mut [Spot])
+    requires template_in_bounds { templates.size task.now.search.template ≤ length inside.old }
+    ensures inside { Inside task.now.search.template inside.new }
     ensures inside_len_unchanged { length inside.new ≡ length inside.old }
 {
-    let template = over.search.template;
+    let template = task.search.template;
     let components = template.components();
     let count = template.count as usize;
     let mut from = 0;
@@ -46,24 +47,24 @@ fn place_letters(over: &SearchOver, inside: &mut [Spot])
 
 // All but the rows of the letters that only a motif has.
 pub fn begin<'a, 's: 'a>(
-    over: &SearchOver<'s>,
+    task: &Task<'s>,
     inside: &'a mut [Spot],
     firsts: &'a mut [u32],
     offsets: &mut [u32],
     standing: &mut [[u64; WORDS]],
     slot: &mut [u64; WORDS],
 ) -> Plan<'a>
-    requires template_in_bounds { (templates.size over.now.search.template ≤ length inside.old) × (length over.now.set.lengths.now < length firsts.old) × (length over.now.set.lengths.now < length offsets.old) × (letter_bases ≤ length standing.old) }
-    ensures plan { (result.search ≡ over.now.search) × (result.letters.now ≡ over.now.set.letters.now) × (result.layout.lengths.now ≡ over.now.set.lengths.now) }
-    ensures offsets { Offsets over.now.set.lengths.now offsets.new }
-    ensures base_rows { BaseRows over.now.set.lengths.now over.now.set.letters.now standing.new }
-    ensures slot { Slot over.now.search.template over.now.set.lengths.now over.now.set.letters.now slot.new 0 0 }
+    requires template_in_bounds { (templates.size task.now.search.template ≤ length inside.old) × (length task.now.set.lengths.now < length firsts.old) × (length task.now.set.lengths.now < length offsets.old) × (letter_bases ≤ length standing.old) }
+    ensures plan { (result.search ≡ task.now.search) × (result.letters.now ≡ task.now.set.letters.now) × (result.layout.lengths.now ≡ task.now.set.lengths.now) }
+    ensures offsets { Offsets task.now.set.lengths.now offsets.new }
+    ensures base_rows { BaseRows task.now.set.lengths.now task.now.set.letters.now standing.new }
+    ensures slot { Slot task.now.search.template task.now.set.lengths.now task.now.set.letters.now slot.new 0 0 }
     ensures inside_len_unchanged { (length result.inside.now ≡ length inside.old) × (length result.layout.firsts.now ≡ length firsts.old) }
     ensures standing_len_unchanged { (length offsets.new ≡ length offsets.old) × (length standing.new ≡ length standing.old) }
 {
-    let search = over.search;
-    let set = over.set;
-    place_letters(over, inside);
+    let search = task.search;
+    let set = task.set;
+    place_letters(task, inside);
     let layout = rows::set::lay_out(set.lengths, firsts, offsets);
     let plan = Plan {
         search,
@@ -80,7 +81,7 @@ pub fn begin<'a, 's: 'a>(
 // All of it, and the first slot of the path. `work` is lent for a row. The letters' rows are kept for as many places as `standing` has room
 // for, at least one.
 pub fn make<'a, 's: 'a>(
-    over: &SearchOver<'s>,
+    task: &Task<'s>,
     inside: &'a mut [Spot],
     firsts: &'a mut [u32],
     offsets: &'a mut [u32],
@@ -88,13 +89,13 @@ pub fn make<'a, 's: 'a>(
     slots: &mut [[u64; WORDS]; SLOTS],
     work: &mut [u64; WORDS],
 ) -> Weighing<'a>
-    requires template_in_bounds { (templates.size over.now.search.template ≤ length inside.old) × (length over.now.set.lengths.now < length firsts.old) × (length over.now.set.lengths.now < length offsets.old) × (base_of over.now.search.template ≤ length standing.old) × (length standing.old ≤ letter_shifts * letter_bases) }
-    ensures plan { (result.made.plan.search ≡ over.now.search) × (result.made.plan.letters.now ≡ over.now.set.letters.now) × (result.made.plan.layout.lengths.now ≡ over.now.set.lengths.now) }
-    ensures slot { Slot over.now.search.template over.now.set.lengths.now over.now.set.letters.now (row_slot 0 slots.new) 0 0 }
+    requires template_in_bounds { (templates.size task.now.search.template ≤ length inside.old) × (length task.now.set.lengths.now < length firsts.old) × (length task.now.set.lengths.now < length offsets.old) × (base_of task.now.search.template ≤ length standing.old) × (length standing.old ≤ letter_shifts * letter_bases) }
+    ensures plan { (result.made.plan.search ≡ task.now.search) × (result.made.plan.letters.now ≡ task.now.set.letters.now) × (result.made.plan.layout.lengths.now ≡ task.now.set.lengths.now) }
+    ensures slot { Slot task.now.search.template task.now.set.lengths.now task.now.set.letters.now (row_slot 0 slots.new) 0 0 }
     ensures inside_len_unchanged { (length result.made.plan.inside.now ≡ length inside.old) × (length result.made.plan.layout.firsts.now ≡ length firsts.old) }
     ensures standing_len_unchanged { (length result.offsets.now ≡ length offsets.old) × (length result.made.standing.now ≡ length standing.old) }
 {
-    let plan = begin(over, inside, firsts, offsets, standing, &mut slots[0]);
+    let plan = begin(task, inside, firsts, offsets, standing, &mut slots[0]);
     letter_rows(&plan, work, standing);
     let made = Made { plan, standing };
     Weighing { made, offsets }

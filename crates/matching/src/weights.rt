@@ -13,7 +13,7 @@ ghost use Rattle.matching.specs.Weights.{counts_at, kept_counts, HoldsCounts, co
 
 use super::made::Weighing;
 use super::{SLOTS, WORDS, path};
-use rows::gap::Gap;
+use rows::gap::Reach;
 use rows::set_bits::SetBits;
 use rows::{BITS, MARKS, counts};
 use rules::{Offset, Place};
@@ -35,7 +35,7 @@ struct Lead<'a> {
     row: &'a [u64; WORDS],
     opened: &'a [u64; WORDS],
     first: bool,
-    gap: Gap,
+    reach: Reach,
 }
 
 // In one sequence, whose words are those from `from` up to `to` and whose counts are those from `a` up to `e`: opens a gap after the counts
@@ -43,9 +43,9 @@ struct Lead<'a> {
 fn lead_between(from: usize, to: usize, a: Offset, e: Offset, lead: &Lead, counts: &mut [u64])
     requires from_le_to { (from ≤ to) × (to ≤ row_words) × (a.0 ≤ e.0) × (e.0 ≤ length counts.old) × (e.0 - a.0 ≤ 64 * (to - from)) }
     requires by_index { (i : ℕ) → get_or (masked (held (between from to lead.now.row.now)) (counted_from lead.now.first (between a.0 e.0 counts.old))) i 0 ≤ count_most }
-    requires by_index_2 { (i : ℕ) → get_or (held (between from to lead.now.opened.now)) i 0 ≡ 0 → get_or (added lead.now.gap.apart.near (lead.now.gap.apart.near + lead.now.gap.apart.count - 1) (masked (held (between from to lead.now.row.now)) (counted_from lead.now.first (between a.0 e.0 counts.old)))) i 0 ≡ 0 }
+    requires by_index_2 { (i : ℕ) → get_or (held (between from to lead.now.opened.now)) i 0 ≡ 0 → get_or (added lead.now.reach.apart.near (lead.now.reach.apart.near + lead.now.reach.apart.count - 1) (masked (held (between from to lead.now.row.now)) (counted_from lead.now.first (between a.0 e.0 counts.old)))) i 0 ≡ 0 }
     ensures counts_unchanged { (take a.0 counts.new ≡ take a.0 counts.old) × (drop e.0 counts.new ≡ drop e.0 counts.old) × (length counts.new ≡ length counts.old) }
-    ensures counts_after { masked (held (between from to lead.now.opened.now)) (between a.0 e.0 counts.new) ≡ added lead.now.gap.apart.near (lead.now.gap.apart.near + lead.now.gap.apart.count - 1) (masked (held (between from to lead.now.row.now)) (counted_from lead.now.first (between a.0 e.0 counts.old))) }
+    ensures counts_after { masked (held (between from to lead.now.opened.now)) (between a.0 e.0 counts.new) ≡ added lead.now.reach.apart.near (lead.now.reach.apart.near + lead.now.reach.apart.count - 1) (masked (held (between from to lead.now.row.now)) (counted_from lead.now.first (between a.0 e.0 counts.old))) }
 {
     let x = a.0;
     let y = e.0;
@@ -55,7 +55,7 @@ fn lead_between(from: usize, to: usize, a: Offset, e: Offset, lead: &Lead, count
     counts::lead(
         &row[from..to],
         &opened[from..to],
-        lead.gap,
+        lead.reach,
         &mut counts[x..y],
     );
 }
@@ -67,8 +67,8 @@ fn lead_sequences(weighing: &Weighing, w: usize, lead: &Lead, counts: &mut [u64]
     requires bounded { Bounded weighing.now.made.plan.layout.lengths.now lead.now.row.now }
     requires lengths_in_bounds { lists.sum weighing.now.made.plan.layout.lengths.now ≤ length counts.old }
     requires by_index { (k : ℕ) → w * 64 ≤ k → k < length weighing.now.made.plan.layout.lengths.now → is_marked lead.now.row.now k ≡ true → (i : ℕ) → get_or (begun_counts lead.now.first weighing.now.made.plan.layout.lengths.now lead.now.row.now counts.old k) i 0 ≤ count_most }
-    requires by_index_2 { (k : ℕ) → w * 64 ≤ k → k < length weighing.now.made.plan.layout.lengths.now → is_marked lead.now.row.now k ≡ true → (i : ℕ) → get_or (bits_at weighing.now.made.plan.layout.lengths.now k lead.now.opened.now) i 0 ≡ 0 → get_or (added lead.now.gap.apart.near (lead.now.gap.apart.near + lead.now.gap.apart.count - 1) (begun_counts lead.now.first weighing.now.made.plan.layout.lengths.now lead.now.row.now counts.old k)) i 0 ≡ 0 }
-    ensures by_index_3 { (k : ℕ) → w * 64 ≤ k → k < w * 64 + 64 → is_marked lead.now.row.now k ≡ true → kept_counts weighing.now.made.plan.layout.lengths.now lead.now.opened.now counts.new k ≡ added lead.now.gap.apart.near (lead.now.gap.apart.near + lead.now.gap.apart.count - 1) (begun_counts lead.now.first weighing.now.made.plan.layout.lengths.now lead.now.row.now counts.old k) }
+    requires by_index_2 { (k : ℕ) → w * 64 ≤ k → k < length weighing.now.made.plan.layout.lengths.now → is_marked lead.now.row.now k ≡ true → (i : ℕ) → get_or (bits_at weighing.now.made.plan.layout.lengths.now k lead.now.opened.now) i 0 ≡ 0 → get_or (added lead.now.reach.apart.near (lead.now.reach.apart.near + lead.now.reach.apart.count - 1) (begun_counts lead.now.first weighing.now.made.plan.layout.lengths.now lead.now.row.now counts.old k)) i 0 ≡ 0 }
+    ensures by_index_3 { (k : ℕ) → w * 64 ≤ k → k < w * 64 + 64 → is_marked lead.now.row.now k ≡ true → kept_counts weighing.now.made.plan.layout.lengths.now lead.now.opened.now counts.new k ≡ added lead.now.reach.apart.near (lead.now.reach.apart.near + lead.now.reach.apart.count - 1) (begun_counts lead.now.first weighing.now.made.plan.layout.lengths.now lead.now.row.now counts.old k) }
     ensures by_index_4 { (k : ℕ) → k < w * 64 → k < length weighing.now.made.plan.layout.lengths.now → counts_at weighing.now.made.plan.layout.lengths.now k counts.new ≡ counts_at weighing.now.made.plan.layout.lengths.now k counts.old }
     ensures by_index_5 { (k : ℕ) → w * 64 + 64 ≤ k → k < length weighing.now.made.plan.layout.lengths.now → counts_at weighing.now.made.plan.layout.lengths.now k counts.new ≡ counts_at weighing.now.made.plan.layout.lengths.now k counts.old }
     ensures counts_len_unchanged { length counts.new ≡ length counts.old }
@@ -92,8 +92,8 @@ fn lead_all(weighing: &Weighing, lead: &Lead, counts: &mut [u64])
     requires bounded { Bounded weighing.now.made.plan.layout.lengths.now lead.now.row.now }
     requires lengths_in_bounds { lists.sum weighing.now.made.plan.layout.lengths.now ≤ length counts.old }
     requires by_index { (k : ℕ) → k < length weighing.now.made.plan.layout.lengths.now → is_marked lead.now.row.now k ≡ true → (i : ℕ) → get_or (begun_counts lead.now.first weighing.now.made.plan.layout.lengths.now lead.now.row.now counts.old k) i 0 ≤ count_most }
-    requires by_index_2 { (k : ℕ) → k < length weighing.now.made.plan.layout.lengths.now → is_marked lead.now.row.now k ≡ true → (i : ℕ) → get_or (bits_at weighing.now.made.plan.layout.lengths.now k lead.now.opened.now) i 0 ≡ 0 → get_or (added lead.now.gap.apart.near (lead.now.gap.apart.near + lead.now.gap.apart.count - 1) (begun_counts lead.now.first weighing.now.made.plan.layout.lengths.now lead.now.row.now counts.old k)) i 0 ≡ 0 }
-    ensures holds_counts { HoldsCounts (is_marked lead.now.row.now) (λ k. added lead.now.gap.apart.near (lead.now.gap.apart.near + lead.now.gap.apart.count - 1) (begun_counts lead.now.first weighing.now.made.plan.layout.lengths.now lead.now.row.now counts.old k)) weighing.now.made.plan.layout.lengths.now lead.now.opened.now counts.new (length weighing.now.made.plan.layout.lengths.now) }
+    requires by_index_2 { (k : ℕ) → k < length weighing.now.made.plan.layout.lengths.now → is_marked lead.now.row.now k ≡ true → (i : ℕ) → get_or (bits_at weighing.now.made.plan.layout.lengths.now k lead.now.opened.now) i 0 ≡ 0 → get_or (added lead.now.reach.apart.near (lead.now.reach.apart.near + lead.now.reach.apart.count - 1) (begun_counts lead.now.first weighing.now.made.plan.layout.lengths.now lead.now.row.now counts.old k)) i 0 ≡ 0 }
+    ensures holds_counts { HoldsCounts (is_marked lead.now.row.now) (λ k. added lead.now.reach.apart.near (lead.now.reach.apart.near + lead.now.reach.apart.count - 1) (begun_counts lead.now.first weighing.now.made.plan.layout.lengths.now lead.now.row.now counts.old k)) weighing.now.made.plan.layout.lengths.now lead.now.opened.now counts.new (length weighing.now.made.plan.layout.lengths.now) }
     ensures counts_len_unchanged { length counts.new ≡ length counts.old }
 {
     for w in 0..MARKS {
@@ -173,7 +173,7 @@ fn count_ways(
     for c in 1..count {
         let before = components[c - 1];
         let here = components[c];
-        let gap = Gap {
+        let reach = Reach {
             apart: here.after(before),
         };
         let more = before.length as u8;
@@ -190,7 +190,7 @@ fn count_ways(
             row: spare,
             opened,
             first: c == 1,
-            gap,
+            reach,
         };
         lead_all(weighing, &lead, ways);
     }

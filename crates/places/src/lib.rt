@@ -10,7 +10,7 @@ ghost use Rattle.rules.specs.Told.{told_checked};
 ghost use Rattle.matching.specs.Path.{Path};
 ghost use Rattle.places.specs.SearchOrder.{before_13};
 
-use matching::made::{Made, SearchOver, Spot};
+use matching::made::{Made, Spot, Task};
 use matching::{SLOTS, WORDS, path, tables};
 use rules::{Refusal, Search, Sequences};
 
@@ -61,12 +61,12 @@ fn candidate_alone(set: &Sequences, s: Search) -> bool
     let mut letter = [0u64; WORDS];
     let mut even = [0u64; WORDS];
     let mut odd = [0u64; WORDS];
-    let over = SearchOver {
+    let task = Task {
         search: s,
         set: *set,
     };
     let plan = tables::begin(
-        &over,
+        &task,
         &mut inside,
         &mut firsts,
         &mut offsets,

@@ -6,14 +6,14 @@ ghost use Rattle.rows.specs.Bits.{held};
 ghost use Rattle.rows.specs.Flags.{count_most, ago, recent, around, back, added, has_left, masked};
 ghost use Rattle.rows.specs.Words.{behind_word};
 
-use super::gap::Gap;
+use super::gap::Reach;
 use super::set_bits::SetBits;
 use super::words::{self, Shift};
 
 // The words of a stretch: so many of a long row are looked at together.
 const STRETCH: usize = 16;
 
-// The count, where the bit is 1, and else 0.
+// The count, where the bit is 1, and else 0. `pick` in matching is its like for a bool: a line each, no shorter by a generic of a crate below.
 fn when(bit: u64, count: u64) -> u64
     ensures { result ≡ if (eqb bit 1) count 0 }
 {
@@ -50,13 +50,13 @@ fn held_before(ways: Ways, o: usize, d: usize) -> u64
 }
 
 // The sum of the `count` counts that stand `near` places before `o` and further back, those at which the row has a bit.
-fn window(ways: Ways, o: usize, gap: Gap) -> u64
+fn window(ways: Ways, o: usize, reach: Reach) -> u64
     requires { o ≤ length ways.counts.now }
-    ensures { result ≡ recent (masked (held ways.entry.row.now) ways.entry.counts.now) o gap.apart.near gap.apart.count }
+    ensures { result ≡ recent (masked (held ways.entry.row.now) ways.entry.counts.now) o reach.apart.near reach.apart.count }
 {
     let mut total: u64 = 0;
-    for k in 0..gap.apart.count {
-        total += held_before(ways, o, gap.apart.near + k);
+    for k in 0..reach.apart.count {
+        total += held_before(ways, o, reach.apart.near + k);
     }
     total
 }
@@ -76,15 +76,15 @@ fn shifted(row: &[u64], d: usize, q: usize) -> u64
 // along: `total` is that past the last place, and the answer that at `from`. Most often no place comes into reach in a word and none is
 // gone from it: then the sum stays. Here and below, what `Ways` holds stays in clauses: with `counts` as a `&mut` it would want one more,
 // that this is the caller's buffer still.
-fn slide(row: &[u64], gap: Gap, from: usize, total: u64, counts: &mut [u64]) -> u64
+fn slide(row: &[u64], reach: Reach, from: usize, total: u64, counts: &mut [u64]) -> u64
     requires from_in_bounds { (from < length counts.old) × (from % 64 ≡ 0) × (length counts.old ≤ from + 64) × (length counts.old ≤ 64 * length row.now) }
-    requires total_value { total ≡ recent (masked (held row.now) counts.old) (length counts.old) gap.apart.near gap.apart.count }
+    requires total_value { total ≡ recent (masked (held row.now) counts.old) (length counts.old) reach.apart.near reach.apart.count }
     requires by_index { (i : ℕ) → get_or (masked (held row.now) counts.old) i 0 ≤ count_most }
-    ensures value { result ≡ recent (masked (held row.now) counts.old) from gap.apart.near gap.apart.count }
-    ensures counts_after { counts.new ≡ back (around (masked (held row.now) counts.old) gap.apart.near gap.apart.count) from counts.old }
+    ensures value { result ≡ recent (masked (held row.now) counts.old) from reach.apart.near reach.apart.count }
+    ensures counts_after { counts.new ≡ back (around (masked (held row.now) counts.old) reach.apart.near reach.apart.count) from counts.old }
 {
-    let far = gap.apart.near + gap.apart.count;
-    let come = shifted(row, gap.apart.near - 1, from / 64);
+    let far = reach.apart.near + reach.apart.count;
+    let come = shifted(row, reach.apart.near - 1, from / 64);
     let gone = shifted(row, far - 1, from / 64);
     if come | gone == 0 {
         counts[from..].fill(total);
@@ -94,7 +94,7 @@ fn slide(row: &[u64], gap: Gap, from: usize, total: u64, counts: &mut [u64]) -> 
     for o in (from..counts.len()).rev() {
         let b = o - from;
         sum = sum + when((gone >> b) & 1, before(counts, o + 1, far))
-            - when((come >> b) & 1, before(counts, o + 1, gap.apart.near));
+            - when((come >> b) & 1, before(counts, o + 1, reach.apart.near));
         counts[o] = sum;
     }
     sum
@@ -105,7 +105,7 @@ fn slide(row: &[u64], gap: Gap, from: usize, total: u64, counts: &mut [u64]) -> 
 struct Opened<'a> {
     row: &'a [u64],
     opened: &'a [u64],
-    gap: Gap,
+    reach: Reach,
     ghost same: { length opened.now ≡ length row.now },
 }
 
@@ -113,25 +113,25 @@ struct Opened<'a> {
 // are not read.
 fn lead_word(at: Opened, from: usize, total: u64, counts: &mut [u64]) -> u64
     requires from_in_bounds { (from < length counts.old) × (from % 64 ≡ 0) × (length counts.old ≤ from + 64) × (length counts.old ≤ 64 * length at.row.now) }
-    requires total_value { 0 < get_or at.opened.now (from / 64) 0 → total ≡ recent (masked (held at.row.now) counts.old) (length counts.old) at.gap.apart.near at.gap.apart.count }
+    requires total_value { 0 < get_or at.opened.now (from / 64) 0 → total ≡ recent (masked (held at.row.now) counts.old) (length counts.old) at.reach.apart.near at.reach.apart.count }
     requires by_index { (i : ℕ) → get_or (masked (held at.row.now) counts.old) i 0 ≤ count_most }
-    requires by_index_2 { (p : ℕ) → p < length counts.old → get_or (held at.opened.now) p 0 ≡ 0 → recent (masked (held at.row.now) counts.old) p at.gap.apart.near at.gap.apart.count ≡ 0 }
-    ensures value { result ≡ recent (masked (held at.entry.row.now) counts.old) from at.entry.gap.apart.near at.entry.gap.apart.count }
+    requires by_index_2 { (p : ℕ) → p < length counts.old → get_or (held at.opened.now) p 0 ≡ 0 → recent (masked (held at.row.now) counts.old) p at.reach.apart.near at.reach.apart.count ≡ 0 }
+    ensures value { result ≡ recent (masked (held at.entry.row.now) counts.old) from at.entry.reach.apart.near at.entry.reach.apart.count }
     ensures counts_unchanged { take from counts.new ≡ take from counts.old }
-    ensures counts_after { masked (held at.entry.opened.now) counts.new ≡ back (around (masked (held at.entry.row.now) counts.old) at.entry.gap.apart.near at.entry.gap.apart.count) from (masked (held at.entry.opened.now) counts.old) }
+    ensures counts_after { masked (held at.entry.opened.now) counts.new ≡ back (around (masked (held at.entry.row.now) counts.old) at.entry.reach.apart.near at.entry.reach.apart.count) from (masked (held at.entry.opened.now) counts.old) }
 {
     let opened = at.opened;
     if opened[from / 64] == 0 {
         return 0;
     }
-    slide(at.row, at.gap, from, total, counts)
+    slide(at.row, at.reach, from, total, counts)
 }
 
 // The sum past the last place, if the last word will need it: if the opened row has a bit there.
 fn sum_past(at: Opened, counts: &[u64]) -> u64
     requires counts_len_bound { length counts.now ≤ 64 * length at.row.now }
     requires by_index { (i : ℕ) → get_or (masked (held at.row.now) counts.now) i 0 ≤ count_most }
-    ensures { 0 < get_or at.entry.opened.now ((length counts.now - 1) / 64) 0 → result ≡ recent (masked (held at.entry.row.now) counts.now) (length counts.now) at.entry.gap.apart.near at.entry.gap.apart.count }
+    ensures { 0 < get_or at.entry.opened.now ((length counts.now - 1) / 64) 0 → result ≡ recent (masked (held at.entry.row.now) counts.now) (length counts.now) at.entry.reach.apart.near at.entry.reach.apart.count }
 {
     let to = counts.len();
     if to == 0 {
@@ -142,18 +142,18 @@ fn sum_past(at: Opened, counts: &[u64]) -> u64
         return 0;
     }
     let row = at.row;
-    window(Ways { row, counts }, to, at.gap)
+    window(Ways { row, counts }, to, at.reach)
 }
 
 // Opens a gap after the counts at which a row has a bit. The other row is that row with the gap opened: only where a word of it has a bit
 // are counts written, word by word from the last to the first.
-pub fn lead(row: &[u64], opened: &[u64], gap: Gap, counts: &mut [u64])
+pub fn lead(row: &[u64], opened: &[u64], reach: Reach, counts: &mut [u64])
     requires counts_len_bound { (length counts.old ≤ 64 * length row.now) × (length opened.now ≡ length row.now) }
     requires by_index { (i : ℕ) → get_or (masked (held row.now) counts.old) i 0 ≤ count_most }
-    requires by_index_2 { (p : ℕ) → get_or (held opened.now) p 0 ≡ 0 → get_or (added gap.apart.near (gap.apart.near + gap.apart.count - 1) (masked (held row.now) counts.old)) p 0 ≡ 0 }
-    ensures { masked (held opened.now) counts.new ≡ added gap.apart.near (gap.apart.near + gap.apart.count - 1) (masked (held row.now) counts.old) }
+    requires by_index_2 { (p : ℕ) → get_or (held opened.now) p 0 ≡ 0 → get_or (added reach.apart.near (reach.apart.near + reach.apart.count - 1) (masked (held row.now) counts.old)) p 0 ≡ 0 }
+    ensures { masked (held opened.now) counts.new ≡ added reach.apart.near (reach.apart.near + reach.apart.count - 1) (masked (held row.now) counts.old) }
 {
-    let at = Opened { row, opened, gap };
+    let at = Opened { row, opened, reach };
     let mut total = sum_past(at, counts);
     let mut to = counts.len();
     // No `for`: one over the words has a value more to hold while the sum slides, and takes 15.6 in 100 more instructions.
@@ -208,7 +208,7 @@ fn add_word(word: u64, counts: &[u64]) -> u64
 
 // Words of a row that are side by side, and the counts of their places. Only the last word may have fewer than 64, and no bit past them.
 #[derive(Clone, Copy)]
-struct Part<'a> {
+struct Stretch<'a> {
     row: &'a [u64],
     counts: &'a [u64],
     ghost most: { 64 * length row.now ≤ length counts.now + 63 },
@@ -218,7 +218,7 @@ struct Part<'a> {
 }
 
 // The sum of the counts of the places at which some words of a row have a bit, word by word.
-fn add_words(part: Part) -> u64
+fn add_words(part: Stretch) -> u64
     ensures { result ≡ sum (masked (held part.entry.row.now) part.entry.counts.now) }
 {
     let row = part.row;
@@ -234,7 +234,7 @@ fn add_words(part: Part) -> u64
 }
 
 // The same, at once where all the words are empty.
-fn add_stretch(part: Part) -> u64
+fn add_stretch(part: Stretch) -> u64
     ensures { result ≡ sum (masked (held part.entry.row.now) part.entry.counts.now) }
 {
     if empty(part.row) {
@@ -257,12 +257,12 @@ pub fn add(row: &[u64], counts: &[u64]) -> u64
     // No `for`: it goes from stretch to stretch, and what is left of the row and of the counts is cut as it goes.
     while let Some((stretch, others)) = row.split_first_chunk::<STRETCH>() {
         let (near, far) = counts.split_at(counts.len().min(64 * STRETCH));
-        total += add_stretch(Part {
+        total += add_stretch(Stretch {
             row: stretch,
             counts: near,
         });
         row = others;
         counts = far;
     }
-    total + add_words(Part { row, counts })
+    total + add_words(Stretch { row, counts })
 }

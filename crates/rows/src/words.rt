@@ -225,7 +225,7 @@ fn spread(count: usize, row: &mut [u64], spare: &mut [u64])
 }
 
 // Opens a gap in a row: its bits are then those that have one of `count` set bits before them, the nearest `near` places before. `spare` is
-// lent for the work. It takes any distances, and no `Gap`: what bounds them it does not need.
+// lent for the work. It takes any distances, and no `Reach`: what bounds them it does not need.
 pub fn open_gap(apart: Distances, spare: &mut [u64], row: &mut [u64])
     requires { (length spare.old ≡ length row.old) × (1 ≤ apart.count) }
     ensures { held row.new ≡ window apart.near apart.count (held row.old) }

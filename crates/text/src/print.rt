@@ -152,7 +152,8 @@ pub fn print_page(
     page.at
 }
 
-// A line of a short word and two numbers: of at most 20 digits each, so that a word of 77 bytes leaves them room.
+// A line of a short word and two numbers, of at most 20 digits each: as room a line has more than it needs where the word is no longer
+// than a motif's shape can be, 77 bytes.
 fn print_line(word: &[u8], a: u64, b: u64, out: &mut [u8]) -> usize
     requires { (length word.now ≤ 77) × (line_room ≤ length out.old) }
     ensures { WroteLine (word.now ++ number_pair 32 a 32 b 10) out.old out.new result }

@@ -114,7 +114,7 @@ pub struct SequencesRead {
 }
 
 // Writes a text to a table from a place on, and answers the place after it.
-pub fn copy_part(text: &[u8], at: usize, to: &mut [u8]) -> usize
+pub(crate) fn copy_part(text: &[u8], at: usize, to: &mut [u8]) -> usize
     requires { at + length text.now ≤ length to.old }
     ensures { Wrote at text.now to.old to.new result }
 {

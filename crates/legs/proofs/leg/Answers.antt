@@ -20,8 +20,8 @@ returns-then-ended c =
     let r = accepted _ _ _ a.budget _ _ _ fine (at_end _ _ a.search a.budget _ _ _ none) in
     record { result_value = ap told_leg c.stopped.ensures ∙ r.0; motifs_after = r.1.0; supports_after = r.1.1.0; weights_after = r.1.1.1 }
 
-pub invariant_of-over : goal.invariant_of-over
-invariant_of-over c =
+pub invariant_of-task : goal.invariant_of-task
+invariant_of-task c =
     let a = c.args in
     let e = sym c.requires in
     record { sound_template = template_is _ _ _ e; sound_set = set_is a.set.now.letters.now a.set.now.lengths.now a.search e }

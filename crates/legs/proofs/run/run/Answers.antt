@@ -59,8 +59,8 @@ list-rows-requires-clause-motif_bound c =
     let below = run_below _ _ _ i.0 _ _ _ _ _ i.1 in
     (below_whole (base_of s.search.template) l.place.letters l.place.number (hit_whole l.place.letters _ _ refl c.if-hit.true) below, c.prefix-prefix.ensures ∙ c.last_letters-last.ensures.0 l.place.number)
 
-pub invariant_of-at : goal.invariant_of-at
-invariant_of-at c =
+pub invariant_of-candidate : goal.invariant_of-candidate
+invariant_of-candidate c =
     let i = c.loop-place.invariant in
     record { some = c.loop-place-test.true; few = run_depth _ _ _ i.0 _ _ _ _ _ i.1; allowed = run_valid _ _ _ i.0 _ _ _ _ _ i.1 }
 

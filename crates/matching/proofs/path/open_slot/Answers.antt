@@ -2,8 +2,8 @@
 use Rattle.matching.proofs.Gapped.{gap_apart, opened_slot}
 use Rattle.matching.proofs.path.open_slot.Goals as goal
 
-pub invariant_of-gap : goal.invariant_of-gap
-invariant_of-gap c =
+pub invariant_of-reach : goal.invariant_of-reach
+invariant_of-reach c =
     let s = c.args.plan.now in
     let p = c.requires in
     let g = gap_apart s.search.template s.sound_template c.args.component p.le_component.0 p.le_component.1 _ c.components-components.ensures c.after.ensures in

@@ -1,4 +1,4 @@
--- The slot of the prefix one letter shorter is cut from the table.
+-- The slot of the prefix one letter shorter is lent from the table, and the row of the letter comes with what its test says.
 use Rattle.matching.proofs.Slots.{parent}
 use Rattle.matching.proofs.path.support.Goals as goal
 

@@ -77,8 +77,8 @@ slot-opened-requires c =
     let t = turn s.sound_template s.depth_value c.components-components.ensures l.auto.c c.loop-c-test.true l.invariant.0 in
     omega (arith, next_less t, t.whole, t.sound.deep)
 
-pub invariant_of-gap : goal.invariant_of-gap
-invariant_of-gap c =
+pub invariant_of-reach : goal.invariant_of-reach
+invariant_of-reach c =
     let s = c.args.weighing.now.made.plan in
     let p = c.requires in
     let l = c.loop-c in

@@ -54,4 +54,4 @@ returns-clause-counts_after c =
     let r = c.lead in
     let k = kept a.lead.now.first (between a.from a.to a.lead.now.row.now) a.a.0 a.e.0 a.counts.now m.new.counts p.from_le_to.2 p.from_le_to.3 m.auto.counts m.ensures in
     let q = part_led a.a.0 a.e.0 a.counts.now m.new.counts p.from_le_to.2 p.from_le_to.3 m.auto.counts r.new.counts r.auto.counts in
-    ap (masked (held (between a.from a.to a.lead.now.opened.now))) q.1 ∙ r.ensures ∙ ap (added a.lead.now.gap.apart.near (a.lead.now.gap.apart.near + a.lead.now.gap.apart.count - 1)) k
+    ap (masked (held (between a.from a.to a.lead.now.opened.now))) q.1 ∙ r.ensures ∙ ap (added a.lead.now.reach.apart.near (a.lead.now.reach.apart.near + a.lead.now.reach.apart.count - 1)) k

@@ -13,4 +13,4 @@ abbrev pub Led_to : ℕ → List ℕ → List ℕ → List ℕ → Bool → ℕ 
 Led_to w ns row opened first d n x y e = Led (is_marked row) (led_at first d n ns row x) ns opened (w * 64) (w * 64 + e) x y
 
 abbrev pub invariant-loop-place : goal.invariant-loop-place
-invariant-loop-place l = Walk (Led_to l.w l.weighing.made.plan.layout.lengths.now l.lead.row.now l.lead.opened.now l.lead.first l.lead.gap.apart.near l.lead.gap.apart.count l.initial.counts l.counts) (get_or l.lead.row.now l.w 0) l.place-iterator.0
+invariant-loop-place l = Walk (Led_to l.w l.weighing.made.plan.layout.lengths.now l.lead.row.now l.lead.opened.now l.lead.first l.lead.reach.apart.near l.lead.reach.apart.count l.initial.counts l.counts) (get_or l.lead.row.now l.w 0) l.place-iterator.0

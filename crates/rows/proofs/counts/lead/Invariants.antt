@@ -9,8 +9,8 @@ use Rattle.rows.proofs.counts.lead.Given as goal
 
 abbrev pub invariant-loop-to : goal.invariant-loop-to
 invariant-loop-to l = (l.to ≤ length l.initial.counts) × (length l.counts ≡ length l.initial.counts) × (take l.to l.counts ≡ take l.to l.initial.counts)
-    × (masked (held l.opened) l.counts ≡ back (around (masked (held l.row) l.initial.counts) l.fn.gap.apart.near l.fn.gap.apart.count) l.to (masked (held l.opened) l.initial.counts))
-    × (0 < get_or l.opened ((l.to - 1) / 64) 0 → l.total ≡ recent (masked (held l.row) l.initial.counts) l.to l.fn.gap.apart.near l.fn.gap.apart.count)
+    × (masked (held l.opened) l.counts ≡ back (around (masked (held l.row) l.initial.counts) l.fn.reach.apart.near l.fn.reach.apart.count) l.to (masked (held l.opened) l.initial.counts))
+    × (0 < get_or l.opened ((l.to - 1) / 64) 0 → l.total ≡ recent (masked (held l.row) l.initial.counts) l.to l.fn.reach.apart.near l.fn.reach.apart.count)
 
 abbrev pub decreases-loop-to : goal.decreases-loop-to
 decreases-loop-to l = l.to

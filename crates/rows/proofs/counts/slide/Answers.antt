@@ -29,8 +29,8 @@ returns-then-come-gone-eq0 c =
     let p = c.requires in
     let come = c.shifted-come.ensures in
     let gone = c.shifted-gone.ensures in record {
-      value = still_sum row f c.args.counts.now c.args.from p.from_in_bounds.1 c.args.gap.apart.near c.args.gap.apart.count c.args.gap.near_bound.0 p.from_in_bounds.0 p.from_in_bounds.2 come gone c.if-come-gone-eq0.true p.total_value;
-      counts_after = still_written row f c.args.counts.now c.args.from p.from_in_bounds.1 c.args.gap.apart.near c.args.gap.apart.count c.args.gap.near_bound.0 p.from_in_bounds.0 p.from_in_bounds.2 come gone c.if-come-gone-eq0.true p.total_value (c.fill.ensures.after (λ _ e. e));
+      value = still_sum row f c.args.counts.now c.args.from p.from_in_bounds.1 c.args.reach.apart.near c.args.reach.apart.count c.args.reach.near_bound.0 p.from_in_bounds.0 p.from_in_bounds.2 come gone c.if-come-gone-eq0.true p.total_value;
+      counts_after = still_written row f c.args.counts.now c.args.from p.from_in_bounds.1 c.args.reach.apart.near c.args.reach.apart.count c.args.reach.near_bound.0 p.from_in_bounds.0 p.from_in_bounds.2 come gone c.if-come-gone-eq0.true p.total_value (c.fill.ensures.after (λ _ e. e));
     }
 
 pub loop-o-init : goal.loop-o-init
@@ -43,8 +43,8 @@ overflow_add-sum c =
     let i = l.invariant in
     let f : (q : ℕ) → get_or a.row.now q 0 < 2 ^ 64 = λ q. omega (arith, c.type_inv.row q) in
     let u : l.o - 1 + 1 ≡ l.o = omega arith in
-    let comes = reads a.row.now a.counts.now l.counts a.from a.gap.apart.near a.gap.apart.count l.o (a.gap.apart.near + a.gap.apart.count) _ _ _ f c.requires.from_in_bounds.1 i.0 (omega arith) (omega arith) i.2 (omega arith) c.shifted-gone.ensures (rw u at c.before-in-loop-o.ensures) c.when.ensures in
-    omega (arith, comes, back_bound (masked (held a.row.now) a.counts.now) l.o a.gap.apart.near a.gap.apart.count i.3 count_most c.requires.by_index)
+    let comes = reads a.row.now a.counts.now l.counts a.from a.reach.apart.near a.reach.apart.count l.o (a.reach.apart.near + a.reach.apart.count) _ _ _ f c.requires.from_in_bounds.1 i.0 (omega arith) (omega arith) i.2 (omega arith) c.shifted-gone.ensures (rw u at c.before-in-loop-o.ensures) c.when.ensures in
+    omega (arith, comes, back_bound (masked (held a.row.now) a.counts.now) l.o a.reach.apart.near a.reach.apart.count i.3 count_most c.requires.by_index)
 
 pub overflow_sub-sum : goal.overflow_sub-sum
 overflow_sub-sum c =
@@ -53,9 +53,9 @@ overflow_sub-sum c =
     let i = l.invariant in
     let f : (q : ℕ) → get_or a.row.now q 0 < 2 ^ 64 = λ q. omega (arith, c.type_inv.row q) in
     let u : l.o - 1 + 1 ≡ l.o = omega arith in
-    let comes = reads a.row.now a.counts.now l.counts a.from a.gap.apart.near a.gap.apart.count l.o (a.gap.apart.near + a.gap.apart.count) _ _ _ f c.requires.from_in_bounds.1 i.0 (omega arith) (omega arith) i.2 (omega arith) c.shifted-gone.ensures (rw u at c.before-in-loop-o.ensures) c.when.ensures in
-    let goes = reads a.row.now a.counts.now l.counts a.from a.gap.apart.near a.gap.apart.count l.o a.gap.apart.near _ _ _ f c.requires.from_in_bounds.1 i.0 (omega arith) (omega arith) i.2 a.gap.near_bound.0 c.shifted-come.ensures (rw u at c.before-in-loop-o-2.ensures) c.when-in-loop-o.ensures in
-    omega (arith, comes, goes, back_least (masked (held a.row.now) a.counts.now) l.o a.gap.apart.near a.gap.apart.count i.3)
+    let comes = reads a.row.now a.counts.now l.counts a.from a.reach.apart.near a.reach.apart.count l.o (a.reach.apart.near + a.reach.apart.count) _ _ _ f c.requires.from_in_bounds.1 i.0 (omega arith) (omega arith) i.2 (omega arith) c.shifted-gone.ensures (rw u at c.before-in-loop-o.ensures) c.when.ensures in
+    let goes = reads a.row.now a.counts.now l.counts a.from a.reach.apart.near a.reach.apart.count l.o a.reach.apart.near _ _ _ f c.requires.from_in_bounds.1 i.0 (omega arith) (omega arith) i.2 a.reach.near_bound.0 c.shifted-come.ensures (rw u at c.before-in-loop-o-2.ensures) c.when-in-loop-o.ensures in
+    omega (arith, comes, goes, back_least (masked (held a.row.now) a.counts.now) l.o a.reach.apart.near a.reach.apart.count i.3)
 
 pub loop-o-preserved : goal.loop-o-preserved
 loop-o-preserved c =
@@ -64,10 +64,10 @@ loop-o-preserved c =
     let i = l.invariant in
     let f : (q : ℕ) → get_or a.row.now q 0 < 2 ^ 64 = λ q. omega (arith, c.type_inv.row q) in
     let u : l.o - 1 + 1 ≡ l.o = omega arith in
-    let comes = reads a.row.now a.counts.now l.counts a.from a.gap.apart.near a.gap.apart.count l.o (a.gap.apart.near + a.gap.apart.count) _ _ _ f c.requires.from_in_bounds.1 i.0 (omega arith) (omega arith) i.2 (omega arith) c.shifted-gone.ensures (rw u at c.before-in-loop-o.ensures) c.when.ensures in
-    let goes = reads a.row.now a.counts.now l.counts a.from a.gap.apart.near a.gap.apart.count l.o a.gap.apart.near _ _ _ f c.requires.from_in_bounds.1 i.0 (omega arith) (omega arith) i.2 a.gap.near_bound.0 c.shifted-come.ensures (rw u at c.before-in-loop-o-2.ensures) c.when-in-loop-o.ensures in
-    let r : l.sum + c.when.result - c.when-in-loop-o.result ≡ recent (masked (held a.row.now) a.counts.now) (l.o - 1) a.gap.apart.near a.gap.apart.count =
-    omega (arith, comes, goes, recent_back (masked (held a.row.now) a.counts.now) l.o a.gap.apart.near a.gap.apart.count i.3 (omega arith)) in
+    let comes = reads a.row.now a.counts.now l.counts a.from a.reach.apart.near a.reach.apart.count l.o (a.reach.apart.near + a.reach.apart.count) _ _ _ f c.requires.from_in_bounds.1 i.0 (omega arith) (omega arith) i.2 (omega arith) c.shifted-gone.ensures (rw u at c.before-in-loop-o.ensures) c.when.ensures in
+    let goes = reads a.row.now a.counts.now l.counts a.from a.reach.apart.near a.reach.apart.count l.o a.reach.apart.near _ _ _ f c.requires.from_in_bounds.1 i.0 (omega arith) (omega arith) i.2 a.reach.near_bound.0 c.shifted-come.ensures (rw u at c.before-in-loop-o-2.ensures) c.when-in-loop-o.ensures in
+    let r : l.sum + c.when.result - c.when-in-loop-o.result ≡ recent (masked (held a.row.now) a.counts.now) (l.o - 1) a.reach.apart.near a.reach.apart.count =
+    omega (arith, comes, goes, recent_back (masked (held a.row.now) a.counts.now) l.o a.reach.apart.near a.reach.apart.count i.3 (omega arith)) in
     (search rules, search rules, back_put _ _ _ i.2 r (search rules) (search rules), r, search rules)
 
 pub returns : goal.returns

@@ -8,5 +8,5 @@ use Rattle.rows.specs.Flags.{recent, around, back, masked}
 use Rattle.rows.proofs.counts.slide.Given as goal
 
 abbrev pub invariant-loop-o : goal.invariant-loop-o
-invariant-loop-o l = (l.o ≤ length l.initial.counts) × (length l.counts ≡ length l.initial.counts) × (l.counts ≡ back (around (masked (held l.row) l.initial.counts) l.gap.apart.near l.gap.apart.count) l.o l.initial.counts)
-    × (l.sum ≡ recent (masked (held l.row) l.initial.counts) l.o l.gap.apart.near l.gap.apart.count) × (l.from ≤ l.o)
+invariant-loop-o l = (l.o ≤ length l.initial.counts) × (length l.counts ≡ length l.initial.counts) × (l.counts ≡ back (around (masked (held l.row) l.initial.counts) l.reach.apart.near l.reach.apart.count) l.o l.initial.counts)
+    × (l.sum ≡ recent (masked (held l.row) l.initial.counts) l.o l.reach.apart.near l.reach.apart.count) × (l.from ≤ l.o)

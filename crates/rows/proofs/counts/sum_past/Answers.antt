@@ -10,4 +10,4 @@ use Rattle.rows.proofs.counts.sum_past.Goals as goal
 pub returns-then-to-eq0 : goal.returns-then-to-eq0
 returns-then-to-eq0 c =
     let a = c.args in
-    λ h. sym (recent_out (masked (held a.at.row.now) a.counts.now) (length a.counts.now) a.at.gap.apart.near a.at.gap.apart.count (omega arith))
+    λ h. sym (recent_out (masked (held a.at.row.now) a.counts.now) (length a.counts.now) a.at.reach.apart.near a.at.reach.apart.count (omega arith))

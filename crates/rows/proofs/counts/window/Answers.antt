@@ -15,7 +15,7 @@ pub overflow_add-total : goal.overflow_add-total
 overflow_add-total c =
     let a = c.args in
     let l = c.loop-k in
-    omega (arith, recent_sum_bound (masked (held a.ways.row.now) a.ways.counts.now) count_most a.ways.few a.o a.gap.apart.near l.k, ago_bound (masked (held a.ways.row.now) a.ways.counts.now) count_most a.ways.few a.o (a.gap.apart.near + l.k))
+    omega (arith, recent_sum_bound (masked (held a.ways.row.now) a.ways.counts.now) count_most a.ways.few a.o a.reach.apart.near l.k, ago_bound (masked (held a.ways.row.now) a.ways.counts.now) count_most a.ways.few a.o (a.reach.apart.near + l.k))
 
 pub loop-k-preserved : goal.loop-k-preserved
 loop-k-preserved c = (search rules, recent_more _ _ _ _ c.loop-k.invariant.1 c.held_before-total.ensures)

@@ -7,4 +7,4 @@ use Rattle.rows.specs.Flags.{recent, masked}
 use Rattle.rows.proofs.counts.window.Given as goal
 
 abbrev pub invariant-loop-k : goal.invariant-loop-k
-invariant-loop-k l = (l.k ≤ l.gap.apart.count) × (l.total ≡ recent (masked (held l.ways.row.now) l.ways.counts.now) l.o l.gap.apart.near l.k)
+invariant-loop-k l = (l.k ≤ l.reach.apart.count) × (l.total ≡ recent (masked (held l.ways.row.now) l.ways.counts.now) l.o l.reach.apart.near l.k)

@@ -10,4 +10,4 @@ abbrev pub invariant-loop-w : goal.invariant-loop-w
 invariant-loop-w l = (l.w ≤ row_marks)
     × (length l.spare ≡ length l.initial.spare)
     × (length l.row ≡ length l.initial.row)
-    × (Rewritten (is_marked l.initial.row) (window_at l.gap.apart.near l.gap.apart.count l.layout.lengths.now l.initial.row) l.layout.lengths.now 0 (l.w * 64) l.initial.row l.row)
+    × (Rewritten (is_marked l.initial.row) (window_at l.reach.apart.near l.reach.apart.count l.layout.lengths.now l.initial.row) l.layout.lengths.now 0 (l.w * 64) l.initial.row l.row)

@@ -43,7 +43,7 @@ loop-place-preserved c =
     let inside : c.words-from.result.1 ≤ length l.row = omega (arith, t.1, c.args.layout.now.inside, i.1) in
     let e = part_opened _ _ l.row t.0 inside o.new.row o.auto.row o.ensures in
     let f = drop_put _ _ l.row o.new.row t.0 inside (o.auto.row ∙ mid_len _ _ l.row inside) in
-    let x = window_is_at _ _ n.inside k.0 k.1 a.gap.apart.near a.gap.apart.count l.row ∙ later_window _ _ _ _ g.so_far.later a.gap.apart.near a.gap.apart.count _ n.later in
+    let x = window_is_at _ _ n.inside k.0 k.1 a.reach.apart.near a.reach.apart.count l.row ∙ later_window _ _ _ _ g.so_far.later a.reach.apart.near a.reach.apart.count _ n.later in
     let up : a.w * 64 + c.in-Some.place + 1 ≡ a.w * 64 + (c.in-Some.place + 1) = omega arith in (
       same_len_mid _ _ l.spare o.new.spare o.auto.spare ∙ i.0,
       e.1 ∙ i.1,

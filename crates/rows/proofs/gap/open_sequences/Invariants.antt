@@ -15,4 +15,4 @@ Opened w ns d count x y e = Rewritten (is_marked x) (window_at d count ns x) ns 
 abbrev pub invariant-loop-place : goal.invariant-loop-place
 invariant-loop-place l = (length l.spare ≡ length l.initial.spare)
     × (length l.row ≡ length l.initial.row)
-    × (Walk (Opened l.w l.layout.lengths.now l.gap.apart.near l.gap.apart.count l.initial.row l.row) (get_or l.initial.row l.w 0) l.place-iterator.0)
+    × (Walk (Opened l.w l.layout.lengths.now l.reach.apart.near l.reach.apart.count l.initial.row l.row) (get_or l.initial.row l.w 0) l.place-iterator.0)

@@ -7,7 +7,7 @@ use Rattle.rows.specs.Rows.{window}
 use Rattle.rows.proofs.gap.open_word.Given as goal
 
 abbrev pub invariant-loop-have : goal.invariant-loop-have
-invariant-loop-have l = (1 ≤ l.have) × (l.have ≤ l.gap.apart.count) × (held (l.all ∷ []) ≡ window 0 l.have (held (l.word ∷ [])))
+invariant-loop-have l = (1 ≤ l.have) × (l.have ≤ l.reach.apart.count) × (held (l.all ∷ []) ≡ window 0 l.have (held (l.word ∷ [])))
 
 abbrev pub decreases-loop-have : goal.decreases-loop-have
-decreases-loop-have l = l.gap.apart.count - l.have
+decreases-loop-have l = l.reach.apart.count - l.have
