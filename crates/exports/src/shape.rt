@@ -8,7 +8,8 @@ use rules::{Component, Profile, Template};
 // The numbers of a shape: three for each slot that there is.
 const SIZE: usize = 3 * Template::COMPONENTS as usize;
 
-// The number at an index of a shape, and 0 past its end.
+// The number at an index of a shape, and 0 past its end: a name for the library's chain, as `ways` has one for its width. A generic of both
+// would have to stand in `rules`, among the paper's types.
 fn at(shape: &[u16], i: usize) -> u16
     ensures { result ≡ get_or shape.now i 0 }
 {

@@ -26,8 +26,9 @@ fn frequent(quorum: u64, found: Option<u32>) -> bool
 }
 
 // 13, of a leg: a place that the search does not pass through. It passes through the ended place and through each candidate: each place
-// whose prefix a letter shorter is frequent. Where there is a candidate, the slots have its path then, on which the leg goes. That the place keeps its rule is a clause here and twice below, and no type: one of a search with that fact would
-// serve the two below alone, as here the search is the plan's.
+// whose prefix a letter shorter is frequent. Where there is a candidate, the slots have its path then, on which the leg goes. That the
+// place keeps its rule is a clause here and twice below, and no type: one of a search with that fact would serve the two below alone, as
+// here the search is the plan's.
 pub fn check_passes(
     made: &Made,
     slots: &mut [[u64; WORDS]; SLOTS],

@@ -13,7 +13,7 @@ use super::words::{self, Shift};
 // The words of a stretch: so many of a long row are looked at together.
 const STRETCH: usize = 16;
 
-// The count, where the bit is 1, and else 0. `pick` in matching is its like for a bool: a line each, no shorter by a generic of a crate below.
+// The count, where the bit is 1, and else 0. `pick` in matching is its like for a bool: each a line, and a generic below both no plainer.
 fn when(bit: u64, count: u64) -> u64
     ensures { result ≡ if (eqb bit 1) count 0 }
 {

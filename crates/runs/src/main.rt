@@ -7,7 +7,7 @@ mod tell;
 use rules::{Component, Offset, Profile, SequenceSet, Sequences, Template};
 use std::fmt::Display;
 
-// What a search is begun over.
+// What a search is begun over: the letters and the lengths apart, since a fact changes one of them.
 #[derive(Clone, Copy)]
 struct Case<'a> {
     letters: &'a [u8],
