@@ -66,7 +66,7 @@ for crate in $crates; do
         { sub(/\/\/.*/, "") }
         file == "lib" && /^pub (mod|use) / { module = $3; sub(/[:;].*/, "", module); public[module] = 1 }
         /^pub struct / { type = $3; sub(/[<({].*/, "", type) }
-        /^ *pub ghost / { fact = $3; sub(/:.*/, "", fact); print "holds " crate "::" type " " fact }
+        /^ *pub ghost / && file in public { fact = $3; sub(/:.*/, "", fact); print "holds " crate "::" type " " fact }
         /^impl[ <]/ { type = $0; sub(/^impl(<[^>]*>)? +/, "", type); sub(/[ <{].*/, "", type) }
         /(^| )fn / {
             name = $0; sub(/.*fn /, "", name); sub(/[^a-z0-9_].*/, "", name)
