@@ -15,7 +15,8 @@ ghost use Rattle.rules.specs.Saved.{meets_place_rule};
 ghost use Rattle.rules.specs.Told.{told_checked};
 
 use rules::{
-    Component, Letter, Offset, Place, RecordNumber, Refusal, Search, SequenceSet, Sequences, Template,
+    Component, Letter, Offset, Place, RecordNumber, Refusal, Search, SequenceSet, Sequences,
+    Template,
 };
 use spelled::valid;
 
