@@ -20,6 +20,7 @@ fn write_pages(rt: &impl Print, set: &Sequences, first: Left)
 {
     let mut pages = Pages::new(set);
     let mut left = Some(first);
+    // From what is left to what a page leaves, which is known once it is written.
     while let Some(now) = left {
         let page = pages.next(now);
         let wrote = rt.write_all(&pages.out[..page.length]).is_ok();

@@ -130,7 +130,8 @@ pub fn print_row(template: Template, motif: u64, support: u32, weight: u64, out:
     line.at
 }
 
-// A page: the lines of the first `rows` rows of three tables, which hold motifs, their supports and their weighted supports.
+// A page: the lines of the first `rows` rows of three tables, which hold motifs, their supports and their weighted supports: apart, as a
+// leg fills them for C.
 pub fn print_page(
     template: Template,
     motifs: &[u64],
