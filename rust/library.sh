@@ -3,9 +3,11 @@
 #
 # `rt check` proves the crate `exports`, which is a static library, and all that it is made of; where the gate has just proved them, that
 # is left out. The archive is then what the kit's prover builds over what was proved (rattle_over, in kit.sh), as `rt lib` has it do,
-# but with three words more: what processor it is for, and the folder of a compiler. That is the kit's own, told one thing besides:
-# loops of more than eight rounds are not written out round by round. Some were, where a row's words are added up, and lost their speed
-# by it (6 in 100 of a search over one long sequence). The functions in the archive are aligned.
+# but with three words more: what processor it is for, and the folder of a compiler. That is the kit's own, told two things besides.
+# Loops of more than eight rounds are not written out round by round: some were, where a row's words are added up, and lost their speed
+# by it (6 in 100 of a search over one long sequence). And no branch lies across 32 bytes: many of Intel's processors run such a one much
+# more slowly, and a leg over one long sequence took a third longer by where its loop happened to lie. The functions in the archive are
+# aligned.
 #
 # An archive made from the same sources is kept: their sum and its own are beside it.
 set -eu
@@ -103,13 +105,15 @@ for from in "$tools"/* "$tools"/bin/*; do
     to=$work/tools/${from#"$tools/"}
     [ "$to" = "$work/tools/bin" ] || [ "$to" = "$work/tools/bin/clang" ] || ln -s "$from" "$to"
 done
+machine=$(uname -m)
+branches=''
+[ "$machine" != x86_64 ] || branches='-mllvm -x86-branches-within-32B-boundaries'
 cat >"$work/tools/bin/clang" <<END_OF_COMPILER
 #!/bin/sh
-exec "$tools/bin/clang" "\$@" -mllvm -unroll-full-max-count=8
+exec "$tools/bin/clang" "\$@" -mllvm -unroll-full-max-count=8 $branches
 END_OF_COMPILER
 chmod +x "$work/tools/bin/clang"
 
-machine=$(uname -m)
 quietly rattle_over build exports --target "$machine-unknown-linux-gnu" --toolchain "$work/tools" --backend llvm -o "$work/libtulfasheq.a"
 
 # Has each function of an archive begin at a multiple of 64 bytes. Where it begins hangs else on what a program has before it, and
