@@ -125,7 +125,7 @@ pub fn run(
         counted: None,
         counts: [0; SequenceSet::LETTERS],
     };
-    // From candidate to candidate, each of which the step before finds: there is no number to count by.
+    // From candidate to candidate, each of which the step before finds; the steps are counted beside it.
     while place.letters > 0 {
         if steps == budget {
             return stopped(Stop::Spent, steps, rows, s, place);

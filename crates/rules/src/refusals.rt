@@ -57,7 +57,7 @@ impl Refusal {
     }
 }
 
-// The two calls below are those of `Refusal`, and no trait: nothing takes a refusal of either kind.
+// The two calls below are those of `Refusal`, and no trait: what prints a refusal of either kind takes its two numbers.
 impl FileRefusal {
     // Its number in the paper.
     pub fn number(self) -> u64

@@ -69,7 +69,7 @@ fn check_end(input: &[u8]) -> Result<(), Refusal>
 {
     let mut line = 1;
     let mut rest = input;
-    // From line to line: nothing is counted that a `for` could go by.
+    // From line to line, as long as one ends; the lines are counted beside it.
     while let Some((_, others)) = split_once(b'\n', rest) {
         line += 1;
         rest = others;
