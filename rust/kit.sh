@@ -35,7 +35,7 @@ is_program() { # NAME
 # One sum of the kit's name, crates.txt, and every file of these crates but the edits that must fail and what rt made.
 sources() { # NAME..
     {
-        rt version
+        rt version </dev/null
         cat crates.txt
         for crate; do
             find "crates/$crate" \( -name must-fail -o -path "crates/$crate/out" \) -prune -o -type f -exec sha256sum {} +
