@@ -1,12 +1,16 @@
--- What came is at the front of the buffer, and no more than there is room for.
-use Rattle.std.proofs.Common.{◌≡◌, ◌≤◌, ◌-◌, take, length}
-use Rattle.std.specs.Io.KnownBytes.{Consumes}
+-- What came is at the front of the buffer. Where that is all, the buffer is full or the input at its end; where it is not, there is room
+-- for more.
+use Rattle.std.proofs.Common.{◌≡◌, ◌≤◌, ◌<◌, ◌-◌, length, take, true, false}
+use Rattle.std.specs.Io.KnownBytes.{Consumes, IsAtEnd}
+use Rattle.rules.specs.Lists.{if}
 use Rattle.stdin.proofs.read_all.Given as goal
 
-abbrev pub invariant-loop-n : goal.invariant-loop-n
-invariant-loop-n g l = (l.n ≤ length l.buffer)
+abbrev pub invariant-loop-came : goal.invariant-loop-came
+invariant-loop-came g l = (l.came.bytes ≤ length l.buffer)
     × (length l.buffer ≡ length l.initial.buffer)
-    × Consumes (g.R.Read.remaining l.initial.input) (g.R.Read.remaining l.input) (take l.n l.buffer)
+    × (l.came.all ≡ false → l.came.bytes < length l.buffer)
+    × (l.came.all ≡ true → l.came.bytes < length l.buffer → IsAtEnd (g.R.Read.remaining l.input))
+    × Consumes (g.R.Read.remaining l.initial.input) (g.R.Read.remaining l.input) (take l.came.bytes l.buffer)
 
-abbrev pub decreases-loop-n : goal.decreases-loop-n
-decreases-loop-n g l = length l.buffer - l.n
+abbrev pub decreases-loop-came : goal.decreases-loop-came
+decreases-loop-came g l = if l.came.all 0 (length l.buffer - l.came.bytes)
