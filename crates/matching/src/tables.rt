@@ -4,13 +4,13 @@ ghost use Rattle.std.specs.Prelude.{true, ◌≡◌, ℕ, ◌+◌, ◌*◌, ◌�
 ghost use Rattle.rules.specs.Limits.{letter_bases, template_length, template_components};
 ghost use Rattle.rules.specs.Profile.{base_of};
 ghost use Rattle.rules.specs.Template as templates;
-ghost use Rattle.matching.specs.Path.{letter_shifts, row_slot, spot, Slot, Inside, BaseRows};
+ghost use Rattle.matching.specs.Path.{letter_shifts, spot, Slot, Inside, BaseRows};
 ghost use Rattle.rows.specs.Set.{Offsets};
 
+use super::WORDS;
 use super::letters::{letter_rows, letter_slots};
 use super::made::{Made, Plan, Spot, Task, Weighing};
 use super::path::first_slot;
-use super::{SLOTS, WORDS};
 
 // The places of the `n` letters of component `k`, the first of which is letter `from` of a motif.
 fn place_component(k: u8, n: u8, from: usize, inside: &mut [Spot])
@@ -86,16 +86,16 @@ pub fn make<'a, 's: 'a>(
     firsts: &'a mut [u32],
     offsets: &'a mut [u32],
     standing: &'a mut [[u64; WORDS]],
-    slots: &mut [[u64; WORDS]; SLOTS],
+    slot: &mut [u64; WORDS],
     work: &mut [u64; WORDS],
 ) -> Weighing<'a>
     requires template_in_bounds { (templates.size task.now.search.template ≤ length inside.old) × (length task.now.set.lengths.now < length firsts.old) × (length task.now.set.lengths.now < length offsets.old) × (base_of task.now.search.template ≤ length standing.old) × (length standing.old ≤ letter_shifts * letter_bases) }
     ensures plan { (result.made.plan.search ≡ task.now.search) × (result.made.plan.letters.now ≡ task.now.set.letters.now) × (result.made.plan.layout.lengths.now ≡ task.now.set.lengths.now) }
-    ensures slot { Slot task.now.search.template task.now.set.lengths.now task.now.set.letters.now (row_slot 0 slots.new) 0 0 }
+    ensures slot { Slot task.now.search.template task.now.set.lengths.now task.now.set.letters.now slot.new 0 0 }
     ensures inside_len_unchanged { (length result.made.plan.inside.now ≡ length inside.old) × (length result.made.plan.layout.firsts.now ≡ length firsts.old) }
     ensures standing_len_unchanged { (length result.offsets.now ≡ length offsets.old) × (length result.made.standing.now ≡ length standing.old) }
 {
-    let plan = begin(task, inside, firsts, offsets, standing, &mut slots[0]);
+    let plan = begin(task, inside, firsts, offsets, standing, slot);
     letter_rows(&plan, work, standing);
     let made = Made { plan, standing };
     Weighing { made, offsets }
