@@ -45,7 +45,8 @@ fn place_letters(task: &Task, inside: &mut [Spot])
     }
 }
 
-// All but the rows of the letters that only a motif has.
+// All but the rows of the letters that only a motif has. The plan holds the very tables that are lent, so what its types say of them
+// (`placed`, `laid`) is so of those, as in `lay_out`.
 pub fn begin<'a, 's: 'a>(
     task: &Task<'s>,
     inside: &'a mut [Spot],
@@ -56,6 +57,7 @@ pub fn begin<'a, 's: 'a>(
 ) -> Plan<'a>
     requires template_in_bounds { (templates.size task.now.search.template ≤ length inside.old) × (length task.now.set.lengths.now < length firsts.old) × (length task.now.set.lengths.now < length offsets.old) × (letter_bases ≤ length standing.old) }
     ensures plan { (result.search ≡ task.now.search) × (result.letters.now ≡ task.now.set.letters.now) × (result.layout.lengths.now ≡ task.now.set.lengths.now) }
+    ensures same_tables { (result.inside.ref_ptr ≡ inside.entry.ref_ptr) × (result.layout.firsts.ref_ptr ≡ firsts.entry.ref_ptr) }
     ensures offsets { Offsets task.now.set.lengths.now offsets.new }
     ensures base_rows { BaseRows task.now.set.lengths.now task.now.set.letters.now standing.new }
     ensures slot { Slot task.now.search.template task.now.set.lengths.now task.now.set.letters.now slot.new 0 0 }
@@ -78,8 +80,9 @@ pub fn begin<'a, 's: 'a>(
     plan
 }
 
-// All of it, and the first slot of the path. `work` is lent for a row. The letters' rows are kept for as many places as `standing` has room
-// for, at least one.
+// All of it, in the tables that are lent, and the first slot of the path. `work` is lent for a row. The letters' rows are kept for as many
+// places as `standing` has room for, at least one.
+#[tactic(auto, using(rules::proofs::EachKind::base_least))]
 pub fn make<'a, 's: 'a>(
     task: &Task<'s>,
     inside: &'a mut [Spot],
@@ -91,6 +94,7 @@ pub fn make<'a, 's: 'a>(
 ) -> Weighing<'a>
     requires template_in_bounds { (templates.size task.now.search.template ≤ length inside.old) × (length task.now.set.lengths.now < length firsts.old) × (length task.now.set.lengths.now < length offsets.old) × (base_of task.now.search.template ≤ length standing.old) × (length standing.old ≤ letter_shifts * letter_bases) }
     ensures plan { (result.made.plan.search ≡ task.now.search) × (result.made.plan.letters.now ≡ task.now.set.letters.now) × (result.made.plan.layout.lengths.now ≡ task.now.set.lengths.now) }
+    ensures same_tables { (result.made.plan.inside.ref_ptr ≡ inside.entry.ref_ptr) × (result.made.plan.layout.firsts.ref_ptr ≡ firsts.entry.ref_ptr) × (result.offsets.ref_ptr ≡ offsets.entry.ref_ptr) × (result.made.standing.ref_ptr ≡ standing.entry.ref_ptr) }
     ensures slot { Slot task.now.search.template task.now.set.lengths.now task.now.set.letters.now slot.new 0 0 }
     ensures inside_len_unchanged { (length result.made.plan.inside.now ≡ length inside.old) × (length result.made.plan.layout.firsts.now ≡ length firsts.old) }
     ensures standing_len_unchanged { (length result.offsets.now ≡ length offsets.old) × (length result.made.standing.now ≡ length standing.old) }
