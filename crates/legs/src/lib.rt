@@ -49,7 +49,7 @@ pub fn leg(
         &mut firsts,
         &mut offsets,
         &mut standing,
-        &mut slots,
+        &mut slots[0],
         &mut work,
     );
     match places::check_passes(&weighing.made, &mut slots, &mut spare) {

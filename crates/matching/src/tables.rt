@@ -4,13 +4,13 @@ ghost use Rattle.std.specs.Prelude.{true, ◌≡◌, ℕ, ◌+◌, ◌*◌, ◌�
 ghost use Rattle.rules.specs.Limits.{letter_bases, template_length, template_components};
 ghost use Rattle.rules.specs.Profile.{base_of};
 ghost use Rattle.rules.specs.Template as templates;
-ghost use Rattle.matching.specs.Path.{letter_shifts, row_slot, spot, Slot, Inside, BaseRows};
+ghost use Rattle.matching.specs.Path.{letter_shifts, spot, Slot, Inside, BaseRows};
 ghost use Rattle.rows.specs.Set.{Offsets};
 
+use super::WORDS;
 use super::letters::{letter_rows, letter_slots};
 use super::made::{Made, Plan, Spot, Task, Weighing};
 use super::path::first_slot;
-use super::{SLOTS, WORDS};
 
 // The places of the `n` letters of component `k`, the first of which is letter `from` of a motif.
 fn place_component(k: u8, n: u8, from: usize, inside: &mut [Spot])
@@ -45,7 +45,8 @@ fn place_letters(task: &Task, inside: &mut [Spot])
     }
 }
 
-// All but the rows of the letters that only a motif has.
+// All but the rows of the letters that only a motif has. The plan holds the very tables that are lent, so what its types say of them
+// (`placed`, `laid`) is so of those, as in `lay_out`.
 pub fn begin<'a, 's: 'a>(
     task: &Task<'s>,
     inside: &'a mut [Spot],
@@ -56,6 +57,7 @@ pub fn begin<'a, 's: 'a>(
 ) -> Plan<'a>
     requires template_in_bounds { (templates.size task.now.search.template ≤ length inside.old) × (length task.now.set.lengths.now < length firsts.old) × (length task.now.set.lengths.now < length offsets.old) × (letter_bases ≤ length standing.old) }
     ensures plan { (result.search ≡ task.now.search) × (result.letters.now ≡ task.now.set.letters.now) × (result.layout.lengths.now ≡ task.now.set.lengths.now) }
+    ensures same_tables { (result.inside.ref_ptr ≡ inside.entry.ref_ptr) × (result.layout.firsts.ref_ptr ≡ firsts.entry.ref_ptr) }
     ensures offsets { Offsets task.now.set.lengths.now offsets.new }
     ensures base_rows { BaseRows task.now.set.lengths.now task.now.set.letters.now standing.new }
     ensures slot { Slot task.now.search.template task.now.set.lengths.now task.now.set.letters.now slot.new 0 0 }
@@ -78,24 +80,26 @@ pub fn begin<'a, 's: 'a>(
     plan
 }
 
-// All of it, and the first slot of the path. `work` is lent for a row. The letters' rows are kept for as many places as `standing` has room
-// for, at least one.
+// All of it, in the tables that are lent, and the first slot of the path. `work` is lent for a row. The letters' rows are kept for as many
+// places as `standing` has room for, at least one.
+#[tactic(auto, using(rules::proofs::EachKind::base_least))]
 pub fn make<'a, 's: 'a>(
     task: &Task<'s>,
     inside: &'a mut [Spot],
     firsts: &'a mut [u32],
     offsets: &'a mut [u32],
     standing: &'a mut [[u64; WORDS]],
-    slots: &mut [[u64; WORDS]; SLOTS],
+    slot: &mut [u64; WORDS],
     work: &mut [u64; WORDS],
 ) -> Weighing<'a>
     requires template_in_bounds { (templates.size task.now.search.template ≤ length inside.old) × (length task.now.set.lengths.now < length firsts.old) × (length task.now.set.lengths.now < length offsets.old) × (base_of task.now.search.template ≤ length standing.old) × (length standing.old ≤ letter_shifts * letter_bases) }
     ensures plan { (result.made.plan.search ≡ task.now.search) × (result.made.plan.letters.now ≡ task.now.set.letters.now) × (result.made.plan.layout.lengths.now ≡ task.now.set.lengths.now) }
-    ensures slot { Slot task.now.search.template task.now.set.lengths.now task.now.set.letters.now (row_slot 0 slots.new) 0 0 }
+    ensures same_tables { (result.made.plan.inside.ref_ptr ≡ inside.entry.ref_ptr) × (result.made.plan.layout.firsts.ref_ptr ≡ firsts.entry.ref_ptr) × (result.offsets.ref_ptr ≡ offsets.entry.ref_ptr) × (result.made.standing.ref_ptr ≡ standing.entry.ref_ptr) }
+    ensures slot { Slot task.now.search.template task.now.set.lengths.now task.now.set.letters.now slot.new 0 0 }
     ensures inside_len_unchanged { (length result.made.plan.inside.now ≡ length inside.old) × (length result.made.plan.layout.firsts.now ≡ length firsts.old) }
     ensures standing_len_unchanged { (length result.offsets.now ≡ length offsets.old) × (length result.made.standing.now ≡ length standing.old) }
 {
-    let plan = begin(task, inside, firsts, offsets, standing, &mut slots[0]);
+    let plan = begin(task, inside, firsts, offsets, standing, slot);
     letter_rows(&plan, work, standing);
     let made = Made { plan, standing };
     Weighing { made, offsets }

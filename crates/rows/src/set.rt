@@ -20,11 +20,14 @@ fn words_of(n: u32) -> u32
     n.div_ceil(64)
 }
 
-// Writes where each sequence's words begin in a row, and where its letters do in the buffer.
+// Writes where each sequence's words begin in a row, and where its letters do in the buffer. The layout holds the very table that is lent,
+// so what its type says of it (`laid`) is so of that table: a `&mut` that goes on into the answer as a `&` has no value that a clause could
+// name after the call.
 pub fn lay_out<'a>(lengths: &'a [u32], firsts: &'a mut [u32], offsets: &mut [u32]) -> Layout<'a>
     requires lengths_len_bound { (length lengths.now ≤ sequence_set_sequences) × (lists.sum lengths.now ≤ sequence_set_letters) }
     requires lengths_in_bounds { (length lengths.now < length firsts.old) × (length lengths.now < length offsets.old) }
     ensures layout { result.lengths.now ≡ lengths.now }
+    ensures same_table { result.firsts.ref_ptr ≡ firsts.entry.ref_ptr }
     ensures firsts_len_unchanged { length result.firsts.now ≡ length firsts.old }
     ensures offsets { Offsets lengths.now offsets.new }
     ensures offsets_len_unchanged { length offsets.new ≡ length offsets.old }

@@ -67,6 +67,7 @@ returns c =
     let o : length l.offsets ≡ length c.args.offsets.now = l.invariant.2 ∙ length-set c.args.offsets.now 0 0 in
     record {
       layout = refl;
+      same_table = refl;
       firsts_len_unchanged = l.invariant.1 ∙ length-set c.args.firsts.now 0 row_marks;
       offsets = tabled_offsets _ _ _ (search rules) (omega (arith, o, c.requires.lengths_in_bounds.1)) l.invariant.6;
       offsets_len_unchanged = o;
