@@ -50,7 +50,8 @@ fn extend(
     ensures value { quorum ≤ result → result ≡ support (parts plan.now.search.template place.letters place.number) (sequences plan.now.letters.now plan.now.layout.lengths.now) }
     ensures row { quorum ≤ result → Row (prefix_starts plan.now.search.template place.letters place.number) plan.now.layout.lengths.now plan.now.letters.now work.new }
 {
-    set::keep_all(&plan.layout, slot, test.row, test.by, quorum, work)
+    let row = test.row;
+    set::keep_all(&plan.layout, slot, row, test.by, quorum, work)
 }
 
 // The same for a candidate whose path stands in the slots.

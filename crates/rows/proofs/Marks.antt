@@ -59,6 +59,14 @@ module _ (ns x y : List ℕ) (w v : ℕ) (s : w < row_marks) (stays : take (firs
 pub marked_none : (h : ℕ → Bool) (x : List ℕ) → Marked h x 0
 marked_none h x = record { same = λ k l. absurd (omega arith) }
 
+-- a row has room for the marks, and so has each that is as long
+module _ (ns : List ℕ) (k : ℕ) {a b n m : ℕ} (e : a ≡ b) (f : b ≡ n) (g : n ≡ m) (h : first_word ns k ≤ m) where
+  pub marks_in : row_marks ≤ a
+  marks_in = omega (arith, first_past ns k)
+
+  pub mark_in : (w : ℕ) → w < row_marks → w < a
+  mark_in w s = omega (arith, first_past ns k)
+
 -- COUNTING the marks of the first n words
 module _ (n : ℕ) (ws : List ℕ) (i : ℕ) where
   pub counted_step : i < n → n ≤ length ws → get_or ws i 0 < 2 ^ 64

@@ -49,13 +49,13 @@ module _ (i : ℕ) (ns ls ws : List ℕ) where
     pub filled : quorum ≤ possible → Filled (is_marked ws) (extended_at i ns ls ws) ns out (min (w * 64) (length ns))
     pub marks : quorum ≤ possible → Marked (is_extended_marked i ns ls ws) out (w * 64)
 
-  -- what is answered
-  abbrev pub Answered : ℕ → List ℕ → ℕ → Type 0
-  Answered quorum out r =
+  -- what is answered of a row of n words
+  abbrev pub Answered : ℕ → ℕ → List ℕ → ℕ → Type 0
+  Answered quorum n out r =
       (tally (is_extended_marked i ns ls ws) 0 1024 ≤ r)
       × ((quorum ≤ r → r ≡ tally (is_extended_marked i ns ls ws) 0 1024)
       × ((quorum ≤ r → Marked (is_extended_marked i ns ls ws) out 1024)
-      × (quorum ≤ r → Filled (is_marked ws) (extended_at i ns ls ws) ns out (length ns))))
+      × ((quorum ≤ r → Filled (is_marked ws) (extended_at i ns ls ws) ns out (length ns)) × (length out ≡ n))))
 
   small : (x b : ℕ) → digit x b < 2
   unfolding digit
@@ -114,10 +114,10 @@ module _ (i : ℕ) (ns ls ws : List ℕ) where
         omega (arith, a, p.most, less (w * 64) (1024 - w * 64))
 
     -- A STOP below the quorum: so many as can still have one are answered
-    pub stopped : w ≤ 16 → possible < quorum → Answered quorum out possible
-    stopped l few = (
+    pub stopped : w ≤ 16 → possible < quorum → {n : ℕ} → length out ≡ n → Answered quorum n out possible
+    stopped l few same = (
       possible_most l,
-      ((λ h. absurd (omega (arith, few, h))), ((λ h. absurd (omega (arith, few, h))), (λ h. absurd (omega (arith, few, h))))),
+      ((λ h. absurd (omega (arith, few, h))), ((λ h. absurd (omega (arith, few, h))), ((λ h. absurd (omega (arith, few, h))), same))),
     )
 
     -- THE END: every word of marks that the set has is written, those behind them are cleared, and the sum of the counts of ones is how
@@ -145,10 +145,10 @@ module _ (i : ℕ) (ns ls ws : List ℕ) where
           c ∙ marks_tally n y wide ∙ tally_same (is_extended_marked i ns ls ws) (is_marked y) 0 (n * 64) (λ k l u. end_marks.same k (omega arith))
           ∙ sym (tally_end (is_extended_marked i ns ls ws) 0 (n * 64) 1024 (omega arith) (λ k l u. none_new bounded n enough k (omega arith) (omega arith)))
 
-      pub ended : n ≤ length y → {support : ℕ} → support ≡ sum (held (take n y)) → Answered quorum y support
-      ended wide c =
+      pub ended : n ≤ length y → {support : ℕ} → support ≡ sum (held (take n y)) → {m : ℕ} → length y ≡ m → Answered quorum m y support
+      ended wide c same =
           let t = end_counted wide c in
-          (omega (arith, t), ((λ _. t), ((λ _. end_marks), (λ _. end_filled))))
+          (omega (arith, t), ((λ _. t), ((λ _. end_marks), ((λ _. end_filled), same))))
 
     -- A TURN, the next word of marks: of its sequences so many are lost
     module _ (h : quorum ≤ possible) (s : w < row_marks) (lost : ℕ)

@@ -1,9 +1,10 @@
 // Where the words of each sequence of a set lie in a row.
 ghost use Rattle.std.specs.Prelude.{true, ◌≡◌, ℕ, ◌+◌, ◌≤◌, ◌<◌, length, get_or};
 ghost use Rattle.rules.specs.Limits.{sequence_set_sequences};
-ghost use Rattle.rows.specs.Set.{row_words, words_of, first_word, Firsts};
+ghost use Rattle.rows.specs.Set.{words_of, first_word, Firsts};
 
 // The lengths of a set's sequences, and where the words of each begin, and those of all end, in a row. In a short set each has one word.
+// That a row has room for them is no fact of it: a row may be of any length, and a function that takes one says what it needs.
 #[derive(Clone, Copy)]
 pub struct Layout<'a> {
     pub lengths: &'a [u32],
@@ -11,7 +12,6 @@ pub struct Layout<'a> {
     pub short: bool,
     pub ghost few: { length lengths.now ≤ sequence_set_sequences },
     pub ghost laid: { Firsts lengths.now firsts.now },
-    pub ghost inside: { first_word lengths.now (length lengths.now) ≤ row_words },
     pub ghost ones: { short ≡ true → (k : ℕ) → k < length lengths.now → words_of (get_or lengths.now k 0) ≡ 1 },
 }
 

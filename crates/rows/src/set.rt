@@ -28,6 +28,7 @@ pub fn lay_out<'a>(lengths: &'a [u32], firsts: &'a mut [u32], offsets: &mut [u32
     requires lengths_in_bounds { (length lengths.now < length firsts.old) × (length lengths.now < length offsets.old) }
     ensures layout { result.lengths.now ≡ lengths.now }
     ensures same_table { result.firsts.ref_ptr ≡ firsts.entry.ref_ptr }
+    ensures inside { first_word lengths.now (length lengths.now) ≤ row_words }
     ensures firsts_len_unchanged { length result.firsts.now ≡ length firsts.old }
     ensures offsets { Offsets lengths.now offsets.new }
     ensures offsets_len_unchanged { length offsets.new ≡ length offsets.old }
@@ -98,23 +99,25 @@ pub struct Kept {
 }
 
 // One letter more in the sequences of one word of marks, those that have one. It stops where more than `most` of them have lost theirs.
-// Here and below two facts stay clauses. That no mark stands past the last sequence (`Bounded`): a type of layout and row would hold it of
+// Here and below three facts stay clauses. That no mark stands past the last sequence (`Bounded`): a type of layout and row would hold it of
 // rows that are read, but `open_all` writes its row, and where a plan has the layout, a clause would have to say that both are one. That
-// `w` is one of the words of marks: a type would hold it of one number, which each caller counts up to that bound.
+// `w` is one of the words of marks: a type would hold it of one number, which each caller counts up to that bound. And that the rows have
+// room for the set's words: they need be no longer, and so are slices, not arrays of as many words as any set may have.
 fn keep_sequences(
     layout: &Layout,
     w: usize,
-    row: &[u64; WORDS],
-    letter: &[u64; WORDS],
+    row: &[u64],
+    letter: &[u64],
     by: Shift,
     most: u32,
-    out: &mut [u64; WORDS],
+    out: &mut [u64],
 ) -> Kept
     requires w_bound { w < row_marks }
     requires bounded { Bounded layout.now.lengths.now row.now }
+    requires lengths_in_bounds { (first_word layout.now.lengths.now (length layout.now.lengths.now) ≤ length row.now) × (length letter.now ≡ length row.now) × (length out.old ≡ length row.now) }
     ensures lost_bound { tally (is_extended_marked by.places layout.now.lengths.now letter.now row.now) (w * 64) 64 + result.lost ≤ tally (is_marked row.now) (w * 64) 64 }
     ensures b_value { result.lost ≤ most → (b : ℕ) → b < 64 → eqb (get_or (held (result.left ∷ [])) b 0) 1 ≡ is_extended_marked by.places layout.now.lengths.now letter.now row.now (w * 64 + b) }
-    ensures out_unchanged { take (first_word layout.now.lengths.now (min (w * 64) (length layout.now.lengths.now))) out.new ≡ take (first_word layout.now.lengths.now (min (w * 64) (length layout.now.lengths.now))) out.old }
+    ensures out_unchanged { (take (first_word layout.now.lengths.now (min (w * 64) (length layout.now.lengths.now))) out.new ≡ take (first_word layout.now.lengths.now (min (w * 64) (length layout.now.lengths.now))) out.old) × (length out.new ≡ length out.old) }
     ensures out_after { result.lost ≤ most → (k : ℕ) → w * 64 ≤ k → k < w * 64 + 64 → is_marked row.now k ≡ true → bits_at layout.now.lengths.now k out.new ≡ extended_at by.places layout.now.lengths.now letter.now row.now k }
     ensures lost_value { result.lost ≤ most → tally (is_extended_marked by.places layout.now.lengths.now letter.now row.now) (w * 64) 64 + result.lost ≡ tally (is_marked row.now) (w * 64) 64 }
 {
@@ -140,16 +143,17 @@ fn keep_sequences(
 fn keep_ones(
     layout: &Layout,
     w: usize,
-    row: &[u64; WORDS],
-    letter: &[u64; WORDS],
+    row: &[u64],
+    letter: &[u64],
     by: Shift,
-    out: &mut [u64; WORDS],
+    out: &mut [u64],
 ) -> u64
     requires w_bound { w < row_marks }
     requires short { layout.now.short ≡ true }
     requires bounded { Bounded layout.now.lengths.now row.now }
+    requires lengths_in_bounds { (first_word layout.now.lengths.now (length layout.now.lengths.now) ≤ length row.now) × (length letter.now ≡ length row.now) × (length out.old ≡ length row.now) }
     ensures by_index { (b : ℕ) → b < 64 → eqb (get_or (held (result ∷ [])) b 0) 1 ≡ is_extended_marked by.places layout.now.lengths.now letter.now row.now (w * 64 + b) }
-    ensures out_unchanged { take (first_word layout.now.lengths.now (min (w * 64) (length layout.now.lengths.now))) out.new ≡ take (first_word layout.now.lengths.now (min (w * 64) (length layout.now.lengths.now))) out.old }
+    ensures out_unchanged { (take (first_word layout.now.lengths.now (min (w * 64) (length layout.now.lengths.now))) out.new ≡ take (first_word layout.now.lengths.now (min (w * 64) (length layout.now.lengths.now))) out.old) × (length out.new ≡ length out.old) }
     ensures by_index_2 { (k : ℕ) → w * 64 ≤ k → k < w * 64 + 64 → is_marked row.now k ≡ true → bits_at layout.now.lengths.now k out.new ≡ extended_at by.places layout.now.lengths.now letter.now row.now k }
 {
     let base = MARKS + w * BITS;
@@ -167,18 +171,20 @@ fn keep_ones(
 // letter more in 1,024 sequences of one word takes 1.5 to 2.3 times as long.
 fn keep_short(
     layout: &Layout,
-    row: &[u64; WORDS],
-    letter: &[u64; WORDS],
+    row: &[u64],
+    letter: &[u64],
     by: Shift,
     quorum: u32,
-    out: &mut [u64; WORDS],
+    out: &mut [u64],
 ) -> u32
     requires short { layout.now.short ≡ true }
     requires bounded { Bounded layout.now.lengths.now row.now }
+    requires lengths_in_bounds { (first_word layout.now.lengths.now (length layout.now.lengths.now) ≤ length row.now) × (length letter.now ≡ length row.now) × (length out.old ≡ length row.now) }
     ensures lower_bound { tally (is_extended_marked by.places layout.now.lengths.now letter.now row.now) 0 sequence_set_sequences ≤ result }
     ensures value { quorum ≤ result → result ≡ tally (is_extended_marked by.places layout.now.lengths.now letter.now row.now) 0 sequence_set_sequences }
     ensures marked { quorum ≤ result → Marked (is_extended_marked by.places layout.now.lengths.now letter.now row.now) out.new sequence_set_sequences }
     ensures filled { quorum ≤ result → Filled (is_marked row.now) (extended_at by.places layout.now.lengths.now letter.now row.now) layout.now.lengths.now out.new (length layout.now.lengths.now) }
+    ensures out_len_unchanged { length out.new ≡ length out.old }
 {
     let mut able = count(MARKS, row);
     for w in 0..MARKS {
@@ -196,10 +202,10 @@ fn keep_short(
 }
 
 // Clears the words of marks from `n` on, those that a set of fewer sequences does not have.
-fn clear_marks(n: usize, row: &mut [u64; WORDS])
-    requires { n ≤ row_marks }
+fn clear_marks(n: usize, row: &mut [u64])
+    requires { (n ≤ row_marks) × (row_marks ≤ length row.old) }
     ensures by_index { ((q : ℕ) → q < n → get_or row.new q 0 ≡ get_or row.old q 0) × ((q : ℕ) → n ≤ q → q < row_marks → get_or row.new q 0 ≡ 0) }
-    ensures row_unchanged { drop row_marks row.new ≡ drop row_marks row.old }
+    ensures row_unchanged { (drop row_marks row.new ≡ drop row_marks row.old) × (length row.new ≡ length row.old) }
 {
     row[n..MARKS].fill(0);
 }
@@ -208,20 +214,22 @@ fn clear_marks(n: usize, row: &mut [u64; WORDS])
 // a mark then, the sum of the counts of ones of the new marks: the support. Or, as soon as fewer than `quorum` can have one, it answers so
 // many as still can, and the rest is not written. A short set has a loop of its own, of which the compiler makes one without a shift where
 // it is called with 0: there one call for all shifts takes 17 to 28 in 100 longer. In any other set only the words of marks that it has
-// are gone over.
+// are gone over. Rows of any length will do that have room for the set's words.
 pub fn keep_all(
     layout: &Layout,
-    row: &[u64; WORDS],
-    letter: &[u64; WORDS],
+    row: &[u64],
+    letter: &[u64],
     by: Shift,
     quorum: u32,
-    out: &mut [u64; WORDS],
+    out: &mut [u64],
 ) -> u32
     requires bounded { Bounded layout.now.lengths.now row.now }
+    requires lengths_in_bounds { (first_word layout.now.lengths.now (length layout.now.lengths.now) ≤ length row.now) × (length letter.now ≡ length row.now) × (length out.old ≡ length row.now) }
     ensures lower_bound { tally (is_extended_marked by.places layout.now.lengths.now letter.now row.now) 0 sequence_set_sequences ≤ result }
     ensures value { quorum ≤ result → result ≡ tally (is_extended_marked by.places layout.now.lengths.now letter.now row.now) 0 sequence_set_sequences }
     ensures marked { quorum ≤ result → Marked (is_extended_marked by.places layout.now.lengths.now letter.now row.now) out.new sequence_set_sequences }
     ensures filled { quorum ≤ result → Filled (is_marked row.now) (extended_at by.places layout.now.lengths.now letter.now row.now) layout.now.lengths.now out.new (length layout.now.lengths.now) }
+    ensures out_len_unchanged { length out.new ≡ length out.old }
 {
     if layout.short {
         if by.places == 0 {
@@ -247,8 +255,8 @@ pub fn keep_all(
 }
 
 // How many sequences are marked in the first `n` words of marks: the sum of their counts of ones.
-fn count(n: usize, row: &[u64; WORDS]) -> u32
-    requires { n ≤ row_marks }
+fn count(n: usize, row: &[u64]) -> u32
+    requires { (n ≤ row_marks) × (n ≤ length row.now) }
     ensures { result ≡ lists.sum (held (take n row.now)) }
 {
     let mut sum: u32 = 0;

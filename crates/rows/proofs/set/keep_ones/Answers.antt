@@ -1,12 +1,11 @@
-use borrow.Author.Rules.{rules}
 use mathlib.Core.Path.{refl, ◌∙◌}
 use Prim.Native.Nat.{ℕ, ◌+◌, ◌*◌, ◌<◌}
 use native.Mathlib.Omega.{arith}
 use lib.ListN.{length, length-set}
 use Rattle.rows.specs.Set.{row_marks}
-use Rattle.rows.proofs.Arrays.{words_fit}
 use Rattle.rows.proofs.Kept.{going_begin, end_left, end_walked, word_in, kept_turn}
 use Rattle.rows.proofs.Lowest.{taken_in}
+use Rattle.rows.proofs.Marks.{mark_in}
 use Rattle.rows.proofs.Tally.{bit_from}
 use Rattle.rows.proofs.set.keep_ones.Goals as goal
 use Rattle.rows.proofs.set.keep_ones.Goals.{In-Some}
@@ -14,7 +13,10 @@ use Rattle.rows.proofs.set.keep_ones.Goals.{In-Some}
 pub loop-place-init : goal.loop-place-init
 loop-place-init c =
     let a = c.args in
-    (refl, rw c.into_iter-place-iterator.ensures.into_iter_gives (record { lost = 0; going = going_begin a.by.places a.layout.now.lengths.now a.letter.now a.row.now a.w (words_fit a.row.now c.type_inv.row a.w) a.out.now }))
+    (refl, rw c.into_iter-place-iterator.ensures.into_iter_gives (record { lost = 0; going = going_begin a.by.places a.layout.now.lengths.now a.letter.now a.row.now a.w (c.type_inv.row a.w).fits a.out.now }))
+
+pub bounds-row-w : goal.bounds-row-w
+bounds-row-w c = mark_in _ _ refl refl refl c.requires.lengths_in_bounds.0 _ c.requires.w_bound
 
 -- at a turn there is a next mark, and the word of its sequence
 in_word : (c : In-Some) → c.in-Some.place < 64
@@ -25,7 +27,7 @@ inside c =
     let a = c.args in
     let p = c.requires in
     let l = c.loop-place in
-    word_in a.by.places a.layout.now.lengths.now a.letter.now a.row.now a.w (words_fit a.row.now c.type_inv.row a.w) a.out.now l.out l.place-iterator.0 l.marks l.invariant.1 c.in-Some.ensures.steps a.layout.now.firsts.now c.args.layout.now.laid (a.layout.now.ones p.short) p.bounded p.w_bound (omega (arith, a.layout.now.inside)) refl
+    word_in a.by.places a.layout.now.lengths.now a.letter.now a.row.now a.w (c.type_inv.row a.w).fits a.out.now l.out l.place-iterator.0 l.marks l.invariant.1 c.in-Some.ensures.steps a.layout.now.firsts.now c.args.layout.now.laid (a.layout.now.ones p.short) p.bounded p.w_bound p.lengths_in_bounds.0 refl
 
 pub overflow_add-at : goal.overflow_add-at
 overflow_add-at c = omega (arith, in_word (goal.at.overflow_add-at c).In-Some, c.requires.w_bound)
@@ -34,7 +36,10 @@ pub bounds-row-at : goal.bounds-row-at
 bounds-row-at c = omega (arith, inside (goal.at.bounds-row-at c).In-Some)
 
 pub bounds-letter-at : goal.bounds-letter-at
-bounds-letter-at c = omega (arith, inside (goal.at.bounds-letter-at c).In-Some)
+bounds-letter-at c = omega (arith, inside (goal.at.bounds-letter-at c).In-Some, c.requires.lengths_in_bounds)
+
+pub bounds-out-at : goal.bounds-out-at
+bounds-out-at c = omega (arith, inside (goal.at.bounds-out-at c).In-Some, c.requires.lengths_in_bounds, c.loop-place.invariant.0)
 
 pub overflow_shl-marks : goal.overflow_shl-marks
 overflow_shl-marks c = omega (arith, in_word (goal.at.overflow_shl-marks c).In-Some)
@@ -46,9 +51,9 @@ loop-place-preserved c =
     let l = c.loop-place in
     let at : ℕ = row_marks + a.w * 64 + c.in-Some.place in (
       length-set l.out at _ ∙ l.invariant.0,
-      kept_turn a.by.places a.layout.now.lengths.now a.letter.now a.row.now a.w (words_fit a.row.now c.type_inv.row a.w) a.out.now l.out l.place-iterator.0 l.marks l.invariant.1 c.in-Some.ensures.steps a.layout.now.firsts.now c.args.layout.now.laid (a.layout.now.ones p.short) p.bounded p.w_bound (omega (arith, a.layout.now.inside)) refl
-          a.by.in_word (search rules) (search rules)
-          (words_fit a.letter.now c.type_inv.letter at) (words_fit a.row.now c.type_inv.row at) (bit_from _ c.from.ensures),
+      kept_turn a.by.places a.layout.now.lengths.now a.letter.now a.row.now a.w (c.type_inv.row a.w).fits a.out.now l.out l.place-iterator.0 l.marks l.invariant.1 c.in-Some.ensures.steps a.layout.now.firsts.now c.args.layout.now.laid (a.layout.now.ones p.short) p.bounded p.w_bound p.lengths_in_bounds.0 refl
+          a.by.in_word p.lengths_in_bounds.1 (l.invariant.0 ∙ p.lengths_in_bounds.2)
+          (c.type_inv.letter at).fits (c.type_inv.row at).fits (bit_from _ c.from.ensures),
     )
 
 pub returns : goal.returns
@@ -56,10 +61,10 @@ returns c =
     let l = c.loop-place in
     let a = c.args in
     let g = l.invariant.1.going in
-    let fits = words_fit a.row.now c.type_inv.row a.w in
+    let fits = (c.type_inv.row a.w).fits in
     let none = c.in-None.ensures.steps in
     record {
       by_index = end_left a.by.places a.layout.now.lengths.now a.letter.now a.row.now a.w fits a.out.now l.out l.place-iterator.0 l.marks _ g none;
-      out_unchanged = g.so_far.walked.kept;
+      out_unchanged = (g.so_far.walked.kept, l.invariant.0);
       by_index_2 = end_walked a.by.places a.layout.now.lengths.now a.letter.now a.row.now a.w fits a.out.now l.out l.place-iterator.0 l.marks _ g none;
     }

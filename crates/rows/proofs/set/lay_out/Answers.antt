@@ -52,22 +52,18 @@ loop-k-preserved c =
       short_more _ _ _ l.invariant.7 c.words_of-words.ensures,
     )
 
--- the words of all sequences and the marks leave the last words of a row unused
-pub invariant_of-result-clause-inside : goal.invariant_of-result-clause-inside
-invariant_of-result-clause-inside c =
-    let ns = c.args.lengths.now in
-    omega (arith, first_bound ns (length ns), c.requires)
-
 pub invariant_of-result-clause-ones : goal.invariant_of-result-clause-ones
 invariant_of-result-clause-ones c = λ h k m. c.loop-k.invariant.7.one h k (omega arith)
 
 pub returns : goal.returns
 returns c =
     let l = c.loop-k in
+    let ns = c.args.lengths.now in
     let o : length l.offsets ≡ length c.args.offsets.now = l.invariant.2 ∙ length-set c.args.offsets.now 0 0 in
     record {
       layout = refl;
       same_table = refl;
+      inside = omega (arith, first_bound ns (length ns), c.requires);
       firsts_len_unchanged = l.invariant.1 ∙ length-set c.args.firsts.now 0 row_marks;
       offsets = tabled_offsets _ _ _ (search rules) (omega (arith, o, c.requires.lengths_in_bounds.1)) l.invariant.6;
       offsets_len_unchanged = o;
