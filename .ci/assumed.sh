@@ -1,8 +1,8 @@
 #!/bin/sh
 # Prints what the proofs take on trust and what they ask of a caller: for each crate that is linked, a program or the library, the C
 # functions whose contracts its verdict rests on (`axioms=`), and, from the sources, each public function that has a `requires` and each
-# fact that a public type holds (`pub ghost`), which whoever makes a value of it has to show. The gate compares it with assumed.txt, and
-# fails where they differ. After a change that is meant: .ci/assumed.sh >.ci/assumed.txt
+# fact that a public type holds (`ghost`, whether others may name it or not), which whoever makes a value of it has to show. The gate
+# compares it with assumed.txt, and fails where they differ. After a change that is meant: .ci/assumed.sh >.ci/assumed.txt
 #
 # The prover is asked, over what was proved: where the gate has just proved all, over that; else rt check proves first what is not.
 # A verdict that has a word which is not known here is told too, and the status is 1.
@@ -62,11 +62,11 @@ for crate in $crates; do
     src=crates/$crate/src
     [ -f "$src/lib.rt" ] || continue
     asked=$(awk -v crate="$crate" '
-        FNR == 1 { file = FILENAME; sub(/.*\/src\//, "", file); sub(/\.rt$/, "", file); public["lib"] = 1 }
+        FNR == 1 { file = FILENAME; sub(/.*\/src\//, "", file); sub(/\.rt$/, "", file); public["lib"] = 1; seen = 0 }
         { sub(/\/\/.*/, "") }
         file == "lib" && /^pub (mod|use) / { module = $3; sub(/[:;].*/, "", module); public[module] = 1 }
-        /^pub struct / { type = $3; sub(/[<({].*/, "", type) }
-        /^ *pub ghost / && file in public { fact = $3; sub(/:.*/, "", fact); print "holds " crate "::" type " " fact }
+        /^(pub[^ ]* )?struct / { seen = /^pub /; type = $0; sub(/.*struct /, "", type); sub(/[^A-Za-z0-9_].*/, "", type) }
+        /^ +(pub )?ghost [a-z0-9_]+:/ && seen && file in public { fact = $0; sub(/.*ghost /, "", fact); sub(/:.*/, "", fact); print "holds " crate "::" type " " fact }
         /^impl[ <]/ { type = $0; sub(/^impl(<[^>]*>)? +/, "", type); sub(/[ <{].*/, "", type) }
         /(^| )fn / {
             name = $0; sub(/.*fn /, "", name); sub(/[^a-z0-9_].*/, "", name)

@@ -11,14 +11,14 @@ use lib.Dec.{leb, ltb}
 use lib.ListN.{length, take, drop, get_or, set, length-set, length-drop}
 use lib.Seq.{take-suc-set, length-take-le}
 use borrow.Author.Tests.{leb-true, ltb-true}
-use Rattle.descent.specs.Buffer.{Buffer, buffer, emit, emits, with_front}
+use Rattle.descent.specs.Buffer.{Buffer, buffer, progress, emit, emits, with_front}
 use Rattle.descent.specs.Paths.{flag, paths, next_apart, handed, listed_rows}
 use Rattle.descent.specs.declared.Progress.{Progress}
-use Rattle.descent.proofs.Buffer.{emits_one, emits_full, with_front_one, with_front_more}
+use Rattle.descent.proofs.Buffer.{emits_one, emits_full, with_front_one, with_front_more, passed_over}
 use Rattle.rules.proofs.Components.{components_length, components_more, components_none}
-use Rattle.descent.proofs.Paths.{paths_last, paths_more, handed_within}
+use Rattle.descent.proofs.Paths.{paths_last, paths_more, rows_last, handed_within}
 use Rattle.rules.specs.Limits.{template_components}
-use Rattle.rules.specs.Lists.{run, each}
+use Rattle.rules.specs.Lists.{run, keep, each}
 use Rattle.rules.specs.Occurrence.{reach}
 use Rattle.rules.specs.Template.{slots, none, components}
 use Rattle.rules.specs.declared.Component.{Component}
@@ -80,13 +80,23 @@ module _ (n : ℕ) (flags : List Bool) (row : List ℕ) (c : ℕ) where
 -- ---- the components of a template from c on
 
 module _ (t : Template) (few : t.count ≤ template_components) (n : ℕ) (flags : List Bool) (row : List ℕ) (c : ℕ) where
-  -- whatever the last of them is
+  -- the last of them alone
+  last_alone : c + 1 ≡ t.count → drop c (components t) ≡ get_or (slots t) c none ∷ []
+  last_alone h = components_more t few c (omega arith) ∙ ap (λ l. get_or (slots t) c none ∷ l) (components_none t few (suc c) (omega arith))
+
+  -- whatever it is
   pub handed_last : (a e : ℕ) (s : Buffer) {r : Buffer} → c + 1 ≡ t.count → r ≡ handed (none ∷ []) n flags row c a e s → r ≡ handed (drop c (components t)) n flags row c a e s
   unfolding handed paths
   handed_last a e s h k =
-      let x = get_or (slots t) c none in
-      let f : drop c (components t) ≡ x ∷ [] = components_more t few c (omega arith) ∙ ap (λ l. x ∷ l) (components_none t few (suc c) (omega arith)) in
-      k ∙ rw f (ap (λ l. emits (suc (c + 1)) (with_front (take (suc c) row) l) s) (each_same (paths n flags (none ∷ []) c) (paths n flags (x ∷ []) c) (run a (e - a)) (λ p. refl)))
+      k ∙ rw (last_alone h) (ap (λ l. emits (suc (c + 1)) (with_front (take (suc c) row) l) s) (each_same (paths n flags (none ∷ []) c) (paths n flags (get_or (slots t) c none ∷ []) c) (run a (e - a)) (λ p. refl)))
+
+  -- and its rows are passed over at once, where none of them is asked for: u is how many starts it has
+  pub last_passed : (a e : ℕ) (g : Progress) (l : List ℕ) {u : ℕ} → c + 1 ≡ t.count → u ≡ length (keep (flag n flags c) (run a (e - a))) → u ≤ g.skip
+      → buffer (progress (g.skip - u) g.rows g.at) l ≡ handed (drop c (components t)) n flags row c a e (buffer g l)
+  unfolding handed
+  last_passed a e g l h k z =
+      let m = k ∙ sym (rows_last n flags c (get_or (slots t) c none) (run a (e - a))) in
+      rw (last_alone h) (passed_over (take (suc c) row) (suc (c + 1)) (each (paths n flags (get_or (slots t) c none ∷ []) c) (run a (e - a))) g l m z)
 
   -- nothing is left to hand out into a full buffer
   pub handed_full : (q e : ℕ) (g : Progress) (l : List ℕ) {full : Bool} → c ≤ t.count → g.at ≤ length l → full ≡ leb g.skip 0 && ltb (length l - g.at) (t.count + 1) → full ≡ true

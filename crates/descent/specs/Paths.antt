@@ -14,6 +14,10 @@ use Rattle.rules.specs.declared.Template.{Template}
 unfoldable pub flag : ℕ → List Bool → ℕ → ℕ → Bool
 flag n flags c p = leb 1 p && leb p n && get_or flags (c * sequence_set_letters + (p - 1)) false
 
+-- no position from a up to b has one
+abbrev pub Unflagged : ℕ → List Bool → ℕ → ℕ → ℕ → Type 0
+Unflagged n flags c a b = (p : ℕ) → a ≤ p → p < b → flag n flags c p ≡ false
+
 -- the starts of some components, the first of them number c, whose first start is p: those with a flag
 unfoldable pub paths : ℕ → List Bool → List Component → ℕ → ℕ → List (List ℕ)
 paths n flags [] c p = []

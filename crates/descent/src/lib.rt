@@ -4,8 +4,9 @@
 
 ghost use Rattle.std.specs.Prelude.{true, ◌&&◌, [], ◌∷◌, ◌++◌, ◌≡◌, min, ◌+◌, ◌-◌, ◌*◌, ◌≤◌, ◌<◌, leb, ltb, length, take, drop, get_or};
 ghost use Rattle.descent.specs.Buffer.{buffer, progress, InBuffer, emit};
-ghost use Rattle.descent.specs.Paths.{flag, paths, next_apart, handed, listed_rows, WaysCounted};
+ghost use Rattle.descent.specs.Paths.{flag, Unflagged, paths, next_apart, handed, listed_rows, WaysCounted};
 ghost use Rattle.rules.specs.Limits.{sequence_set_letters, sequence_set_sequences, template_components};
+ghost use Rattle.rules.specs.Lists.{run, keep};
 ghost use Rattle.rules.specs.Sound.{SoundTemplate};
 ghost use Rattle.rules.specs.Template.{components};
 
@@ -106,6 +107,36 @@ impl Descent<'_> {
         self.flags[component * SequenceSet::LETTERS + (at.0 - 1)]
     }
 
+    // The first position from `from` on at which an occurrence starts; one behind the sequence where there is none.
+    fn seek(&self, from: Position) -> Position
+        requires { 1 ≤ from.0 }
+        ensures from_le_result { (from.0 ≤ result.0) × Unflagged self.now.letters self.now.flags.now 0 from.0 result.0 }
+        ensures result_value { result.0 ≤ self.now.letters → flag self.now.letters self.now.flags.now 0 result.0 ≡ true }
+    {
+        let mut at = from.0;
+        while at <= self.letters {
+            if self.can_start(0, Position(at)) {
+                return Position(at);
+            }
+            at += 1;
+        }
+        Position(at)
+    }
+
+    // At how many of some positions a component can start, with the rest after it.
+    fn count_starts(&self, component: usize, starts: Span) -> u64
+        requires { (component < template_components) × (1 ≤ starts.from.0) × (starts.end.0 ≤ self.now.letters + 1) }
+        ensures { result ≡ length (keep (flag self.now.letters self.now.flags.now component) (run starts.from.0 (starts.end.0 - starts.from.0))) }
+    {
+        let mut count: u64 = 0;
+        for at in starts.from.0..starts.end.0 {
+            if self.can_start(component, Position(at)) {
+                count += 1;
+            }
+        }
+        count
+    }
+
     // Where the component after one may start if that starts at a position.
     fn next_starts(&self, component: usize, at: Position) -> Span
         requires { (component + 1 < self.now.template.count) × (at.0 ≤ self.now.letters) }
@@ -122,6 +153,32 @@ impl Descent<'_> {
         }
     }
 
+    // Hands out a row for each start of the last component that is one of some: the numbers before it stand in `row`. Where none of these
+    // rows is asked for, they are passed over at once, as many as there are.
+    fn list_last(&self, component: usize, starts: Span, row: [u32; ROW], page: &mut Page<'_>)
+        requires { (component + 1 ≡ self.now.template.count) × (1 ≤ starts.from.0) × (starts.end.0 ≤ self.now.letters + 1) }
+        ensures same_buffer { page.new.out.ghost_name ≡ page.old.out.ghost_name }
+        ensures page_after { buffer page.new.progress page.new.out.now ≡ handed (drop component (components self.now.template)) self.now.letters self.now.flags.now row component starts.from.0 starts.end.0 (buffer page.old.progress page.old.out.now) }
+    {
+        if 0 < page.progress.skip {
+            let under = self.count_starts(component, starts);
+            if under <= page.progress.skip {
+                page.progress.skip -= under;
+                return;
+            }
+        }
+        let last = component + 1;
+        let width = last + 1;
+        let mut longer = row;
+        for at in starts.from.0..starts.end.0 {
+            if !self.can_start(component, Position(at)) {
+                continue;
+            }
+            longer[last] = at as u32;
+            page.emit(&longer[..width]);
+        }
+    }
+
     // Hands out, one by one, the occurrences whose starts before `component` stand in `row` and whose start of it is one of some:
     // all later starts under it, component by component, before the next. Once the buffer is full no more are made.
     fn descend(&self, component: usize, starts: Span, row: [u32; ROW], page: &mut Page<'_>)
@@ -130,8 +187,12 @@ impl Descent<'_> {
         ensures page_after { buffer page.new.progress page.new.out.now ≡ handed (drop component (components self.now.template)) self.now.letters self.now.flags.now row component starts.from.0 starts.end.0 (buffer page.old.progress page.old.out.now) }
     {
         let count = self.template.count as usize;
-        let width = count + 1;
         let next = component + 1;
+        if next == count {
+            self.list_last(component, starts, row, page);
+            return;
+        }
+        let width = count + 1;
         let mut longer = row;
         for at in starts.from.0..starts.end.0 {
             if !self.can_start(component, Position(at)) {
@@ -141,12 +202,8 @@ impl Descent<'_> {
                 return;
             }
             longer[next] = at as u32;
-            if next == count {
-                page.emit(&longer[..width]);
-            } else {
-                let later = self.next_starts(component, Position(at));
-                self.descend(next, later, longer, page);
-            }
+            let later = self.next_starts(component, Position(at));
+            self.descend(next, later, longer, page);
         }
     }
 
@@ -179,14 +236,13 @@ impl Descent<'_> {
         let width = self.template.count as usize + 1;
         let mut row = [0u32; ROW];
         row[0] = number.0 as u32;
-        for at in 1..self.letters + 1 {
-            if !self.can_start(0, Position(at)) {
-                continue;
-            }
+        let mut at = self.seek(Position(1)).0;
+        while at <= self.letters {
             if page.is_full(width) {
                 return;
             }
             self.list_start(Position(at), row, page);
+            at = self.seek(Position(at + 1)).0;
         }
     }
 }

@@ -1,10 +1,10 @@
 -- Whether letters stand at an offset, letter by letter: the letters from the j-th on stand where those before them do.
-use mathlib.Core.Path.{◌≡◌, refl, sym}
+use mathlib.Core.Path.{◌≡◌, refl, sym, ap}
 use mathlib.Core.Bool.{Bool, true, false, ◌&&◌}
 use mathlib.Core.List.{List, [], ◌∷◌}
 use Prim.Native.Nat.{ℕ, zero, suc, ◌-◌, ◌≤◌, ◌<◌}
 use native.Mathlib.Omega.{arith}
-use lib.ListN.{length, drop, length-drop}
+use lib.ListN.{length, take, drop, length-drop}
 use Rattle.std.specs.List.{list_all, zip}
 use Rattle.rules.specs.Letters.{value}
 use Rattle.rules.specs.Lists.{if}
@@ -34,6 +34,12 @@ stands_short w s o h = stands_by_short fits_byte 0 w s o h
 -- a value is one that can be looked up in a base set
 pub value_small : (b : ℕ) {v : ℕ} → v ≡ value b → v < 8
 value_small b e = rw e (omega (arith, value_most b))
+
+-- what is past as many bytes as there are letters is beside none
+pub zip_front : (w s : List ℕ) → zip w (take (length w) s) ≡ zip w s
+zip_front [] s = refl
+zip_front (x ∷ w) [] = refl
+zip_front (x ∷ w) (y ∷ s) = ap (λ l. (x, y) ∷ l) (zip_front w s)
 
 -- letters stand at the front if each fits the byte beside it
 front_each : (w s : List ℕ) → length w ≤ length s → list_all (λ p. fits_byte p.0 p.1) (zip w s) ≡ front_by fits_byte 0 w s

@@ -17,10 +17,11 @@ fn stands(word: &[u8], s: &[u8], o: usize) -> bool
     ensures { result ≡ stands_in_bytes word.now s.now (suc o) }
 {
     let rest = &s[o..];
+    // The bytes are cut to as many as there are letters, so that one end is asked for at each letter, and not two.
     word.len() <= rest.len()
         && word
             .iter()
-            .zip(rest)
+            .zip(&rest[..word.len()])
             .all(|(set, byte)| Letter::has_base(*set, Letter::value(*byte)))
 }
 

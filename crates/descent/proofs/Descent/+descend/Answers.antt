@@ -1,15 +1,14 @@
-use mathlib.Core.Path.{◌≡◌, sym, ap, ◌∙◌}
+use mathlib.Core.Path.{sym, ap, ◌∙◌}
 use Prim.Native.Nat.{suc, ◌+◌, ◌<◌}
 use native.Mathlib.Omega.{arith}
-use lib.ListN.{length, take, drop, set, length-set}
+use lib.ListN.{length, drop, length-set}
 use lib.Seq.{take-set-le}
 use Rattle.descent.specs.Buffer.{buffer}
 use Rattle.descent.specs.Paths.{handed}
-use Rattle.descent.proofs.StartByStart.{last_turn, next_turn, handed_last, handed_full}
+use Rattle.descent.proofs.StartByStart.{next_turn, handed_full}
 use Rattle.descent.proofs.Paths.{handed_on, handed_past, handed_done}
 use Rattle.rules.specs.Template.{components}
 use Rattle.descent.proofs.Descent.+descend.Goals as goal
-use Rattle.descent.proofs.Descent.+descend.Goals.{then-next-count, else-next-count}
 
 pub loop-at-preserved-then-not-can_start : goal.loop-at-preserved-then-not-can_start
 loop-at-preserved-then-not-can_start t c =
@@ -39,34 +38,17 @@ loop-at-preserved t c =
     let before = buffer l.page.progress l.page.out.now in
     let flagged = sym c.can_start.ensures ∙ c.if-not-can_start.false in
     let room : a.component + 1 < length l.longer = omega (arith, s.sound.few, l.invariant.wide) in
-    let same = take-set-le (suc a.component) l.longer (a.component + 1) l.at (omega arith) ∙ l.invariant.same_row in
+    let others : a.component + 1 < s.template.count = omega (arith, c.if-next-count.false, c.requires) in
+    let n = c.next_starts-later.ensures in
+    let d = c.descend.ensures in
+    let turn = next_turn s.letters s.flags.now a.row a.component l.at before flagged l.longer l.invariant.same_row room s.template s.sound.few others n.from_value n.end_value d.page_after in
     let on = handed_on (drop a.component (components s.template)) s.letters s.flags.now a.row a.component l.at a.starts.end.0 before c.loop-at-test.true in
-    elim c.if-next-count.branch [
-      | then-next-count w ↦
-          let last : a.component + 1 ≡ s.template.count = omega (arith, w.if-next-count.true) in
-          let e = w.emit.ensures in
-          let made = last_turn s.letters s.flags.now a.row a.component l.at before flagged l.longer l.invariant.same_row room (ap (λ k. take (k + 1) (set l.longer (a.component + 1) l.at)) (sym last)) e.written in
-          let turn = handed_last s.template s.sound.few s.letters s.flags.now a.row a.component l.at (l.at + 1) before last made in
-          rw w.page-is
-          (record {
-            same_buffer = e.same_buffer ∙ l.invariant.same_buffer;
-            wide = length-set l.longer (a.component + 1) l.at ∙ l.invariant.wide;
-            same_row = same;
-            left = ap (handed (drop a.component (components s.template)) s.letters s.flags.now a.row a.component (l.at + 1) a.starts.end.0) turn ∙ sym on ∙ l.invariant.left;
-          })
-      | else-next-count w ↦
-          let others : a.component + 1 < s.template.count = omega (arith, w.if-next-count.false, c.requires) in
-          let n = w.next_starts-later.ensures in
-          let turn = next_turn s.letters s.flags.now a.row a.component l.at before flagged l.longer l.invariant.same_row room s.template s.sound.few others n.from_value n.end_value w.descend.ensures.page_after in
-          let d = w.descend.ensures in
-          rw w.page-is
-          (record {
-            same_buffer = d.same_buffer ∙ l.invariant.same_buffer;
-            wide = length-set l.longer (a.component + 1) l.at ∙ l.invariant.wide;
-            same_row = same;
-            left = ap (handed (drop a.component (components s.template)) s.letters s.flags.now a.row a.component (l.at + 1) a.starts.end.0) turn ∙ sym on ∙ l.invariant.left;
-          })
-    ]
+    record {
+      same_buffer = d.same_buffer ∙ l.invariant.same_buffer;
+      wide = length-set l.longer (a.component + 1) l.at ∙ l.invariant.wide;
+      same_row = take-set-le (suc a.component) l.longer (a.component + 1) l.at (omega arith) ∙ l.invariant.same_row;
+      left = ap (handed (drop a.component (components s.template)) s.letters s.flags.now a.row a.component (l.at + 1) a.starts.end.0) turn ∙ sym on ∙ l.invariant.left;
+    }
 
 pub returns-clause-page_after : goal.returns-clause-page_after
 returns-clause-page_after t c =
