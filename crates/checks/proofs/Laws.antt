@@ -3,7 +3,7 @@
 use Rattle.std.specs.Prelude.{Option, Some, None}
 use Rattle.std.specs.List.{position_or_len, position_from, enumerate_from, list_any}
 use Rattle.std.proofs.lemmas.Iterator.Adapters.{position_from-zero}
-use Rattle.std.proofs.Math.Seq.{drop-append_seam}
+use Rattle.std.proofs.Math.Seq.{drop-append_seam, take-append_seam}
 use mathlib.Core.Bool.{Bool, true, false, ◌&&◌, ◌||◌, not, cond, and_assoc}
 use mathlib.Core.List.{List, [], ◌∷◌, ◌++◌, append-nil}
 use mathlib.Core.Path.{◌≡◌, ◌∙◌, refl, sym, ap}
@@ -12,8 +12,8 @@ use native.Mathlib.Nat.{zero-add, div-eq_of_lt, le-div_iff_mul-le}
 use native.Mathlib.Numerals.{add-one}
 use native.Mathlib.Omega.{arith}
 use lib.Dec.{ltb, eqb}
-use lib.ListN.{length, get_or, take, drop, length-append, length-drop, drop_of_length-le}
-use lib.Seq.{drop-cons, drop-drop, take_all}
+use lib.ListN.{length, get_or, take, drop, length-append, length-drop, take-append-drop, drop_of_length-le}
+use lib.Seq.{drop-cons, drop-drop, length-take-le, take_all}
 use borrow.Author.Tests.{ltb-true, ltb-false, eq-eqb, ne_eqb}
 use Rattle.rules.specs.Letters.{is_letter}
 use Rattle.rules.specs.Limits.{template_components}
@@ -53,13 +53,23 @@ pub all_letters : (o : ℕ) (l : List ℕ) → all_pass is_letter l ≡ true →
 unfolding first_bad
 all_letters o l e = rw append-nil at (letters_first o l [] e)
 
+-- and where the bytes from i up to j are letters, it is the first from j on
+pub letters_past : (o i j : ℕ) (l : List ℕ) → i ≤ j → j ≤ length l → all_pass is_letter (take (j - i) (drop i l)) ≡ true → first_bad 4 bad_byte (i + o) (drop i l) ≡ first_bad 4 bad_byte (j + o) (drop j l)
+letters_past o i j l h k e =
+    let d : length (drop i l) ≡ length l - i = length-drop i l in
+    let n : length (take (j - i) (drop i l)) + (i + o) ≡ j + o = omega (arith, length-take-le (j - i) (drop i l) (omega arith)) in
+    let s : i + (j - i) ≡ j = omega arith in
+    rw (n, take-append-drop, drop-drop, s) at (letters_first (i + o) (take (j - i) (drop i l)) (drop (j - i) (drop i l)) e)
+
 -- so a block that is cut from the front of the rest is passed, where all of its bytes are letters
 pub block_passed : (bytes block rest : List ℕ) (i : ℕ) → LettersUpTo bytes i → drop i bytes ≡ block ++ rest → length block ≡ 64 → all_pass is_letter block ≡ true
     → LettersUpTo bytes (i + 64) × (rest ≡ drop (i + 64) bytes)
 block_passed bytes block rest i h cut n e =
     let k : length block + length rest ≡ length bytes - i = sym (length-append block rest) ∙ ap length (sym cut) ∙ length-drop i bytes in
-    let left : rest ≡ drop (i + 64) bytes = sym (rw (← drop-drop 64 i bytes, cut, ← n) (drop-append_seam block rest)) in (
-      (omega arith, λ o. let q : i + 64 + o ≡ length block + (i + o) = omega (arith, n) in h.1 o ∙ rw (cut, ← left, q) (letters_first (i + o) block rest e)),
+    let left : rest ≡ drop (i + 64) bytes = sym (rw (← drop-drop 64 i bytes, cut, ← n) (drop-append_seam block rest)) in
+    let w : i + 64 - i ≡ length block = omega (arith, n) in
+    let front : take (i + 64 - i) (drop i bytes) ≡ block = rw (w, cut) (take-append_seam block rest) in (
+      (omega arith, λ o. h.1 o ∙ letters_past o i (i + 64) bytes (omega arith) (omega arith) (rw front e)),
       left,
     )
 

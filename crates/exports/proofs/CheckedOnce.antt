@@ -35,8 +35,9 @@ module _ (letters lengths : List ℕ) (t : Template) (quorum : ℕ) where
   begun_sound (refused n p) s e = let z : ◌≡◌ {A = ℕ} 0 1 = cc in absurd (omega arith)
 
   -- so its template is sound,
-  pub begun_template : (s : Search) → gives s ≡ begin_rule letters lengths t quorum → SoundTemplate s.template
-  begun_template s e = (begun_sound fine s (sym e)).template
+  module _ (v : Verdict) {b : Told Search} (f : b ≡ on_refusal v refuses (begin_rule letters lengths t quorum)) where
+    pub begun_template : (s : Search) → b ≡ gives s → SoundTemplate s.template
+    begun_template s e = (begun_sound v s (sym f ∙ e)).template
 
   -- and a save of it checks the room alone
   pub begun_written : (v : Verdict) (out : List ℕ)

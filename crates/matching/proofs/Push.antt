@@ -21,7 +21,7 @@ use Rattle.rows.specs.NextLetter.{letters_before, At, before_letter}
 use Rattle.rows.specs.Set.{is_marked, window_at, Filled, Marked, Row}
 use Rattle.rows.proofs.ByFlags.{row_source, gap_source, source_same}
 use Rattle.matching.proofs.Extend.{Somewhere, letter_at, inside_letter, inside_component}
-use Rattle.matching.proofs.Slots.{parent, stayed, pushed, slot_at}
+use Rattle.matching.proofs.Slots.{slot_kept, parent, stayed, pushed, slot_at}
 use Rattle.matching.proofs.Steps.{prefix_long}
 
 -- WHICH LETTER COMES NEXT. Past the first letter of all, the first of a component follows another component
@@ -88,7 +88,7 @@ module _ (t : Template) (ns l : List ℕ) (slots : List (List ℕ)) (j m : ℕ) 
     filled = x ++ set z 0 s
 
     pub path_stays : Path t ns l filled j m
-    path_stays = stayed t ns l slots filled j m path (take_at x (set z 0 s) j long ∙ front)
+    path_stays = stayed t ns l slots filled j m path (λ i h. slot_kept j i slots filled h (take_at x (set z 0 s) j long ∙ front))
 
     filled_here : row_slot j filled ≡ s
     filled_here =

@@ -49,8 +49,8 @@ module _ (t : Template) (ns l : List ℕ) (slots : List (List ℕ)) where
       record { held = λ k o a. rw z at (p.held_at (j - 1) k o (omega arith) a) }
 
   -- the path stays where its slots do
-  pub stayed : (slots' : List (List ℕ)) (j m : ℕ) → Path t ns l slots j m → take j slots' ≡ take j slots → Path t ns l slots' j m
-  stayed slots' j m p left = record { held_at = λ i k o h a. rw (slot_kept j i slots slots' h left) (p.held_at i k o h a) }
+  pub stayed : (slots' : List (List ℕ)) (j m : ℕ) → Path t ns l slots j m → ((i : ℕ) → i < j → row_slot i slots' ≡ row_slot i slots) → Path t ns l slots' j m
+  stayed slots' j m p same = record { held_at = λ i k o h a. rw (same i h) (p.held_at i k o h a) }
 
   above : (m x d : ℕ) → x < base_of t → (m * base_of t + x) / base_of t ^ suc d ≡ m / base_of t ^ d
   above m x d h =

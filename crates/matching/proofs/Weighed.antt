@@ -3,17 +3,20 @@
 use mathlib.Core.Bool.{Bool, true, false, false≢true}
 use mathlib.Core.List.{List, [], ◌∷◌, map}
 use mathlib.Core.Path.{◌≡◌, refl, sym, ap, ◌∙◌}
-use Prim.Native.Nat.{ℕ, zero, suc, ◌-◌, ◌*◌, ◌^◌, ◌≤◌, ◌<◌}
+use Prim.Native.Nat.{ℕ, zero, suc, ◌+◌, ◌-◌, ◌*◌, ◌^◌, ◌≤◌, ◌<◌}
 use native.Mathlib.Decide.{dec_lt}
-use native.Mathlib.Nat.{le_trans}
+use native.Mathlib.Nat.{le_trans, div-lt_iff_lt-mul, one-le-pow, pow-suc, pow-le-pow_right, mul-le-mul_left}
 use native.Mathlib.Omega.{arith}
 use lib.ListN.{length, get_or}
+use lib.Pow.{pow-add}
 use Rattle.rules.proofs.Bound.{list_bound, sequences_count}
+use Rattle.rules.proofs.EachKind.{kind_proper, base_least}
 use Rattle.rules.proofs.Occurs.{parts_worded, parts_some}
 use Rattle.rules.proofs.Over.{map_agree, map_shift}
 use Rattle.rules.proofs.Ways.{weight_count}
 use Rattle.rules.specs.Lists.{if, run, each, has_some, sum}
 use Rattle.rules.specs.Occurrence.{occurrences}
+use Rattle.rules.specs.Profile.{profile_of, base_of}
 use Rattle.rules.specs.Recovery.{whole_list}
 use Rattle.rules.specs.Sequences.{sequences}
 use Rattle.rules.specs.Sound.{SoundSet, SoundTemplate}
@@ -48,6 +51,21 @@ none_long : {A : Type 0} (xs : List A) → has_some xs ≡ false → length xs �
 unfolding has_some
 none_long [] e = refl
 none_long (x ∷ xs) e = absurd (false≢true (sym e))
+
+-- the number of a motif's prefix fits a word, and 1 more does: with a letter more it is still one of a motif
+pub prefix_small : (t : Template) → SoundTemplate t → (m depth : ℕ) → depth ≡ size t → m < base_of t ^ depth → prefix_of t m + 1 < 2 ^ 64
+prefix_small t sound m depth whole h =
+    let a = letters_before (components t) (t.count - 1) in
+    let b = size t - a in
+    let e : depth ≡ a + b = omega (arith, last_some t sound) in
+    let l : m < base_of t ^ a * base_of t ^ b = rw (← (pow-add (base_of t) a b), ← e) h in
+    let small : prefix_of t m < base_of t ^ a = (div-lt_iff_lt-mul {x = m} {y = base_of t ^ a} (one-le-pow b (base_of t) (omega (arith, base_least t)))).1 l in
+    let deep : base_of t ^ suc a ≤ base_of t ^ (profile_of t).most = pow-le-pow_right {n = base_of t} (omega (arith, base_least t)) {i = suc a} {j = (profile_of t).most} (omega (arith, last_some t sound, sound.short)) in
+    let wide : base_of t ^ a * base_of t ≤ 2 ^ 64 = rw (← (pow-suc (base_of t) a)) (le_trans deep (kind_proper t.profile).wide) in
+    room (base_of t ^ a) (base_of t) small (base_least t) wide
+  where
+    room : (p b : ℕ) → prefix_of t m < p → 4 ≤ b → p * b ≤ 2 ^ 64 → prefix_of t m + 1 < 2 ^ 64
+    room p b small four wide = omega (arith, mul-le-mul_left p four)
 
 module _ (t : Template) (sound : SoundTemplate t) (l ns : List ℕ) (set : SoundSet l ns) (m depth : ℕ) (whole : depth ≡ size t) (row : List ℕ)
     (is : Row (prefix_starts t depth m) ns l row) where

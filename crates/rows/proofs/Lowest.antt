@@ -43,7 +43,7 @@ module _ {word e rest : ℕ} (r : Rest word e rest) where
     lowest_set = sym (r.stays (count_trailing_zeros 64 rest) lowest_late) ∙ zeros_at rest some r.fits
 
     pub lowest_first : (b : ℕ) → e ≤ b → b < count_trailing_zeros 64 rest → digit word b ≡ 0
-    lowest_first b l u = sym (r.stays b l) ∙ zeros_below rest some r.fits b u
+    lowest_first b l u = sym (r.stays b l) ∙ zeros_below rest b u
 
     -- what is left without it, which is less
     pub lowest_off : Rest word (count_trailing_zeros 64 rest + 1) (bit_and rest (rest - 1))

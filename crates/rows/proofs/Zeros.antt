@@ -17,6 +17,17 @@ digit_zero w = rw div-one
 pub digit_suc : (w b : ℕ) → digit w (suc b) ≡ digit (w / 2) b
 digit_suc w b = let e : 1 + b ≡ suc b = omega arith in sym (digit_shr w 1 b ∙ ap (digit w) e)
 
+-- below where the zeros end there is none, in any word
+below : (k w b : ℕ) → b < count_trailing_zeros k w → digit w b ≡ 0
+unfolding count_trailing_zeros
+below zero w b h = absurd (omega arith)
+below (suc k) w b h = go (w % 2) refl (λ c l. below k (w / 2) c l) b h
+  where
+    go : (r : ℕ) → w % 2 ≡ r → ((c : ℕ) → c < count_trailing_zeros k (w / 2) → digit (w / 2) c ≡ 0) → (c : ℕ) → c < under r (count_trailing_zeros k (w / 2)) → digit w c ≡ 0
+    go zero e ih zero l = digit_zero w ∙ e
+    go zero e ih (suc c) l = digit_suc w c ∙ ih c (omega arith)
+    go (suc r) e ih c l = absurd (omega arith)
+
 -- half of a word that is even and not 0
 half : (k w : ℕ) → 0 < w → w < 2 ^ suc k → w % 2 ≡ 0 → (0 < w / 2) × (w / 2 < 2 ^ k)
 half k w p l e = let q : 2 ^ suc k ≡ 2 ^ k * 2 = pow-suc 2 k in (omega arith, omega arith)
@@ -46,11 +57,10 @@ above (suc k) w p l b u = go (w % 2) refl (λ e. above k (w / 2) (half k w p l e
     go (suc r) e ih (suc c) v = let h : (w - 1) / 2 ≡ w / 2 = omega arith in digit_suc (w - 1) c ∙ ap (λ (x : ℕ). digit x c) h ∙ sym (digit_suc w c)
 
 -- as `u64::trailing_zeros` counts them
-module _ (w : ℕ) (p : 0 < w) (l : w < 2 ^ 64) where
-  pub zeros_below : (b : ℕ) → b < count_trailing_zeros 64 w → digit w b ≡ 0
-  unfolding digit
-  zeros_below = (bit_at-trailing_zeros w64 w p l).2
+pub zeros_below : (w b : ℕ) → b < count_trailing_zeros 64 w → digit w b ≡ 0
+zeros_below w b h = below 64 w b h
 
+module _ (w : ℕ) (p : 0 < w) (l : w < 2 ^ 64) where
   pub zeros_at : digit w (count_trailing_zeros 64 w) ≡ 1
   unfolding digit
   zeros_at = (bit_at-trailing_zeros w64 w p l).1
@@ -63,7 +73,7 @@ module _ (w : ℕ) (p : 0 < w) (l : w < 2 ^ 64) where
   cleared_to b h =
       digit_and w (w - 1) b
       ∙ elim (dec_lt b (count_trailing_zeros 64 w)) [
-        | yes u ↦ omega (arith, zeros_below b u)
+        | yes u ↦ omega (arith, zeros_below w b u)
         | no u ↦ (let e : b ≡ count_trailing_zeros 64 w = omega arith in
             let z : digit (w - 1) b ≡ 0 = ap (digit (w - 1)) e ∙ gone 64 w p l in
             omega (arith, z))
