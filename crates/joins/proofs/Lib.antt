@@ -1,6 +1,5 @@
 -- The laws that the proofs of this crate's functions lean on.
 pub mod Rising
 pub mod Partner
-pub mod Skipped
 pub mod Table
 pub mod Checks

@@ -57,7 +57,7 @@ fn rises(list: &[u32]) -> bool
 fn check_lists(first: &[u32], second: &[u32]) -> Result<(), Refusal>
     ensures { told_checked result ≡ check16 first.now second.now }
 {
-    Refusal::JoinList.when(!(rises(first) & rises(second)))
+    Refusal::JoinList.when(!(rises(first) && rises(second)))
 }
 
 // 17: the table has room for all of the first list.
@@ -86,16 +86,23 @@ fn check_join(
     check_room(first, out)
 }
 
-// The index of the first position of a list that is not before `from`, looked for from `at` on: all up to there are.
+// The index of the first position of a list that is not before `from`, looked for from `at` on: all up to there are. No `for`: it goes on
+// from where it stopped before. With `position`, on a slice for each position of the first list, a join took a quarter or more longer.
+// It is made a part of `pass` before either is worked on, so that whether the list has ended is not asked again in `within`: else a join
+// takes up to a fifth more instructions.
+#[inline(always)]
 fn skip(list: &[u32], at: usize, from: Position) -> usize
     requires { (at ≤ length list.now) × LieBefore list.now at from.0 }
     ensures { Reached list.now from.0 result }
 {
-    let rest = &list[at..];
-    at + rest
-        .iter()
-        .position(|p| from.0 <= *p as usize)
-        .unwrap_or(rest.len())
+    let mut j = at;
+    while let Some(p) = list.get(j) {
+        if from.0 <= *p as usize {
+            break;
+        }
+        j += 1;
+    }
+    j
 }
 
 // Whether a list has a position at `at`, and it is before `end`.
