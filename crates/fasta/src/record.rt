@@ -61,6 +61,16 @@ pub(crate) fn measure(file: &[u8], from: usize) -> Body
     }
 }
 
+// Copies a line. No `copy_from_slice`: it would have the library ask a C program for `memmove` too.
+fn copy(text: &[u8], to: &mut [u8])
+    requires { length to.old ≡ length text.now }
+    ensures { to.new ≡ text.now }
+{
+    for i in 0..to.len() {
+        to[i] = text[i];
+    }
+}
+
 // Writes the bytes of those lines, joined, to the front of a buffer.
 #[tactic(auto, using(crate::proofs::Body::copied_none, crate::proofs::Body::copied_fits, crate::proofs::Body::copied_all))]
 pub(crate) fn copy_body(file: &[u8], from: usize, letters: &mut [u8])
@@ -72,7 +82,7 @@ pub(crate) fn copy_body(file: &[u8], from: usize, letters: &mut [u8])
     // No `for`: it counts nothing, and goes from line to line.
     while let Some(line) = body_line(file, at) {
         let end = used + line.text.len();
-        letters[used..end].copy_from_slice(line.text);
+        copy(line.text, &mut letters[used..end]);
         used = end;
         at = line.next;
     }
