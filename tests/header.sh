@@ -1,6 +1,7 @@
 #!/bin/sh
 # The header, from C: its functions are declared as the proved source has them; header.c, header_search.c and header_fasta.c compare
 # each of its numbers, and what each function answers and leaves. A name that is in no CHECK of theirs is not tested, and fails too.
+# And the archive needs no name from outside but memcpy and memset.
 set -eu
 cd "$(dirname "$0")/.."
 # shellcheck source=examples/build.sh
@@ -17,6 +18,16 @@ done
 if [ -n "$untested" ]; then
     echo "tests/header.sh: in no CHECK:$untested"
     exit 1
+fi
+
+# ---- what the archive asks of a program that links it: two names of the C library, and no other
+
+if command -v nm >/dev/null 2>&1; then
+    asked=$(nm -u target/host/libtulfasheq.a | awk '$1 == "U" { print $2 }' | sort -u | tr '\n' ' ')
+    if [ "$asked" != "memcpy memset " ]; then
+        echo "tests/header.sh: the archive needs from outside: ${asked% }; it may need memcpy and memset alone"
+        exit 1
+    fi
 fi
 
 # ---- its functions, a line for each: an array of the source is a pointer and a length here

@@ -1,5 +1,6 @@
 -- A record's lines, one after the other: what a scan has counted, checked or copied, and what is left, is the whole.
 use Rattle.std.specs.Prelude.{Option, None, Some, MatchOption}
+use Rattle.std.proofs.lemmas.Slice.{take-put_mid}
 use borrow.Rule.Slice.PartMut.{put_mid}
 use mathlib.Core.Path.{◌≡◌, refl, sym, ap, ◌∙◌}
 use mathlib.Core.Bool.{Bool, true, false, not}
@@ -8,7 +9,8 @@ use Prim.Native.Nat.{ℕ, ◌+◌, ◌-◌, ◌≤◌, ◌<◌}
 use native.Mathlib.Nat.{add-zero, zero-add}
 use native.Mathlib.Omega.{arith}
 use lib.Dec.{eqb, ltb}
-use lib.ListN.{length, get_or, length-append}
+use lib.ListN.{length, take, drop, get_or, length-append, length-drop}
+use lib.Seq.{length-take-le, take-add, take-take}
 use borrow.Author.Tests.{eqb-true, eqb-false, ltb-true, ltb-false, not-true, not-false}
 use Rattle.rules.proofs.Tables.{put_at_long, put_at_more, put_at_none}
 use Rattle.rules.proofs.Tests.{both}
@@ -132,6 +134,15 @@ measured_all {file} {from} {at} {size} {bad} d i =
       rest = d.rest;
       cursor = rw d.rest o.cursor;
     }
+
+-- ---- a block of a line, written where it stands in the line
+pub block_copied : (at n : ℕ) (text before : List ℕ) {block written : List ℕ} → at + n ≤ length text → length before ≡ length text → take at before ≡ take at text
+    → block ≡ take n (take (at + n - at) (drop at text)) → written ≡ block → take (at + n) (put_mid at (at + n - at) before written) ≡ take (at + n) text
+block_copied at n text before {block} {written} r e h b w =
+    let t = take-take n (at + n - at) (drop at text) (omega arith) in
+    let q : written ≡ take n (drop at text) = w ∙ b ∙ t in
+    let k : length written ≡ n = ap length q ∙ length-take-le n (drop at text) (omega (arith, length-drop at text)) in
+    take-put_mid at (at + n - at) before written (at + n) (omega (arith, k)) (omega arith) ∙ rw (h, q) (sym (take-add at n text))
 
 -- ---- COPYING, so far: what is left, written behind what was written, is the whole
 

@@ -1,5 +1,5 @@
 // The record that begins at a header: what its lines hold, whether there is room for it, its letters copied, and its name.
-ghost use Rattle.std.specs.Prelude.{Bool, true, false, ◌≡◌, ◌+◌, ◌≤◌, ◌<◌, ◌^◌, length, MatchOption};
+ghost use Rattle.std.specs.Prelude.{Bool, true, false, ◌≡◌, ◌+◌, ◌≤◌, ◌<◌, ◌^◌, length, take, MatchOption};
 ghost use Rattle.rules.specs.Fasta.{line, up_to_blank, texts, has_no_room, check_line};
 ghost use Rattle.rules.specs.Lists.{put};
 ghost use Rattle.fasta.specs.Scanned.{LineAt, is_in_body, body, told_bad, BodyAt};
@@ -61,6 +61,57 @@ pub(crate) fn measure(file: &[u8], from: usize) -> Body
     }
 }
 
+// Copies `N` bytes of a line from a place on, behind those that are copied. They go through a block of their own, which no buffer lies
+// over: a `copy_from_slice` of the line itself would have the library ask a C program for `memmove` too (tests/header.sh).
+fn copy_block<const N: usize>(text: &[u8], at: usize, to: &mut [u8])
+    requires { (at + N ≤ length text.now) × (length to.old ≡ length text.now) × (take at to.old ≡ take at text.now) }
+    ensures { take (at + N) to.new ≡ take (at + N) text.now }
+{
+    if let Some(block) = text[at..at + N].first_chunk::<N>() {
+        let block = *block;
+        to[at..at + N].copy_from_slice(&block);
+    }
+}
+
+// Copies a line of at least `N` bytes by as many at a time, and the last `N` of it, of which some may be copied by then.
+fn copy_by<const N: usize>(text: &[u8], to: &mut [u8])
+    requires { (1 ≤ N) × (N ≤ length text.now) × (length to.old ≡ length text.now) }
+    ensures { to.new ≡ text.now }
+{
+    let last = text.len() - N;
+    let mut at = 0;
+    // No `for`: the steps are of `N`.
+    while at < last {
+        copy_block::<N>(text, at, to);
+        at += N;
+    }
+    copy_block::<N>(text, last, to);
+}
+
+// Copies a line, by blocks that are at most as long. With a loop over its bytes in their place a line of 60 takes an eighth more
+// instructions in all, and up to a fifth more time.
+fn copy(text: &[u8], to: &mut [u8])
+    requires { length to.old ≡ length text.now }
+    ensures { to.new ≡ text.now }
+{
+    let n = text.len();
+    if n < 4 {
+        for i in 0..n {
+            to[i] = text[i];
+        }
+    } else if n < 8 {
+        copy_by::<4>(text, to);
+    } else if n < 16 {
+        copy_by::<8>(text, to);
+    } else if n < 32 {
+        copy_by::<16>(text, to);
+    } else if n < 64 {
+        copy_by::<32>(text, to);
+    } else {
+        copy_by::<64>(text, to);
+    }
+}
+
 // Writes the bytes of those lines, joined, to the front of a buffer.
 #[tactic(auto, using(crate::proofs::Body::copied_none, crate::proofs::Body::copied_fits, crate::proofs::Body::copied_all))]
 pub(crate) fn copy_body(file: &[u8], from: usize, letters: &mut [u8])
@@ -72,7 +123,7 @@ pub(crate) fn copy_body(file: &[u8], from: usize, letters: &mut [u8])
     // No `for`: it counts nothing, and goes from line to line.
     while let Some(line) = body_line(file, at) {
         let end = used + line.text.len();
-        letters[used..end].copy_from_slice(line.text);
+        copy(line.text, &mut letters[used..end]);
         used = end;
         at = line.next;
     }

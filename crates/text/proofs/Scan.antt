@@ -1,11 +1,12 @@
 -- Where a scan finds the byte, the first piece ends and the others begin.
 use Rattle.std.specs.Prelude.{Option, None, Some, MatchOption, position}
 use Rattle.std.specs.List.{list_any, position_or_len}
+use Rattle.std.specs.Simd.{first_chunks}
 use Rattle.std.proofs.lemmas.List.Recursion.{is_position_or_len}
 use mathlib.Core.Path.{◌≡◌, refl, sym, ap, ◌∙◌}
 use mathlib.Core.Bool.{Bool, true, false, cond, ◌||◌, false≢true}
 use mathlib.Core.List.{List, [], ◌∷◌}
-use Prim.Native.Nat.{ℕ, zero, suc, ◌+◌, ◌-◌, ◌≤◌, ◌<◌}
+use Prim.Native.Nat.{ℕ, zero, suc, ◌+◌, ◌-◌, ◌*◌, ◌≤◌, ◌<◌}
 use native.Mathlib.Nat.{zero-add}
 use native.Mathlib.Numerals.{add-one}
 use native.Mathlib.Omega.{arith}
@@ -65,17 +66,19 @@ past b (suc n) (x ∷ xs) h e = go (eqb x b) e (past b n xs)
     go true q ih = absurd (omega arith)
     go false q ih = omega (arith, ih (omega arith) (omega arith))
 
+-- one of the eights that a text falls into
+pub eight_at : (m k : ℕ) (l : List ℕ) → k < m → get_or (first_chunks 8 m l) k [] ≡ take 8 (drop (8 * k) l)
+eight_at zero k l h = absurd (omega arith)
+eight_at (suc m) zero l h = refl
+eight_at (suc m) (suc k) l h = let q : 8 + 8 * k ≡ 8 * suc k = omega arith in eight_at m k (drop 8 l) (omega arith) ∙ rw (drop-drop, q)
+
 -- eight bytes without it are passed
-pub eight_more : (b : ℕ) (l rest eight others : List ℕ) → length rest ≤ length l → rest ≡ drop (length l - length rest) l → find b l ≡ length l - length rest + find b rest
-    → eight ≡ take 8 rest → others ≡ drop 8 rest → length others + 8 ≡ length rest → list_any (λ x. eqb x b) eight ≡ false
-    → (length others ≤ length l) × (others ≡ drop (length l - length others) l) × (find b l ≡ length l - length others + find b others)
-eight_more b l rest eight others h d f e o n a =
-    let m : 8 ≤ length rest = omega (arith, n) in
-    let q : find b (take 8 rest) ≡ 8 = rw e at (not_among b eight a) ∙ length-take-le 8 rest m in
-    let p : find b rest ≡ 8 + find b (drop 8 rest) = past b 8 rest m q in
-    let g : find b others ≡ find b (drop 8 rest) = ap (find b) o in
-    let k : length l - length rest + 8 ≡ length l - length others = omega (arith, n, h) in
-    (omega (arith, n, h), o ∙ ap (drop 8) d ∙ drop-drop 8 (length l - length rest) l ∙ ap (λ i. drop i l) k, omega (arith, f, p, g, n, h))
+pub eight_passed : (b n : ℕ) (l : List ℕ) → find b l ≡ n + find b (drop n l) → n + 8 ≤ length l → list_any (λ x. eqb x b) (take 8 (drop n l)) ≡ false
+    → find b l ≡ n + 8 + find b (drop (n + 8) l)
+eight_passed b n l f h a =
+    let m : 8 ≤ length (drop n l) = omega (arith, length-drop n l) in
+    let p = past b 8 (drop n l) m (not_among b (take 8 (drop n l)) a ∙ length-take-le 8 (drop n l) m) in
+    omega (arith, f, p, ap (find b) (drop-drop 8 n l))
 
 -- ---- the pieces
 
@@ -175,13 +178,13 @@ module _ (b at : ℕ) (l : List ℕ) (h : at ≤ length l) where
   pub none_from : None ≡ position (λ x. eqb x b) (take (length l - at) (drop at l)) → length l ≡ at + find b (drop at l)
   none_from e = omega (arith, find_answer b (drop at l) (rw rest_is at e), length-drop at l, h)
 
--- past some bytes that are others it is the one in the rest
-module _ (b : ℕ) (l rest : List ℕ) (h : length rest ≤ length l) (e : find b l ≡ length l - length rest + find b rest) where
-  pub position_past_none : None ≡ position (λ x. eqb x b) rest → None ≡ position (λ x. eqb x b) l
-  position_past_none q = position_none b l (omega (arith, e, h, find_answer b rest q))
+-- and past some bytes that are others
+module _ (b n : ℕ) (l : List ℕ) (h : n ≤ length l) (e : find b l ≡ n + find b (drop n l)) where
+  pub position_past_none : None ≡ position (λ x. eqb x b) (take (length l - n) (drop n l)) → None ≡ position (λ x. eqb x b) l
+  position_past_none q = position_none b l (e ∙ sym (none_from b n l h q))
 
-  pub position_past_some : (i : ℕ) → Some i ≡ position (λ x. eqb x b) rest → Some (length l - length rest + i) ≡ position (λ x. eqb x b) l
-  position_past_some i q = let f = find_answer b rest q in position_some b (length l - length rest + i) l (omega (arith, e, f.0)) (omega (arith, f.1, h))
+  pub position_past_some : (i : ℕ) → Some i ≡ position (λ x. eqb x b) (take (length l - n) (drop n l)) → Some (n + i) ≡ position (λ x. eqb x b) l
+  position_past_some i q = let f = found_from b n l h i q in position_some b (n + i) l (f.0 ∙ sym e) f.1
 
 -- ---- a text that falls at a byte into what stands before it and what follows it
 

@@ -1,23 +1,30 @@
 // A text cut into pieces at a byte: the lines of the printing program's input and of a FASTA file at byte 10, a template's
 // components at [.
-ghost use Rattle.std.specs.Prelude.{◌≡◌, [], ◌∷◌, ◌+◌, ⊤, false, length, position, eqb, MatchOption};
+ghost use Rattle.std.specs.Prelude.{◌≡◌, [], ◌∷◌, ◌+◌, ◌≤◌, ⊤, false, length, drop, position, eqb, MatchOption};
 ghost use Rattle.rules.specs.Text.{pieces};
-ghost use Rattle.text.specs.Pieces.{is_two, pieces_left, bytes_left};
+ghost use Rattle.text.specs.Pieces.{find, is_two, pieces_left, bytes_left};
 
-// Where a byte stands first. Eight bytes at a time are passed as long as all of them are another.
+// Goes on by eight bytes at a time, as long as all of them are another. It answers a number: as a loop that answers what is left of the text
+// it took a quarter more time over short lines, since it was then no longer made a part of its callers.
+fn pass_eights(b: u8, text: &[u8]) -> usize
+    ensures { (result ≤ length text.now) × (find b text.now ≡ result + find b (drop result text.now)) }
+{
+    let (eights, _) = text.as_chunks::<8>();
+    for k in 0..eights.len() {
+        if eights[k].contains(&b) {
+            return 8 * k;
+        }
+    }
+    8 * eights.len()
+}
+
+// Where a byte stands first.
 pub fn find(b: u8, text: &[u8]) -> Option<usize>
     ensures { result ≡ position (λ x. eqb x b) text.now }
 {
-    let mut rest = text;
-    // By what is left, and no `for` over `chunks_exact`: what is left is looked at behind the loop.
-    while let Some((eight, others)) = rest.split_first_chunk::<8>() {
-        if eight.contains(&b) {
-            break;
-        }
-        rest = others;
-    }
-    let at = rest.iter().position(|x| *x == b)?;
-    Some(text.len() - rest.len() + at)
+    let passed = pass_eights(b, text);
+    let at = text[passed..].iter().position(|x| *x == b)?;
+    Some(passed + at)
 }
 
 // What stands before a byte and what follows it, where it stands first.

@@ -5,4 +5,4 @@ use Rattle.fasta.proofs.record.copy_body.Goals as goal
 pub loop-line-preserved : goal.loop-line-preserved
 loop-line-preserved c =
     let l = c.in-Some.ensures in
-    copied_more c.loop-line.invariant l.0 l.2 c.copy_from_slice.ensures.after refl
+    copied_more c.loop-line.invariant l.0 l.2 c.copy.ensures refl

@@ -8,6 +8,5 @@ use Rattle.rows.proofs.words.open_gap.Goals as goal
 pub returns : goal.returns
 returns c =
     let a = c.args in
-    let k = c.copy_from_slice in
     let s = c.spread in
-    open_end (held a.row.now) _ _ (s.ensures ∙ ap (λ x. window 0 a.apart.count (held x)) k.ensures.after) c.shift_up.ensures
+    open_end (held a.row.now) _ _ (s.ensures ∙ ap (λ x. window 0 a.apart.count (held x)) c.copy.ensures) c.shift_up.ensures
