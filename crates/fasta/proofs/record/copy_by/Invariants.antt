@@ -1,5 +1,5 @@
 -- What has been passed is copied.
-use Rattle.std.proofs.Common.{◌≡◌, ◌-◌, length, take}
+use Rattle.std.proofs.Common.{◌≡◌, ◌-◌, take}
 use Rattle.fasta.proofs.record.copy_by.Given as goal
 
 abbrev pub invariant-loop-at : goal.invariant-loop-at
