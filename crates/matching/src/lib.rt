@@ -6,6 +6,8 @@ mod letters;
 pub mod made;
 pub mod path;
 pub mod tables;
+#[cfg(test)]
+mod tests;
 pub mod weights;
 
 use rules::{Letter, SequenceSet, Template};

@@ -26,7 +26,7 @@ pub(crate) fn slot<'a>(size: usize, slots: &'a [[u64; WORDS]; SLOTS]) -> &'a [u6
 }
 
 // Makes the slot of the prefix with no letters, which the first letter is added to: it has every mark and every bit.
-pub(crate) fn first_slot(plan: &Plan, slot: &mut [u64; WORDS])
+pub fn first_slot(plan: &Plan, slot: &mut [u64; WORDS])
     ensures slot { Slot plan.now.search.template plan.now.layout.lengths.now plan.now.letters.now slot.new 0 0 }
 {
     let n = plan.layout.lengths.len();

@@ -2,6 +2,9 @@
 // save checks of the search that it is given. The rows of its path are made for that, and a leg goes on with them.
 #![tactic(auto)]
 
+#[cfg(test)]
+mod tests;
+
 ghost use Rattle.std.specs.Prelude.{true, Some, None, ◌≡◌, ℕ, ◌≤◌, leb, length};
 ghost use Rattle.rules.specs.Refusals.{first, check13, is_passing, search_checks};
 ghost use Rattle.rules.specs.Saved.{meets_place_rule};

@@ -3,7 +3,7 @@ ghost use Rattle.std.specs.Prelude.{true, ◌≡◌, ℕ, ◌+◌, ◌*◌, ◌�
 ghost use Rattle.rules.specs.Limits.{sequence_set_sequences, template_length, template_gap};
 ghost use Rattle.rows.specs.Bits.{held};
 ghost use Rattle.rows.specs.Rows.{behind, window};
-ghost use Rattle.rows.specs.Set.{row_marks, row_words, first_word, bits_at, is_marked, window_at, Filled, Marked, Bounded};
+ghost use Rattle.rows.specs.Set.{row_marks, first_word, bits_at, is_marked, window_at, Filled, Marked, Bounded};
 
 use super::layout::Layout;
 use super::set_bits::SetBits;
@@ -62,7 +62,6 @@ fn open_sequences(
 )
     requires w_bound { w < row_marks }
     requires bounded { Bounded layout.now.lengths.now row.old }
-    requires lengths_in_bounds { first_word layout.now.lengths.now (length layout.now.lengths.now) ≤ row_words }
     ensures row_unchanged { take (first_word layout.now.lengths.now (min (w * 64) (length layout.now.lengths.now))) row.new ≡ take (first_word layout.now.lengths.now (min (w * 64) (length layout.now.lengths.now))) row.old }
     ensures row_unchanged_2 { drop (first_word layout.now.lengths.now (w * 64 + 64)) row.new ≡ drop (first_word layout.now.lengths.now (w * 64 + 64)) row.old }
     ensures by_index { (k : ℕ) → w * 64 ≤ k → k < w * 64 + 64 → is_marked row.old k ≡ true → bits_at layout.now.lengths.now k row.new ≡ window_at reach.apart.near reach.apart.count layout.now.lengths.now row.old k }
@@ -79,7 +78,6 @@ fn open_sequences(
 // Opens a gap in every sequence that has a mark, each in its own words; the marks stay.
 pub fn open_all(layout: &Layout, reach: Reach, spare: &mut [u64; WORDS], row: &mut [u64; WORDS])
     requires bounded { Bounded layout.now.lengths.now row.old }
-    requires lengths_in_bounds { first_word layout.now.lengths.now (length layout.now.lengths.now) ≤ row_words }
     ensures marked { Marked (is_marked row.old) row.new sequence_set_sequences }
     ensures filled { Filled (is_marked row.old) (window_at reach.apart.near reach.apart.count layout.now.lengths.now row.old) layout.now.lengths.now row.new (length layout.now.lengths.now) }
 {

@@ -7,7 +7,7 @@ ghost use Rattle.rows.specs.Flags.{has_left};
 ghost use Rattle.rows.specs.Rows.{extended};
 ghost use Rattle.rows.specs.Set.{row_marks, row_words, words_of, first_word, Offsets, between, bits_at, is_marked, tally, extended_at, is_extended_marked, Filled, Marked, Bounded};
 
-use super::layout::Layout;
+use super::layout::{Layout, Spans};
 use super::set_bits::SetBits;
 use super::words::{self, Shift};
 use super::{BITS, MARKS, WORDS};
@@ -103,8 +103,8 @@ pub struct Kept {
 // rows that are read, but `open_all` writes its row, and where a plan has the layout, a clause would have to say that both are one. That
 // `w` is one of the words of marks: a type would hold it of one number, which each caller counts up to that bound. And that the rows have
 // room for the set's words: they need be no longer, and so are slices, not arrays of as many words as any set may have.
-fn keep_sequences(
-    layout: &Layout,
+fn keep_sequences<const N: usize>(
+    layout: &Spans<N>,
     w: usize,
     row: &[u64],
     letter: &[u64],
@@ -140,8 +140,8 @@ fn keep_sequences(
 
 // The same in a short set, without a stop: the word of sequence k is word `MARKS` + k, and nothing is looked up. It answers the marks that
 // are left.
-fn keep_ones(
-    layout: &Layout,
+fn keep_ones<const N: usize>(
+    layout: &Spans<N>,
     w: usize,
     row: &[u64],
     letter: &[u64],
@@ -169,8 +169,8 @@ fn keep_ones(
 
 // `keep_all` in a short set. It stops only between two words of marks. It stands beside the other for speed: by the loop of `keep_all` a
 // letter more in 1,024 sequences of one word takes 1.5 to 2.3 times as long.
-fn keep_short(
-    layout: &Layout,
+fn keep_short<const N: usize>(
+    layout: &Spans<N>,
     row: &[u64],
     letter: &[u64],
     by: Shift,
@@ -215,8 +215,8 @@ fn clear_marks(n: usize, row: &mut [u64])
 // many as still can, and the rest is not written. A short set has a loop of its own, of which the compiler makes one without a shift where
 // it is called with 0: there one call for all shifts takes 17 to 28 in 100 longer. In any other set only the words of marks that it has
 // are gone over. Rows of any length will do that have room for the set's words.
-pub fn keep_all(
-    layout: &Layout,
+pub fn keep_all<const N: usize>(
+    layout: &Spans<N>,
     row: &[u64],
     letter: &[u64],
     by: Shift,

@@ -1,6 +1,6 @@
 // A row over the whole set shifted down: each sequence's bits, so that what stands some places on stands here.
-ghost use Rattle.std.specs.Prelude.{true, ◌≤◌, length};
-ghost use Rattle.rows.specs.Set.{row_words, first_word, shifted_at, Filled};
+ghost use Rattle.std.specs.Prelude.{true, length};
+ghost use Rattle.rows.specs.Set.{shifted_at, Filled};
 
 use super::WORDS;
 use super::layout::Layout;
@@ -8,7 +8,6 @@ use super::words::{self, Shift};
 
 // The words of every sequence shifted down, each within its own. What is in the place of the marks stays.
 pub fn shift_all(layout: &Layout, by: Shift, row: &[u64; WORDS], out: &mut [u64; WORDS])
-    requires lengths_in_bounds { first_word layout.now.lengths.now (length layout.now.lengths.now) ≤ row_words }
     ensures filled { Filled (λ _. true) (shifted_at by.places layout.now.lengths.now row.now) layout.now.lengths.now out.new (length layout.now.lengths.now) }
 {
     for k in 0..layout.lengths.len() {

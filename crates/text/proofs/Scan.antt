@@ -178,13 +178,24 @@ module _ (b at : ℕ) (l : List ℕ) (h : at ≤ length l) where
   pub none_from : None ≡ position (λ x. eqb x b) (take (length l - at) (drop at l)) → length l ≡ at + find b (drop at l)
   none_from e = omega (arith, find_answer b (drop at l) (rw rest_is at e), length-drop at l, h)
 
--- and past some bytes that are others
-module _ (b n : ℕ) (l : List ℕ) (h : n ≤ length l) (e : find b l ≡ n + find b (drop n l)) where
-  pub position_past_none : None ≡ position (λ x. eqb x b) (take (length l - n) (drop n l)) → None ≡ position (λ x. eqb x b) l
-  position_past_none q = position_none b l (e ∙ sym (none_from b n l h q))
+-- past some bytes that are others it is the one in the rest
+module _ (b : ℕ) (l rest : List ℕ) (h : length rest ≤ length l) (e : find b l ≡ length l - length rest + find b rest) where
+  pub position_past_none : None ≡ position (λ x. eqb x b) rest → None ≡ position (λ x. eqb x b) l
+  position_past_none q = position_none b l (omega (arith, e, h, find_answer b rest q))
 
-  pub position_past_some : (i : ℕ) → Some i ≡ position (λ x. eqb x b) (take (length l - n) (drop n l)) → Some (n + i) ≡ position (λ x. eqb x b) l
-  position_past_some i q = let f = found_from b n l h i q in position_some b (n + i) l (f.0 ∙ sym e) f.1
+  pub position_past_some : (i : ℕ) → Some i ≡ position (λ x. eqb x b) rest → Some (length l - length rest + i) ≡ position (λ x. eqb x b) l
+  position_past_some i q = let f = find_answer b rest q in position_some b (length l - length rest + i) l (omega (arith, e, f.0)) (omega (arith, f.1, h))
+
+-- and so past the first n
+module _ (b n : ℕ) (l : List ℕ) (h : n ≤ length l) (e : find b l ≡ n + find b (drop n l)) where
+  passed : length l - length (drop n l) ≡ n
+  passed = omega (arith, length-drop n l, h)
+
+  pub position_behind_none : None ≡ position (λ x. eqb x b) (take (length l - n) (drop n l)) → None ≡ position (λ x. eqb x b) l
+  position_behind_none q = position_past_none b l (drop n l) (omega (arith, length-drop n l)) (omega (arith, passed, e)) (rw (rest_is b n l h) at q)
+
+  pub position_behind_some : (i : ℕ) → Some i ≡ position (λ x. eqb x b) (take (length l - n) (drop n l)) → Some (n + i) ≡ position (λ x. eqb x b) l
+  position_behind_some i q = rw passed at (position_past_some b l (drop n l) (omega (arith, length-drop n l)) (omega (arith, passed, e)) i (rw (rest_is b n l h) at q))
 
 -- ---- a text that falls at a byte into what stands before it and what follows it
 

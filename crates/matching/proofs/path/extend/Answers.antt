@@ -3,7 +3,7 @@ use mathlib.Core.Path.{◌∙◌}
 use borrow.Author.Rules.{rules}
 use native.Mathlib.Omega.{arith}
 use Rattle.matching.proofs.Extend.{below_bounded, kept_row, kept_support}
-use Rattle.matching.proofs.Slots.{enough}
+use Rattle.rows.specs.Set.{Bounded}
 use Rattle.matching.proofs.path.extend.Goals as goal
 
 pub keep_all-requires : goal.keep_all-requires
@@ -11,10 +11,8 @@ keep_all-requires c =
     let s = c.args.plan.now in
     let q = c.args.place in
     let deep = c.requires.le_size in
-    record {
-      bounded = below_bounded s.search.template s.sound_template s.letters.now s.layout.lengths.now s.sound_set q.letters q.number deep.0 deep.1 c.args.slot.now c.requires.slot;
-      lengths_in_bounds = (omega (arith, enough s.letters.now s.layout.lengths.now s.sound_set), omega arith, omega arith);
-    }
+    let bounded : Bounded s.layout.lengths.now c.args.slot.now = below_bounded s.search.template s.sound_template s.letters.now s.layout.lengths.now s.sound_set q.letters q.number deep.0 deep.1 c.args.slot.now c.requires.slot in
+    (omega arith, (bounded, (omega (arith, s.layout.inside), omega arith, omega arith)))
 
 pub returns-clause-lower_bound : goal.returns-clause-lower_bound
 returns-clause-lower_bound c =

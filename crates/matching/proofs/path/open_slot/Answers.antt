@@ -1,6 +1,5 @@
 -- The gap is opened in the slot by the distances of the template.
 use Rattle.matching.proofs.Gapped.{gap_apart, opened_slot}
-use Rattle.matching.proofs.Slots.{enough}
 use Rattle.matching.proofs.path.open_slot.Goals as goal
 
 pub invariant_of-reach : goal.invariant_of-reach
@@ -9,11 +8,6 @@ invariant_of-reach c =
     let p = c.requires in
     let g = gap_apart s.search.template s.sound_template c.args.component p.le_component.0 p.le_component.1 _ c.components-components.ensures c.after.ensures in
     record { near_bound = (g.some, g.near); count_bound = (g.any, g.few) }
-
-pub open_all-requires-clause-lengths_in_bounds : goal.open_all-requires-clause-lengths_in_bounds
-open_all-requires-clause-lengths_in_bounds c =
-    let s = c.args.plan.now in
-    enough s.letters.now s.layout.lengths.now s.sound_set
 
 pub returns-clause-filled : goal.returns-clause-filled
 returns-clause-filled c =

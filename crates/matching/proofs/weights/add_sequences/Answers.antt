@@ -234,7 +234,7 @@ words-from-requires c =
     let p = c.requires in
     let s = c.args.weighing.now.made.plan in
     let some : 0 < l.rest = omega (arith, c.loop-rest-test.true) in
-    (next a.row.now a.w l.invariant.rests some s.layout.lengths.now s.layout.firsts.now p.bounded s.layout.laid p.w_bound).inside
+    (omega arith, (next a.row.now a.w l.invariant.rests some s.layout.lengths.now s.layout.firsts.now p.bounded s.layout.laid p.w_bound).inside)
 
 pub offset_bounds-row-from : goal.offset_bounds-row-from
 offset_bounds-row-from c = let s = c.args.weighing.now.made.plan in omega (arith, c.words-from.ensures.inside, enough s.letters.now s.layout.lengths.now s.sound_set)

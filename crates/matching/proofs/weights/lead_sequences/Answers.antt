@@ -30,7 +30,7 @@ turn c =
     next_taken c.args.lead.now.row.now c.args.w c.loop-place.invariant.rests c.in-Some.ensures.steps s.layout.lengths.now s.layout.firsts.now c.requires.bounded s.layout.laid c.requires.w_bound
 
 pub words-from-requires : goal.words-from-requires
-words-from-requires c = (turn (goal.at.words-from-requires c).In-Some).inside
+words-from-requires c = (omega arith, (turn (goal.at.words-from-requires c).In-Some).inside)
 
 pub lead_between-requires-clause-from_le_to : goal.lead_between-requires-clause-from_le_to
 lead_between-requires-clause-from_le_to c =

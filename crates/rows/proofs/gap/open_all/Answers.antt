@@ -14,7 +14,6 @@ open_sequences-requires c =
     let l = c.loop-w in record {
       w_bound = search rules;
       bounded = same_bounds _ _ _ _ l.invariant.3.walked.kept p.bounded;
-      lengths_in_bounds = p.lengths_in_bounds;
     }
 
 pub loop-w-preserved : goal.loop-w-preserved

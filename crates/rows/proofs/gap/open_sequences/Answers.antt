@@ -27,7 +27,7 @@ pub overflow_add-at : goal.overflow_add-at
 overflow_add-at c = omega (arith, (turn (goal.at.overflow_add-at c).In-Some).in_word)
 
 pub words-from-requires : goal.words-from-requires
-words-from-requires c = (turn (goal.at.words-from-requires c).In-Some).inside
+words-from-requires c = (omega arith, (turn (goal.at.words-from-requires c).In-Some).inside)
 
 pub loop-place-preserved : goal.loop-place-preserved
 unfolding between
@@ -40,7 +40,7 @@ loop-place-preserved c =
     let n = turn (goal.at.loop-place-preserved c).In-Some in
     let k = c.words-from.ensures.place in
     let t = c.words-from.ensures.inside in
-    let inside : c.words-from.result.1 ≤ length l.row = omega (arith, t.1, c.requires.lengths_in_bounds, i.1) in
+    let inside : c.words-from.result.1 ≤ length l.row = omega (arith, t.1, c.args.layout.now.inside, i.1) in
     let e = part_opened _ _ l.row t.0 inside o.new.row o.auto.row o.ensures in
     let f = drop_put _ _ l.row o.new.row t.0 inside (o.auto.row ∙ mid_len _ _ l.row inside) in
     let x = window_is_at _ _ n.inside k.0 k.1 a.reach.apart.near a.reach.apart.count l.row ∙ later_window _ _ _ _ g.so_far.later a.reach.apart.near a.reach.apart.count _ n.later in

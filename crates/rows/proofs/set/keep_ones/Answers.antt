@@ -7,45 +7,46 @@ use Rattle.rows.proofs.Kept.{going_begin, end_left, end_walked, word_in, kept_tu
 use Rattle.rows.proofs.Lowest.{taken_in}
 use Rattle.rows.proofs.Marks.{mark_in}
 use Rattle.rows.proofs.Tally.{bit_from}
+use Rattle.rows.proofs.set.keep_ones.Given.{Over}
 use Rattle.rows.proofs.set.keep_ones.Goals as goal
 use Rattle.rows.proofs.set.keep_ones.Goals.{In-Some}
 
 pub loop-place-init : goal.loop-place-init
-loop-place-init c =
+loop-place-init g c =
     let a = c.args in
     (refl, rw c.into_iter-place-iterator.ensures.into_iter_gives (record { lost = 0; going = going_begin a.by.places a.layout.now.lengths.now a.letter.now a.row.now a.w (c.type_inv.row a.w).fits a.out.now }))
 
 pub bounds-row-w : goal.bounds-row-w
-bounds-row-w c = mark_in _ _ refl refl refl c.requires.lengths_in_bounds.0 _ c.requires.w_bound
+bounds-row-w g c = mark_in _ _ refl refl refl c.requires.lengths_in_bounds.0 _ c.requires.w_bound
 
 -- at a turn there is a next mark, and the word of its sequence
-in_word : (c : In-Some) → c.in-Some.place < 64
-in_word c = taken_in c.loop-place.invariant.1.going.rests c.in-Some.ensures.steps
+in_word : (g : Over) (c : In-Some g) → c.in-Some.place < 64
+in_word g c = taken_in c.loop-place.invariant.1.going.rests c.in-Some.ensures.steps
 
-inside : (c : In-Some) → row_marks + c.args.w * 64 + c.in-Some.place < length c.args.row.now
-inside c =
+inside : (g : Over) (c : In-Some g) → row_marks + c.args.w * 64 + c.in-Some.place < length c.args.row.now
+inside g c =
     let a = c.args in
     let p = c.requires in
     let l = c.loop-place in
     word_in a.by.places a.layout.now.lengths.now a.letter.now a.row.now a.w (c.type_inv.row a.w).fits a.out.now l.out l.place-iterator.0 l.marks l.invariant.1 c.in-Some.ensures.steps a.layout.now.firsts.now c.args.layout.now.laid (a.layout.now.ones p.short) p.bounded p.w_bound p.lengths_in_bounds.0 refl
 
 pub overflow_add-at : goal.overflow_add-at
-overflow_add-at c = omega (arith, in_word (goal.at.overflow_add-at c).In-Some, c.requires.w_bound)
+overflow_add-at g c = omega (arith, in_word g (goal.at.overflow_add-at g c).In-Some, c.requires.w_bound)
 
 pub bounds-row-at : goal.bounds-row-at
-bounds-row-at c = omega (arith, inside (goal.at.bounds-row-at c).In-Some)
+bounds-row-at g c = omega (arith, inside g (goal.at.bounds-row-at g c).In-Some)
 
 pub bounds-letter-at : goal.bounds-letter-at
-bounds-letter-at c = omega (arith, inside (goal.at.bounds-letter-at c).In-Some, c.requires.lengths_in_bounds)
+bounds-letter-at g c = omega (arith, inside g (goal.at.bounds-letter-at g c).In-Some, c.requires.lengths_in_bounds)
 
 pub bounds-out-at : goal.bounds-out-at
-bounds-out-at c = omega (arith, inside (goal.at.bounds-out-at c).In-Some, c.requires.lengths_in_bounds, c.loop-place.invariant.0)
+bounds-out-at g c = omega (arith, inside g (goal.at.bounds-out-at g c).In-Some, c.requires.lengths_in_bounds, c.loop-place.invariant.0)
 
 pub overflow_shl-marks : goal.overflow_shl-marks
-overflow_shl-marks c = omega (arith, in_word (goal.at.overflow_shl-marks c).In-Some)
+overflow_shl-marks g c = omega (arith, in_word g (goal.at.overflow_shl-marks g c).In-Some)
 
 pub loop-place-preserved : goal.loop-place-preserved
-loop-place-preserved c =
+loop-place-preserved g c =
     let a = c.args in
     let p = c.requires in
     let l = c.loop-place in
@@ -57,7 +58,7 @@ loop-place-preserved c =
     )
 
 pub returns : goal.returns
-returns c =
+returns g c =
     let l = c.loop-place in
     let a = c.args in
     let g = l.invariant.1.going in

@@ -6,4 +6,4 @@ use Rattle.rows.proofs.Kept.{Kept}
 use Rattle.rows.proofs.set.keep_ones.Given as goal
 
 abbrev pub invariant-loop-place : goal.invariant-loop-place
-invariant-loop-place l = (length l.out ≡ length l.initial.out) × (Kept l.by.places l.layout.lengths.now l.letter l.row l.w l.initial.out l.out l.place-iterator.0 l.marks)
+invariant-loop-place g l = (length l.out ≡ length l.initial.out) × (Kept l.by.places l.layout.lengths.now l.letter l.row l.w l.initial.out l.out l.place-iterator.0 l.marks)

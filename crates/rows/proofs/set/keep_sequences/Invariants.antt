@@ -5,4 +5,4 @@ use Rattle.rows.proofs.Kept.{Going}
 use Rattle.rows.proofs.set.keep_sequences.Given as goal
 
 abbrev pub invariant-loop-place : goal.invariant-loop-place
-invariant-loop-place l = (length l.out ≡ length l.initial.out) × (Going l.by.places l.layout.lengths.now l.letter l.row l.w l.initial.out l.out l.place-iterator.0 l.left l.lost)
+invariant-loop-place g l = (length l.out ≡ length l.initial.out) × (Going l.by.places l.layout.lengths.now l.letter l.row l.w l.initial.out l.out l.place-iterator.0 l.left l.lost)

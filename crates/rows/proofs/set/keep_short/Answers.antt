@@ -11,14 +11,14 @@ use Rattle.rows.proofs.Possible.{ones_lost, possible_begin, stopped, ended, lost
 use Rattle.rows.proofs.set.keep_short.Goals as goal
 
 pub count-able-requires : goal.count-able-requires
-count-able-requires c = (omega arith, marks_in _ _ refl refl refl c.requires.lengths_in_bounds.0)
+count-able-requires g c = (omega arith, marks_in _ _ refl refl refl c.requires.lengths_in_bounds.0)
 
 pub loop-w-init : goal.loop-w-init
-loop-w-init c =
+loop-w-init g c =
     (omega arith, refl, possible_begin c.args.by.places c.args.layout.now.lengths.now c.args.letter.now c.args.row.now c.requires.bounded 16 c.args.layout.now.few c.args.quorum c.args.out.now (omega arith) (marks_in _ _ refl refl refl c.requires.lengths_in_bounds.0) c.count-able.ensures)
 
 pub returns-then-able-quorum : goal.returns-then-able-quorum
-returns-then-able-quorum c =
+returns-then-able-quorum g c =
     let l = c.loop-w in
     let r = stopped c.args.by.places c.args.layout.now.lengths.now c.args.letter.now c.args.row.now c.args.quorum l.out l.able l.w l.invariant.2 l.invariant.0 c.if-able-quorum.true l.invariant.1 in
     record {
@@ -30,23 +30,19 @@ returns-then-able-quorum c =
     }
 
 pub keep_ones-left-requires : goal.keep_ones-left-requires
-keep_ones-left-requires c =
+keep_ones-left-requires g c =
     let p = c.requires in
-    record {
-      w_bound = search rules;
-      short = p.short;
-      bounded = p.bounded;
-      lengths_in_bounds = (p.lengths_in_bounds.0, p.lengths_in_bounds.1, c.loop-w.invariant.1 ∙ p.lengths_in_bounds.2);
-    }
+    let rooms = p.lengths_in_bounds in
+    (omega arith, (search rules, (p.short, (p.bounded, (rooms.0, rooms.1, c.loop-w.invariant.1 ∙ rooms.2)))))
 
 pub bounds-out-w : goal.bounds-out-w
-bounds-out-w c = mark_in _ _ c.keep_ones-left.ensures.out_unchanged.1 c.loop-w.invariant.1 c.requires.lengths_in_bounds.2 c.requires.lengths_in_bounds.0 _ (search rules)
+bounds-out-w g c = mark_in _ _ c.keep_ones-left.ensures.out_unchanged.1 c.loop-w.invariant.1 c.requires.lengths_in_bounds.2 c.requires.lengths_in_bounds.0 _ (search rules)
 
 pub bounds-row-w : goal.bounds-row-w
-bounds-row-w c = mark_in _ _ refl refl refl c.requires.lengths_in_bounds.0 _ (search rules)
+bounds-row-w g c = mark_in _ _ refl refl refl c.requires.lengths_in_bounds.0 _ (search rules)
 
 pub overflow_sub-able : goal.overflow_sub-able
-overflow_sub-able c =
+overflow_sub-able g c =
     let l = c.loop-w in
     let h = c.if-able-quorum.false in
     let i = c.loop-w-test.true in
@@ -57,7 +53,7 @@ overflow_sub-able c =
     lost_most c.args.by.places c.args.layout.now.lengths.now c.args.letter.now c.args.row.now c.args.quorum l.out l.able l.w l.invariant.2 (omega (arith, h)) i _ lost
 
 pub loop-w-preserved : goal.loop-w-preserved
-loop-w-preserved c =
+loop-w-preserved g c =
     let l = c.loop-w in
     let e = c.keep_ones-left.ensures in
     let h = c.if-able-quorum.false in
@@ -73,7 +69,7 @@ loop-w-preserved c =
     )
 
 pub returns-then-able-quorum-2 : goal.returns-then-able-quorum-2
-returns-then-able-quorum-2 c =
+returns-then-able-quorum-2 g c =
     let l = c.loop-w in
     let r = stopped c.args.by.places c.args.layout.now.lengths.now c.args.letter.now c.args.row.now c.args.quorum l.out l.able l.w l.invariant.2 l.invariant.0 c.if-able-quorum-2.true l.invariant.1 in
     record {
@@ -85,10 +81,10 @@ returns-then-able-quorum-2 c =
     }
 
 pub count-requires : goal.count-requires
-count-requires c = (omega arith, marks_in _ _ refl c.loop-w.invariant.1 c.requires.lengths_in_bounds.2 c.requires.lengths_in_bounds.0)
+count-requires g c = (omega arith, marks_in _ _ refl c.loop-w.invariant.1 c.requires.lengths_in_bounds.2 c.requires.lengths_in_bounds.0)
 
 pub returns : goal.returns
-returns c =
+returns g c =
     let l = c.loop-w in
     let w : l.w ≡ row_marks = omega (arith, l.invariant.0, c.loop-w-test.false) in
     let q : c.args.quorum ≤ l.able = omega (arith, c.if-able-quorum-2.false) in

@@ -8,4 +8,4 @@ use Rattle.rows.proofs.Possible.{Possible}
 use Rattle.rows.proofs.set.keep_short.Given as goal
 
 abbrev pub invariant-loop-w : goal.invariant-loop-w
-invariant-loop-w l = (l.w ≤ row_marks) × (length l.out ≡ length l.initial.out) × (Possible l.by.places l.layout.lengths.now l.letter l.row l.quorum l.out l.able l.w)
+invariant-loop-w g l = (l.w ≤ row_marks) × (length l.out ≡ length l.initial.out) × (Possible l.by.places l.layout.lengths.now l.letter l.row l.quorum l.out l.able l.w)

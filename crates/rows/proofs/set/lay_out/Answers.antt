@@ -52,6 +52,12 @@ loop-k-preserved c =
       short_more _ _ _ l.invariant.7 c.words_of-words.ensures,
     )
 
+-- the words of all sequences and the marks leave the last words of a row unused
+pub invariant_of-result-clause-inside : goal.invariant_of-result-clause-inside
+invariant_of-result-clause-inside c =
+    let ns = c.args.lengths.now in
+    omega (arith, first_bound ns (length ns), c.requires)
+
 pub invariant_of-result-clause-ones : goal.invariant_of-result-clause-ones
 invariant_of-result-clause-ones c = λ h k m. c.loop-k.invariant.7.one h k (omega arith)
 

@@ -20,7 +20,7 @@ loop-k-preserved c =
     let k = c.words-from.ensures.place in
     let t = c.words-from.ensures.inside in
     let o = c.shift_down in
-    let e = part_opened _ _ l.out t.0 (omega (arith, t.1, c.requires, l.invariant.1)) o.new.out o.auto.out o.ensures in (
+    let e = part_opened _ _ l.out t.0 (omega (arith, t.1, c.args.layout.now.inside, l.invariant.1)) o.new.out o.auto.out o.ensures in (
       search rules,
       e.1 ∙ l.invariant.1,
       filled_turn _ _ _ l.out _ _ h l.invariant.2 k.0 k.1 e.0 (λ _. shifted_is_at _ _ h k.0 k.1 c.args.by.places c.args.row.now e.2),
