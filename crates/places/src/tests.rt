@@ -3,8 +3,8 @@ use matching::made::{Spot, Task};
 use matching::{FIRSTS, LETTERS, OFFSETS, STANDING, WORDS, path, tables};
 use rules::{Component, Place, Profile, Search, SequenceSet, Sequences, Template};
 
-// The words of marks of a row.
-const MARKS: usize = 16;
+// The words of marks of a row, 64 to a word.
+const MARKS: usize = SequenceSet::SEQUENCES / 64;
 
 // Three sequences, for N[0,1]N. Behind the marks every bit is set, also where no sequence has a letter.
 #[test]
